@@ -17,7 +17,7 @@ put_given : (table : Answers) (d : Datum) (a : Option Answer) (wanted : Result (
 put_given table d (Some a) wanted n left given changes = subst (λ w. IsAnswering (Some (Own (content.Answers table))) (Ok d) w n left) (sym given) (changes (said_by a) refl)
 put_given table d None wanted n left given changes = subst (λ w. IsAnswering (Some (Own (content.Answers table))) (Ok d) w n left) (sym given.1) (changes given.0 tt)
 
--- the same behind a handle
+-- the same in a handle
 pub answering : (old : Option Held) (call : Result Datum Refusal) (answer : Result (Option Answer) Refusal) (wanted : Result (Result Datum ErrorKind) Refusal) (n : ℕ) (left : Option Held) (table : Answers) (d : Datum) (a : Option Answer) → old ≡ Some (Own (content.Answers table)) → call ≡ Ok d → answer ≡ Ok a → Given answer wanted → ((said : Result Datum ErrorKind) → MatchOption a ⊤ (λ b. said_by b ≡ said) → ChangesTable (StoresAnswer d said) table n left) → IsAnswering old call wanted n left
 answering old call answer wanted n left table d a is_old is_call is_answer given changes =
     subst (λ o. IsAnswering o call wanted n left) (sym is_old)

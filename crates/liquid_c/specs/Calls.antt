@@ -1,4 +1,4 @@
--- What calls make of what lies behind their handles.
+-- What calls make of what their handles hold.
 use Rattle.std.specs.Prelude.{◌≡◌, ◌⊎◌, ℕ, List, [], Option, Some, None, Result, Ok, Err}
 use Rattle.std.specs.Prelude.{Bool, not, ◌&&◌, MatchBool, ⊤, if◌then◌else◌, nat_eq, nat_lt}
 use Rattle.std.specs.Str.{IsUtf8}
@@ -71,22 +71,22 @@ ReadsData source _ = ⊥
 abbrev pub IsData : List ℕ → Result Content Refusal → Type 0
 IsData source answer = ForUtf8Text source (ReadsData source) answer
 
--- the data behind a handle, which is empty where the handle holds nothing
-abbrev pub data_behind : Option Content → Option (Map Datum)
-data_behind None = Some empty
-data_behind (Some (content.Data d)) = Some (map_held d)
-data_behind (Some _) = None
+-- the data in a handle, which is empty where the handle holds nothing
+abbrev pub data_of_handle : Option Content → Option (Map Datum)
+data_of_handle None = Some empty
+data_of_handle (Some (content.Data d)) = Some (map_held d)
+data_of_handle (Some _) = None
 
 -- likewise the partials
-abbrev pub partials_behind : Option Content → Option (List (Text × Nodes))
-partials_behind None = Some []
-partials_behind (Some (content.Partials p levels)) = Some (partials_of p)
-partials_behind (Some _) = None
+abbrev pub partials_of_handle : Option Content → Option (List (Text × Nodes))
+partials_of_handle None = Some []
+partials_of_handle (Some (content.Partials p levels)) = Some (partials_of p)
+partials_of_handle (Some _) = None
 
 -- the most levels that one of them reaches by itself
-abbrev pub levels_behind : Option Content → TemplateLevels
-levels_behind (Some (content.Partials p levels)) = levels
-levels_behind _ = no_levels
+abbrev pub levels_of_handle : Option Content → TemplateLevels
+levels_of_handle (Some (content.Partials p levels)) = levels
+levels_of_handle _ = no_levels
 
 -- the page of these nodes, unless memory ran out
 abbrev pub ShowsNodes : Nodes → ℕ → Map Datum → List (Text × Nodes)
@@ -128,8 +128,8 @@ has_limit bytes turns = not (nat_eq bytes 0 && nat_eq turns 0)
 abbrev pub IsRendering : ℕ → Bool → Option Content → Option Content → Option Content → ℕ
     → Result Content Refusal → Type 0
 IsRendering bound is_limited (Some (content.Template t levels)) «data» partials depth answer =
-    OfBoth (data_behind «data») (partials_behind partials)
-    (ShowsUnless (nat_lt bound (most_levels depth levels (levels_behind partials)))
+    OfBoth (data_of_handle «data») (partials_of_handle partials)
+    (ShowsUnless (nat_lt bound (most_levels depth levels (levels_of_handle partials)))
     is_limited (tree_of t) depth)
     answer
 IsRendering bound is_limited _ «data» partials depth answer = answer ≡ Err OtherHandle

@@ -37,7 +37,7 @@ abbrev pub left_by_elsif : ℕ → ℕ → List Open → List Open
 left_by_elsif at end [] = []
 left_by_elsif at end (o ∷ os) = cond (has_else o at end) os (o ∷ os)
 
--- those that are open behind the node there
+-- those that are open after the node there
 abbrev pub opened : ℕ → Node → List Open → List Open
 opened at (If condition bodies) os =
     block bodies.first_end bodies.last_end (left_by_elsif at bodies.last_end os)

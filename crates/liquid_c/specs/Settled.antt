@@ -1,4 +1,4 @@
--- What a call leaves behind the handle for what it makes, and the number that it answers.
+-- What a call leaves in the handle for what it makes, and the number that it answers.
 --     Settled R number left      some answer of which R holds was settled so
 use Rattle.std.specs.Prelude.{◌≡◌, ◌⊎◌, ℕ, Option, Some, None, Result, Ok, Err}
 use Rattle.liquid_model.specs.ErrorKinds.{number_of}

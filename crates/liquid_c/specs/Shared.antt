@@ -19,7 +19,7 @@ content_of (Shared a) = arc_value a
 abbrev pub shared_content : Option Held → Option Content
 shared_content held = option_map content_of held
 
--- what a call finds behind a handle that it is to change: what was shared is the handle's own
+-- what a call finds in a handle that it is to change: what was shared is the handle's own
 -- again, or is shared still
 abbrev pub IsRegained : Held → Held → Type 0
 IsRegained (Own c) was = was ≡ Own c

@@ -32,7 +32,7 @@ IsNewTable (Ok (content.Answers table)) = (filter_names table ≡ []) ×
     ((call : Datum) → answer_at table call ≡ None)
 IsNewTable _ = ⊥
 
--- the table behind the handle is such a one
+-- the table in the handle is such a one
 abbrev pub HoldsTable : (Answers → Type 0) → Option Held → Type 0
 HoldsTable P (Some (Own (content.Answers table))) = P table
 HoldsTable P _ = ⊥
@@ -68,15 +68,15 @@ IsNaming old name number left = (number ≡ number_of_refusal OtherHandle) × (l
 -- ---- answers
 
 -- how many calls a handle holds
-abbrev pub calls_behind : Option Content → ℕ
-calls_behind (Some (content.Lacking it)) = length (calls_in it)
-calls_behind _ = 0
+abbrev pub calls_of_handle : Option Content → ℕ
+calls_of_handle (Some (content.Lacking it)) = length (calls_in it)
+calls_of_handle _ = 0
 
 -- the call of this number, or why there is none
-abbrev pub call_behind : ℕ → Option Content → Result Datum Refusal
-call_behind number (Some (content.Lacking it)) =
+abbrev pub call_of_handle : ℕ → Option Content → Result Datum Refusal
+call_of_handle number (Some (content.Lacking it)) =
     ok_or (option_map view (slice_get (calls_in it) number)) NoSuchCall
-call_behind number _ = Err OtherHandle
+call_of_handle number _ = Err OtherHandle
 
 abbrev pub answer_or_nil : Option Datum → Datum
 answer_or_nil None = nil
@@ -87,9 +87,9 @@ abbrev pub answer_among : Outer → Datum
 answer_among «data» = answer_or_nil (value_at (codes "answer") (pairs_view «data».entries))
 
 -- the answer that data hold
-abbrev pub answer_behind : Option Content → Result (Result Datum ErrorKind) Refusal
-answer_behind (Some (content.Data d)) = Ok (Ok (answer_among d))
-answer_behind _ = Err OtherHandle
+abbrev pub answer_of_handle : Option Content → Result (Result Datum ErrorKind) Refusal
+answer_of_handle (Some (content.Data d)) = Ok (Ok (answer_among d))
+answer_of_handle _ = Err OtherHandle
 
 -- the kind of this number among these, or `InvalidInput`
 abbrev pub kind_among : List ErrorKind → ℕ → ErrorKind

@@ -11,7 +11,7 @@ use std::alloc::Global;
 use std::marker::Model;
 use std::mem;
 
-/// A place in the caller's memory that holds nothing or owns what lies behind it. A caller in C
+/// A place in the caller's memory that holds nothing or owns what it points to. A caller in C
 /// begins with one whose bytes are all 0, which holds nothing, and copies none.
 #[repr(C)]
 pub struct Handle {

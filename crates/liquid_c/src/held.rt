@@ -1,4 +1,4 @@
-//! What lies behind a handle.
+//! What a handle holds.
 ghost use Rattle.std.specs.Prelude.{◌≡◌, option_map};
 ghost use Rattle.liquid_c.specs.Shared.{IsRegained, Regained, shared_content, content_of};
 
@@ -7,7 +7,7 @@ use std::alloc::Global;
 use std::mem;
 use std::sync::Arc;
 
-/// What lies behind a handle.
+/// What a handle holds.
 #[derive(Drop)]
 pub enum Held {
     /// What no other handle has.
@@ -28,7 +28,7 @@ impl Held {
     }
 }
 
-/// Something for the moment in which what is behind a handle is taken out. It takes no memory.
+/// Something for the moment in which what a handle holds is taken out. It takes no memory.
 pub(crate) fn blank(alloc: Global) -> Held {
     Held::Own(Content::Names(String::new(alloc)))
 }

@@ -65,7 +65,7 @@ pub extern "C" fn bikleinu_render_with(
     settle(alloc, answer, made)
 }
 
-/// What lies behind the handles of a call.
+/// What the handles of a call hold.
 #[derive(Clone, Copy, Drop)]
 struct Lent<'h> {
     template: Option<&'h Content>,

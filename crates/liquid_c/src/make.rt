@@ -63,7 +63,7 @@ fn data(alloc: Global, json: &[u8]) -> Result<Content, Refusal>
     }
 }
 
-/// Frees what lies behind the handle, which then holds nothing.
+/// Frees what the handle holds; it then holds nothing.
 #[unsafe(no_mangle)]
 pub extern "C" fn bikleinu_free(alloc: Global, handle: &mut Handle)
     ensures { handle.new.held ≡ None }

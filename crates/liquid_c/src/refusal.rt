@@ -39,7 +39,7 @@ impl Refusal {
     }
 }
 
-/// Puts what a call made behind the handle, in place of what it held, and answers its number. Where
+/// Puts what a call made into the handle, in place of what it held, and answers its number. Where
 /// there is no room for it, the handle holds nothing and the answer is `Memory`.
 pub(crate) fn settle(alloc: Global, answer: Result<Content, Refusal>, made: &mut Handle) -> u32
     ensures { Settles answer result made.new.held }

@@ -63,12 +63,12 @@ pub extern "C" fn bikleinu_register(
         language.old.held }
 {
     let mut held = language.take_to_change(alloc);
-    let number = register_behind(alloc, &mut held, name, least, most);
+    let number = register_in_handle(alloc, &mut held, name, least, most);
     language.put(alloc, held);
     number
 }
 
-fn register_behind(
+fn register_in_handle(
     alloc: Global,
     held: &mut Option<Box<Held>>,
     name: &[u8],

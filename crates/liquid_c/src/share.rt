@@ -58,7 +58,7 @@ fn shared(alloc: Global, held: Held) -> Held
     }
 }
 
-/// Puts what is shared behind a handle.
+/// Puts what is shared into a handle.
 fn hand_out(alloc: Global, content: Arc<Content>, made: &mut Handle) -> u32
     ensures { HandsOut (arc_value content) result made.new.held }
 {

@@ -34,12 +34,12 @@ pub extern "C" fn bikleinu_answers_filter(alloc: Global, answers: &mut Handle, n
     ensures { Regaining (λ was. IsNaming was name.now result answers.new.held) answers.old.held }
 {
     let mut held = answers.take_to_change(alloc);
-    let number = add_behind(alloc, &mut held, name);
+    let number = add_to_handle(alloc, &mut held, name);
     answers.put(alloc, held);
     number
 }
 
-fn add_behind(alloc: Global, held: &mut Option<Box<Held>>, name: &[u8]) -> u32
+fn add_to_handle(alloc: Global, held: &mut Option<Box<Held>>, name: &[u8]) -> u32
     ensures { IsNaming (option_map (λ b. b.value) held.old) name.now result
         (option_map (λ b. b.value) held.new) }
 {

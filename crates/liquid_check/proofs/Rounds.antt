@@ -42,11 +42,11 @@ pub few_more : (fs gs : List Finding) (f : Finding) → gs ≡ fs ++ f ∷ [] �
 few_more fs gs f e h = let n : length gs ≡ length fs + 1 = ap length e ∙ length-append fs (f ∷ []) in omega (arith, n, h)
 
 -- a round: the fault of the source as it is, and the blanks
-pub round_of : (l : Language) (now seen cut front piece behind next : Text) (f : Found) → seen ≡ now → cut ≡ now → is_memory f.kind ≡ false
+pub round_of : (l : Language) (now seen cut front piece after next : Text) (f : Found) → seen ≡ now → cut ≡ now → is_memory f.kind ≡ false
     → MatchBool (is_memory f.kind) ⊤ (HasNoTree l seen) → MatchBool (is_memory f.kind) ⊤ (IsOfSource f.kind)
-    → f.start ≡ length front → f.count ≡ length piece → cut ≡ front ++ (piece ++ behind) → next ≡ front ++ (blanked piece ++ behind) → IsRound l now f next
-round_of l now seen cut front piece behind next f at here other none kind start count old new = record {
+    → f.start ≡ length front → f.count ≡ length piece → cut ≡ front ++ (piece ++ after) → next ≡ front ++ (blanked piece ++ after) → IsRound l now f next
+round_of l now seen cut front piece after next f at here other none kind start count old new = record {
   refused = subst (HasNoTree l) at (subst (λ b. MatchBool b ⊤ (HasNoTree l seen)) other none);
   of_source = subst (λ b. MatchBool b ⊤ (IsOfSource f.kind)) other kind;
-  blanks = record { front = front; piece = piece; behind = behind; start_is = sym start; count_is = sym count; old_is = sym here ∙ old; new_is = new };
+  blanks = record { front = front; piece = piece; after = after; start_is = sym start; count_is = sym count; old_is = sym here ∙ old; new_is = new };
 }

@@ -110,7 +110,7 @@ fn part_of<'s>(
     language: &Language,
     fault: &Error,
 ) -> Result<Part<'s>>
-    ensures part { IfOk result (λ p. source.now ≡ p.front.now ++ (p.piece.now ++ p.behind.now)) }
+    ensures part { IfOk result (λ p. source.now ≡ p.front.now ++ (p.piece.now ++ p.after.now)) }
     ensures memory { IfErr result (λ e. e.kind ≡ ErrorKind.Memory) }
 {
     match &fault.location {
@@ -118,7 +118,7 @@ fn part_of<'s>(
         None => Ok(Part {
             front: "",
             piece: source,
-            behind: "",
+            after: "",
         }),
     }
 }

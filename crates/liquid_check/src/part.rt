@@ -4,7 +4,7 @@ ghost use Rattle.liquid_model.specs.Answer.{IsValueOrMemory};
 ghost use Rattle.liquid_check.specs.Blanks.{blank_for, blanked};
 
 use liquid_core::{Location, Result};
-use liquid_language::{BlockContext, Language, body_behind};
+use liquid_language::{BlockContext, Language, body_after};
 use liquid_lexer::{ParseError, past_byte, read_body, read_markup, text_before};
 use std::alloc::{AllocError, Global};
 
@@ -13,7 +13,7 @@ use std::alloc::{AllocError, Global};
 pub(crate) struct Part<'s> {
     pub(crate) front: &'s str,
     pub(crate) piece: &'s str,
-    pub(crate) behind: &'s str,
+    pub(crate) after: &'s str,
 }
 
 /// So many bytes of the source are left from the start of a piece on, and from its end on.
@@ -32,7 +32,7 @@ pub(crate) fn part_at<'s>(
     language: &Language,
     location: &Location,
 ) -> std::result::Result<Part<'s>, AllocError>
-    ensures { IfOk result (λ p. source.now ≡ p.front.now ++ (p.piece.now ++ p.behind.now)) }
+    ensures { IfOk result (λ p. source.now ≡ p.front.now ++ (p.piece.now ++ p.after.now)) }
 {
     let left = left_at(source, location);
     let extent = extent_at(alloc, source, language, left)?;
@@ -45,14 +45,14 @@ pub(crate) fn part_at<'s>(
 
 /// A source, cut before and after so many bytes.
 fn cut_out<'s>(source: &'s str, start: usize, count: usize) -> Part<'s>
-    ensures { source.now ≡ result.front.now ++ (result.piece.now ++ result.behind.now) }
+    ensures { source.now ≡ result.front.now ++ (result.piece.now ++ result.after.now) }
 {
     let (front, rest) = cut(source, start);
-    let (piece, behind) = cut(rest, count);
+    let (piece, after) = cut(rest, count);
     Part {
         front,
         piece,
-        behind,
+        after,
     }
 }
 
@@ -61,7 +61,7 @@ fn cut<'s>(text: &'s str, count: usize) -> (&'s str, &'s str)
     ensures { text.now ≡ result.0.now ++ result.1.now }
 {
     match text.split_at_checked(count) {
-        Some((front, behind)) => (front, behind),
+        Some((front, after)) => (front, after),
         None => ("", text),
     }
 }
@@ -128,7 +128,7 @@ pub(crate) fn past_piece<'s>(
         Err(ParseError::Fault(_)) => return Ok(None),
         Err(ParseError::Memory) => return Err(AllocError),
     };
-    let body = body_behind(language, BlockContext::Outside, &markup.piece);
+    let body = body_after(language, BlockContext::Outside, &markup.piece);
     match read_body(body, markup, after) {
         Ok((_, after)) => Ok(Some(after)),
         Err(ParseError::Fault(_)) => Ok(Some("")),
@@ -141,12 +141,12 @@ impl Part<'_> {
     /// other character stands where it stood.
     pub(crate) fn with_blanks(&self, alloc: Global) -> Result<String>
         ensures { IsValueOrMemory string_bytes result
-            (self.now.front.now ++ (blanked self.now.piece.now ++ self.now.behind.now)) }
+            (self.now.front.now ++ (blanked self.now.piece.now ++ self.now.after.now)) }
     {
         let mut text = String::from_str(alloc, self.front)?;
         let piece = blanked(alloc, self.piece)?;
         text.push_str(piece.as_str())?;
-        text.push_str(self.behind)?;
+        text.push_str(self.after)?;
         Ok(text)
     }
 }

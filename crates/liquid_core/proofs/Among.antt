@@ -26,8 +26,8 @@ plain_finds_none s found plain finds = none finds.below (sym plain ∙ finds.amo
 wider : (scopes below above : List Scope) (outer : List Outer) (x : Resolved) → scopes ≡ below ++ above → IsAmong below outer x → IsAmong scopes outer x
 wider scopes below above outer (Lent f) e h = tt
 wider scopes below above outer (Near f) e h = tt
-wider scopes below above outer (Loop frame behind) e h =
-    (h.0 ++ above, (e ∙ ap (λ l. l ++ above) h.1.0 ∙ append_assoc behind.frames.now (variants.LoopFrame frame.now ∷ h.0) above, h.1.1))
+wider scopes below above outer (Loop frame enclosing) e h =
+    (h.0 ++ above, (e ∙ ap (λ l. l ++ above) h.1.0 ∙ append_assoc enclosing.frames.now (variants.LoopFrame frame.now ∷ h.0) above, h.1.1))
 
 each_wider : (scopes below above : List Scope) (outer : List Outer) (o : Option Resolved) → scopes ≡ below ++ above → IfSome o (IsAmong below outer) → IfSome o (IsAmong scopes outer)
 each_wider scopes below above outer None e h = tt
@@ -47,12 +47,12 @@ found_at scopes i s d outer o within at h = each_wider scopes (take i scopes ++ 
 pub held_unless_loop : (s : State) (x : Resolved) → IsAmong (loops_of s) s.scopes.items x → (FindsLoop s (Some (resolved_view x)) → ⊥) → IsHeld x
 held_unless_loop s (Lent f) a none = tt
 held_unless_loop s (Near f) a none = tt
-held_unless_loop s (Loop frame behind) a none = none (record {
+held_unless_loop s (Loop frame enclosing) a none = none (record {
   loop = frame.now;
-  below = behind.frames.now;
+  below = enclosing.frames.now;
   above = a.0;
   among = a.1.0;
-  whole = ap (λ o. Some (frame_object frame.now (local_of (standing behind.frames.now (reverse (map held o)))))) a.1.1;
+  whole = ap (λ o. Some (frame_object frame.now (local_of (standing enclosing.frames.now (reverse (map held o)))))) a.1.1;
 })
 
 pub each_held : (s : State) (o : Option Resolved) (d : Option Datum) → option_map resolved_view o ≡ d → IfSome o (IsAmong (loops_of s) s.scopes.items) → (FindsLoop s d → ⊥) → IfSome o IsHeld

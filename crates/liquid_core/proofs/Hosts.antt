@@ -26,17 +26,17 @@ none_else : {X : Type 0} (o : Option X) → (None else o) ≡ (o else None)
 none_else (Some x) = refl
 none_else None = refl
 
-last_behind : {X : Type 0} (name : Text) (es : List (String Global × X)) (e : String Global × X)
+last_appended : {X : Type 0} (name : Text) (es : List (String Global × X)) (e : String Global × X)
     → last_named name (es ++ e ∷ []) ≡ (cond (same_text (string_bytes e.0) name) (Some e.1) None else last_named name es)
-last_behind name [] e = none_else (cond (same_text (string_bytes e.0) name) (Some e.1) None)
-last_behind name (x ∷ es) e =
-    ap (λ o. o else cond (same_text (string_bytes x.0) name) (Some x.1) None) (last_behind name es e)
+last_appended name [] e = none_else (cond (same_text (string_bytes e.0) name) (Some e.1) None)
+last_appended name (x ∷ es) e =
+    ap (λ o. o else cond (same_text (string_bytes x.0) name) (Some x.1) None) (last_appended name es e)
     ∙ else_else (cond (same_text (string_bytes e.0) name) (Some e.1) None) (last_named name es) (cond (same_text (string_bytes x.0) name) (Some x.1) None)
 
 last_more : {X : Type 0} (name : Text) (es : List (String Global × X)) (i : ℕ) (e : String Global × X) → i < length es → e ≡ get_or es i e
     → last_named name (take (i + 1) es) ≡ cond (same_text (string_bytes e.0) name) (Some e.1) (last_named name (take i es))
 last_more name es i e h is =
-    ap (last_named name) (take_more es i e h ∙ ap (λ y. take i es ++ y ∷ []) (sym is)) ∙ last_behind name (take i es) e
+    ap (last_named name) (take_more es i e h ∙ ap (λ y. take i es ++ y ∷ []) (sym is)) ∙ last_appended name (take i es) e
     ∙ if_named (same_text (string_bytes e.0) name) e.1 (last_named name (take i es))
 
 pub last_is_this : {X : Type 0} (name : Text) (es : List (String Global × X)) (i : ℕ) (e : String Global × X) (o : Option X) → i < length es → e ≡ get_or es i e

@@ -13,8 +13,8 @@ use Rattle.liquid_model.proofs.Quotes.{line_append, line_wider, line_is_message,
 pub message_line : (all t words : List ℕ) → all ≡ codes "`" ++ (quotation t ++ (codes "` has no value" ++ words)) → is_line 600 words ≡ true → is_line 900 all ≡ true
 message_line all t words is short =
     let end : is_line 614 (codes "` has no value" ++ words) ≡ true = line_append 14 600 (codes "` has no value") words refl short in
-    let behind : is_line 857 (quotation t ++ (codes "` has no value" ++ words)) ≡ true = line_append 243 614 (quotation t) (codes "` has no value" ++ words) (quotation_is_line t) end in
-    let whole : is_line 858 (codes "`" ++ (quotation t ++ (codes "` has no value" ++ words))) ≡ true = line_append 1 857 (codes "`") (quotation t ++ (codes "` has no value" ++ words)) refl behind in
+    let tail_line : is_line 857 (quotation t ++ (codes "` has no value" ++ words)) ≡ true = line_append 243 614 (quotation t) (codes "` has no value" ++ words) (quotation_is_line t) end in
+    let whole : is_line 858 (codes "`" ++ (quotation t ++ (codes "` has no value" ++ words))) ≡ true = line_append 1 857 (codes "`") (quotation t ++ (codes "` has no value" ++ words)) refl tail_line in
     subst (λ s. is_line 900 s ≡ true) (sym is) (line_wider 858 900 (codes "`" ++ (quotation t ++ (codes "` has no value" ++ words))) (omega arith) whole)
 
 pub message_front : (o : Option (List ℕ)) (all t words : List ℕ) → IfSome o (λ form. t ≡ form) → all ≡ codes "`" ++ (quotation t ++ (codes "` has no value" ++ words))

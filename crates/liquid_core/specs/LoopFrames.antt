@@ -1,7 +1,7 @@
 -- What the scopes of a state hold: names, a name that is lent, or a loop at one of its items.
 --     item_of items i      item i of a loop's source, nil where there is none
 --     frame_map frame local      what a loop binds at its item, where local are the outer names
---     standing scopes behind      the scopes, the innermost first, over the outer ones
+--     standing scopes enclosing   the scopes, the innermost first, over the outer ones
 use Rattle.std.specs.Prelude.{◌≡◌, ◌<◌, ◌++◌, ℕ, ◌+◌, ◌-◌, List, [], ◌∷◌, length, take, map, get_or}
 use Rattle.std.specs.Prelude.{Option, Some, None, String, codes}
 use Rattle.std.specs.BTreeMap.{BTreeMap}
@@ -74,8 +74,8 @@ scope_map (variants.Lent name v) local = insert empty name.now (view v.now)
 scope_map (variants.LoopFrame t) local = frame_map t local
 
 abbrev pub standing : List Scope → List (Map Datum) → List (Map Datum)
-standing [] behind = behind
-standing (s ∷ ss) behind = standing ss (scope_map s (local_of behind) ∷ behind)
+standing [] enclosing = enclosing
+standing (s ∷ ss) enclosing = standing ss (scope_map s (local_of enclosing) ∷ enclosing)
 
 -- ---- loops that begin, go on and end
 

@@ -19,20 +19,20 @@ scopes_view scopes = standing scopes.frames.now (reverse (map held scopes.outer.
 abbrev pub resolved_view : Resolved → Datum
 resolved_view (Lent f) = found_view f
 resolved_view (Near f) = found_view f
-resolved_view (Loop frame behind) = frame_object frame.now (local_of (scopes_view behind))
+resolved_view (Loop frame enclosing) = frame_object frame.now (local_of (scopes_view enclosing))
 
 -- a value holds it, or it is a number, a truth value or nil
 abbrev pub IsHeld : Resolved → Type 0
-IsHeld (Loop frame behind) = ⊥
+IsHeld (Loop frame enclosing) = ⊥
 IsHeld _ = ⊤
 
 -- where it is a loop's object, the loop is one of these scopes, over those below it and over outer
 abbrev pub IsAmong : List Scope → List Outer → Resolved → Type 0
-IsAmong scopes outer (Loop frame behind) = (above : List Scope) ×
-    ((scopes ≡ behind.frames.now ++ LoopFrame frame.now ∷ above) × (behind.outer.now ≡ outer))
+IsAmong scopes outer (Loop frame enclosing) = (above : List Scope) ×
+    ((scopes ≡ enclosing.frames.now ++ LoopFrame frame.now ∷ above) × (enclosing.outer.now ≡ outer))
 IsAmong scopes outer _ = ⊤
 
 -- how many loops, and scopes over one, a loop's object can lead back through
 abbrev pub depth : Resolved → ℕ
-depth (Loop frame behind) = length behind.frames.now + 1
+depth (Loop frame enclosing) = length enclosing.frames.now + 1
 depth _ = 0

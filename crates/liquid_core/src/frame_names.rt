@@ -127,18 +127,22 @@ impl<'d> LoopFrame<'d> {
     }
 
     /// What the frame binds to the name.
-    pub(crate) fn find<'a>(&'a self, name: &str, behind: Scopes<'a, 'd>) -> Option<Resolved<'a, 'd>>
+    pub(crate) fn find<'a>(
+        &'a self,
+        name: &str,
+        enclosing: Scopes<'a, 'd>,
+    ) -> Option<Resolved<'a, 'd>>
         ensures value { option_map resolved_view result ≡
-            frame_map self.now (local_of (scopes_view behind.entry)) name.now }
+            frame_map self.now (local_of (scopes_view enclosing.entry)) name.now }
         ensures among { IfSome result
-            (IsAmong (behind.entry.frames.now ++ scope.LoopFrame self.now ∷
-            []) behind.entry.outer.now) }
-        ensures nested { IfSome result (λ s. depth s ≤ length behind.entry.frames.now + 1) }
+            (IsAmong (enclosing.entry.frames.now ++ scope.LoopFrame self.now ∷
+            []) enclosing.entry.outer.now) }
+        ensures nested { IfSome result (λ s. depth s ≤ length enclosing.entry.frames.now + 1) }
     {
         if name == self.name {
             Some(self.item())
         } else if name == self.kind.name() {
-            Some(Resolved::Loop(self, behind))
+            Some(Resolved::Loop(self, enclosing))
         } else {
             None
         }
@@ -148,26 +152,28 @@ impl<'d> LoopFrame<'d> {
     pub(crate) fn stepped<'a>(
         &'a self,
         part: &Value,
-        behind: Scopes<'a, 'd>,
+        enclosing: Scopes<'a, 'd>,
     ) -> Option<Resolved<'a, 'd>>
         ensures value { option_map resolved_view result ≡
-            step (frame_object self.now (local_of (scopes_view behind.entry))) (view part.now) }
-        ensures among { IfSome result (IsAmong behind.entry.frames.now behind.entry.outer.now) }
+            step (frame_object self.now (local_of (scopes_view enclosing.entry))) (view part.now) }
+        ensures among { IfSome result
+            (IsAmong enclosing.entry.frames.now enclosing.entry.outer.now) }
     {
         match part {
-            Value::Integer(n) => self.part(Buffer::new().format(*n), behind),
-            Value::Bool(true) => self.part("true", behind),
-            Value::Bool(false) => self.part("false", behind),
-            Value::Text(name) => self.part(name.as_str(), behind),
+            Value::Integer(n) => self.part(Buffer::new().format(*n), enclosing),
+            Value::Bool(true) => self.part("true", enclosing),
+            Value::Bool(false) => self.part("false", enclosing),
+            Value::Text(name) => self.part(name.as_str(), enclosing),
             _ => None,
         }
     }
 
     /// A part of the loop's object, or how many it has.
-    fn part<'a>(&'a self, name: &str, behind: Scopes<'a, 'd>) -> Option<Resolved<'a, 'd>>
+    fn part<'a>(&'a self, name: &str, enclosing: Scopes<'a, 'd>) -> Option<Resolved<'a, 'd>>
         ensures value { option_map resolved_view result ≡
-            object_part (frame_object self.now (local_of (scopes_view behind.entry))) name.now }
-        ensures among { IfSome result (IsAmong behind.entry.frames.now behind.entry.outer.now) }
+            object_part (frame_object self.now (local_of (scopes_view enclosing.entry))) name.now }
+        ensures among { IfSome result
+            (IsAmong enclosing.entry.frames.now enclosing.entry.outer.now) }
     {
         let k = self.at;
         let m = self.count;
@@ -181,7 +187,7 @@ impl<'d> LoopFrame<'d> {
             "last" => Some(Resolved::Near(Found::Bool(k + 1 == m))),
             _ => match &self.kind {
                 LoopKind::For(elsewhere) => match name {
-                    "parentloop" => Some(parent(behind.find("forloop"), elsewhere)),
+                    "parentloop" => Some(parent(enclosing.find("forloop"), elsewhere)),
                     "size" => Some(Resolved::Near(Found::Integer(8))),
                     _ => None,
                 },

@@ -64,13 +64,13 @@ pub enum Near<'a> {
 impl<'d> LoopFrame<'d> {
     /// The loop's object.
     #[cycle(object)]
-    fn object<'a>(&'a self, alloc: Global, behind: Scopes<'a, 'd>) -> Result<Object>
+    fn object<'a>(&'a self, alloc: Global, enclosing: Scopes<'a, 'd>) -> Result<Object>
         ensures { IsValueOrMemory (λ o. object (pairs_view o.entries)) result
-            (frame_object self.now (local_of (scopes_view behind.entry))) }
+            (frame_object self.now (local_of (scopes_view enclosing.entry))) }
     {
         match &self.kind {
             LoopKind::For(elsewhere) => {
-                let parent = match behind.find("forloop") {
+                let parent = match enclosing.find("forloop") {
                     Some(resolved) => resolved.into_value(alloc)?.into_owned(alloc)?,
                     None => elsewhere.copy(alloc)?,
                 };
@@ -122,12 +122,12 @@ impl<'d> Scope<'d> {
 
     /// What the scope binds to the name.
     #[tactic(auto, using(crate::proofs::States::held_at))]
-    fn find<'a>(&'a self, name: &str, behind: Scopes<'a, 'd>) -> Option<Resolved<'a, 'd>>
+    fn find<'a>(&'a self, name: &str, enclosing: Scopes<'a, 'd>) -> Option<Resolved<'a, 'd>>
         ensures value { option_map resolved_view result ≡
-            scope_map self.now (local_of (scopes_view behind.entry)) name.now }
+            scope_map self.now (local_of (scopes_view enclosing.entry)) name.now }
         ensures among { IfSome result
-            (IsAmong (behind.entry.frames.now ++ self.now ∷ []) behind.entry.outer.now) }
-        ensures nested { IfSome result (λ s. depth s ≤ length behind.entry.frames.now + 1) }
+            (IsAmong (enclosing.entry.frames.now ++ self.now ∷ []) enclosing.entry.outer.now) }
+        ensures nested { IfSome result (λ s. depth s ≤ length enclosing.entry.frames.now + 1) }
     {
         match self {
             Scope::Names(object) => match look_up(object, name) {
@@ -141,7 +141,7 @@ impl<'d> Scope<'d> {
                     None
                 }
             }
-            Scope::LoopFrame(frame) => frame.find(name, behind),
+            Scope::LoopFrame(frame) => frame.find(name, enclosing),
         }
     }
 }
@@ -164,7 +164,7 @@ impl<'a, 'd> Resolved<'a, 'd> {
                 Some(found) => Some(Resolved::Near(found)),
                 None => None,
             },
-            Resolved::Loop(frame, behind) => frame.stepped(part, behind),
+            Resolved::Loop(frame, enclosing) => frame.stepped(part, enclosing),
         }
     }
 
@@ -198,8 +198,8 @@ impl<'a, 'd> Resolved<'a, 'd> {
         match self {
             Resolved::Lent(found) => Ok(found.into_value()),
             Resolved::Near(found) => Ok(found.into_value()),
-            Resolved::Loop(frame, behind) => Ok(ValueCow::Owned(Value::Object(frame.object(
-                alloc, behind,
+            Resolved::Loop(frame, enclosing) => Ok(ValueCow::Owned(Value::Object(frame.object(
+                alloc, enclosing,
             )?))),
         }
     }
@@ -238,12 +238,12 @@ impl<'a, 'd> Scopes<'a, 'd> {
             (reverse (map held self.entry.outer.now)))) name.now }
     {
         let frames = self.frames;
-        let behind = Scopes {
+        let enclosing = Scopes {
             outer: self.outer,
             frames: &frames[..last],
         };
         let scope: &'a Scope<'d> = &frames[last];
-        scope.find(name, behind)
+        scope.find(name, enclosing)
     }
 
     /// What a name is in the innermost scope that holds it.

@@ -108,7 +108,7 @@ offset_within : (x : Spelled) → exists x ≡ true → (neg_ℤ (pos 86_400) �
 offset_within x e =
     let hours : x.offset.hours ≤ 23 = grind (arith, nat_tests) in
     let minutes : x.offset.minutes ≤ 59 = grind (arith, nat_tests) in
-    offset_bound x.offset.behind (x.offset.hours * 3600 + x.offset.minutes * 60) (omega (arith, hours, minutes))
+    offset_bound x.offset.is_west (x.offset.hours * 3600 + x.offset.minutes * 60) (omega (arith, hours, minutes))
 
 hours_by : (h : ℤ) → (int_le (neg_ℤ (pos 23)) h ≡ true) × (int_le h (pos 23) ≡ true) → (neg_ℤ (pos 23) ≤ℤ h) × (h ≤ℤ pos 23)
 hours_by h e =

@@ -28,9 +28,9 @@ reaches_more : (s x : Text) → reaches_colon s ≡ true → reaches_colon (s ++
 reaches_more [] x h = cc
 reaches_more (b ∷ s) x h = reaches_by b s x (b == 58) refl h (reaches_more s x)
 
-behind_address : (address path : Text) → is_absolute address ≡ true → is_absolute (addressed address path) ≡ true
-behind_address [] path h = cc
-behind_address (b ∷ s) path h =
+after_address : (address path : Text) → is_absolute address ≡ true → is_absolute (addressed address path) ≡ true
+after_address [] path h = cc
+after_address (b ∷ s) path h =
     let p = and_parts (is_ascii_alphabetic b) (reaches_colon s) h in
     ap (λ t. t && reaches_colon (s ++ or_slash path)) p.0 ∙ reaches_more s (or_slash path) p.1
 
@@ -58,7 +58,7 @@ twice address base (object ms) again = made_again address base (object ms) (is_a
 
 pub absolute_twice : AbsoluteUrlTwiceIsOnce
 absolute_twice address base d h =
-    twice address base d (λ s. let x = addressed address (relative base s) in ap (λ t. if t then Ok (text x) else Ok (text (addressed address (relative base x)))) (behind_address address (relative base s) h))
+    twice address base d (λ s. let x = addressed address (relative base s) in ap (λ t. if t then Ok (text x) else Ok (text (addressed address (relative base x)))) (after_address address (relative base s) h))
 
 -- ---- what is escaped stays
 abbrev IsGlyph : ℕ → Type 0

@@ -58,5 +58,5 @@ unread_body (Some (Word word)) = None
 unread_body (Some (Tag kind)) = None
 unread_body (Some (Start kind)) = unread kind
 
-abbrev pub body_behind : Language → BlockContext → Text → Option Body
-body_behind l x w = unread_body (role_of l x w)
+abbrev pub body_after : Language → BlockContext → Text → Option Body
+body_after l x w = unread_body (role_of l x w)

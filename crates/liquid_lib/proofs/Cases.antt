@@ -42,7 +42,7 @@ module _ (ns : List Node) (at : ℕ) (target : Expression) (arms : List Arm) (la
       let (ws, o, stands, is, over) = case_bodies ns (at + 1) arms last bs inner in
       (ws, o, stands, made ∙ is (λ ws o. case_of target ws o), ends ∙ over)
 
-  -- its parts stand behind it, and inside of the range
+  -- its parts stand after it, and inside of the range
   pub the_case : HasCaseAt ns (at + 1) arms last × (at < last) × (last ≤ to)
   the_case =
       let (n, next, there, le) = req in

@@ -13,7 +13,7 @@ use Rattle.liquid_model.specs.declared.error.ErrorKind.{ErrorKind}
 use Rattle.liquid_model.specs.declared.error.ErrorKind.TheVariants.{Memory, TooDeep, UnknownPartial}
 use Rattle.liquid_core.specs.Environment.{Environment, Names, local_of, new_environment}
 use Rattle.liquid_core.specs.Expression.{Expression}
-use Rattle.liquid_core.specs.States.{Layers, merged_layers, scopes_behind, with_scope_popped, with_scope_pushed}
+use Rattle.liquid_core.specs.States.{Layers, merged_layers, enclosing_scopes, with_scope_popped, with_scope_pushed}
 use Rattle.liquid_core.specs.declared.interrupt.Interrupt.{Interrupt}
 use Rattle.liquid_evaluation.specs.Evaluation.{bound_values}
 use Rattle.liquid_evaluation.specs.Tree as tree
@@ -346,7 +346,7 @@ kept_around N scope l p q m pushed kept popped = subst (LayersKept N l) (sym pop
     on : (p : Layers) → p ≡ with_scope_pushed scope l → LayersKept N p q → LayersKept N l (with_scope_popped q)
     on p is k =
         let s : LayersKept N (with_scope_pushed scope l) q = subst (λ z. LayersKept N z q) is k in
-        record { scopes = ap scopes_behind s.scopes; globals = s.globals; assigned = s.assigned; counters = s.counters }
+        record { scopes = ap enclosing_scopes s.scopes; globals = s.globals; assigned = s.assigned; counters = s.counters }
 
 -- a run over a scope that was pushed before it and is popped after it
 pub partial_met : (scope : Map Datum) (r : Result (Unit {0}) Error) (m : Run Nothing) (s t : Sink) (l p q z : Layers) → p ≡ with_scope_pushed scope l → q.scopes ≡ p.scopes → z ≡ with_scope_popped q
@@ -355,7 +355,7 @@ pub partial_met : (scope : Map Datum) (r : Result (Unit {0}) Error) (m : Run Not
 partial_met scope r m s t l p q z pushed kept popped h =
     let inside : Performs r m (record { sink = s; environment = merged_layers (with_scope_pushed scope l) }) (record { sink = t; environment = merged_layers q }) =
     subst (λ y. Performs r m (record { sink = s; environment = merged_layers y }) (record { sink = t; environment = merged_layers q })) pushed h in
-    let loc : local_of l.scopes ≡ local_of (scopes_behind q.scopes) = sym (ap (λ x. local_of (scopes_behind x)) (kept ∙ ap (λ y. y.scopes) pushed)) in
+    let loc : local_of l.scopes ≡ local_of (enclosing_scopes q.scopes) = sym (ap (λ x. local_of (enclosing_scopes x)) (kept ∙ ap (λ y. y.scopes) pushed)) in
     let with_local : Map Datum → Environment = λ x. record { local = x; assigned = q.assigned; counters = q.counters; globals = q.globals; registers = q.registers } in
     let back : with_local (local_of l.scopes) ≡ merged_layers z = ap with_local loc ∙ sym (ap merged_layers popped) in
     subst (λ g. Performs r (with_scope scope m) (record { sink = s; environment = merged_layers l }) (record { sink = t; environment = g })) back

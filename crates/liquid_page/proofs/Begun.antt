@@ -15,7 +15,7 @@ use Rattle.liquid_page.specs.declared.outcome.Outcome.TheVariants.{Done, Fault}
 use Rattle.liquid_page.specs.Files.{Stop, ReadableFiles, LeavesAtWriter, EndsCall}
 use Rattle.liquid_page.specs.Written.{HoldsBeginning, IsBegun, IsPageWritten, a_page, no_page}
 
--- of a text's beginning behind what was there, the writer has what isn't held back
+-- of a text's beginning after what was there, the writer has what isn't held back
 holds_front : (before start after now : Option (List ℕ)) (held text : List ℕ) → Keeps before start → AppendsPart start after text → Keeps after (append_known now held) → HoldsBeginning before now text
 holds_front None start after now held text p q k = tt
 holds_front (Some x) None after now held text p q k = absurd p
@@ -28,10 +28,10 @@ part_of_none : (a b : Option (List ℕ)) → Keeps a b → AppendsPart a b []
 part_of_none a b p = record { front = []; rest = []; whole = refl; appended = Appends-kept a a b [] (Appends-nil a) p }
 
 -- a run wrote to a buffer in front of the writer, and some of what the buffer held was handed on
-pub begun_behind : (texts : PageTexts) (r : Result (Unit {0}) Error) (before start done now : Option (List ℕ)) (held : List ℕ)
+pub after_begun : (texts : PageTexts) (r : Result (Unit {0}) Error) (before start done now : Option (List ℕ)) (held : List ℕ)
     → Keeps before start → RanOut r start done ⊎ ShowsStandard texts r start done → Keeps done (append_known now held) → IsBegun texts before now
-begun_behind texts r before start done now held p (inl out) k = no_page (holds_front before start done now held [] p (part_of_none start done out.kept) k)
-begun_behind texts r before start done now held p (inr shown) k = a_page {text = shown.2.text} (shown.2.end, (shown.0, shown.1, shown.2.is_page)) (holds_front before start done now held shown.2.text p shown.2.begun k)
+after_begun texts r before start done now held p (inl out) k = no_page (holds_front before start done now held [] p (part_of_none start done out.kept) k)
+after_begun texts r before start done now held p (inr shown) k = a_page {text = shown.2.text} (shown.2.end, (shown.0, shown.1, shown.2.is_page)) (holds_front before start done now held shown.2.text p shown.2.begun k)
 
 -- the page of the texts that were read is begun
 left_begun : (known : Option ReadableFiles) (wanted : ReadableFiles → Result PageTexts Stop) (texts : PageTexts) (old new : Option (List ℕ))

@@ -1,4 +1,4 @@
--- A word or a value, and nothing behind it.
+-- A word or a value, and nothing after it.
 use Rattle.std.proofs.Common.{◌≡◌, List, [], ◌∷◌, Bool, true, false, Option, Some, None, refl, sym, ap, ◌∙◌}
 use Rattle.std.specs.Option.{option_and_then, option_map}
 use Rattle.liquid_core.specs.Expression.{Expression}

@@ -15,7 +15,7 @@ use Rattle.liquid_evaluation.specs.Tree.{Nodes, no_nodes, Whens, no_whens, when}
 use Rattle.liquid_syntax.specs.Flats.{case_flat, flat_of, flats, with_arms}
 use Rattle.liquid_core.specs.Expression.{Expression}
 use Rattle.std.specs.Prelude.{take, true, false}
-use Rattle.liquid_syntax.specs.inside.Building.{IsPrepared, opening, set_before_last, set_last, before_last_ended, last_ended, behind_arms, armed_with, IsCase, IsAdded, EndIsSet, BodyEnded, takes_else, takes_when, Fits, Builds, Closes, stage_context, context_at}
+use Rattle.liquid_syntax.specs.inside.Building.{IsPrepared, opening, set_before_last, set_last, before_last_ended, last_ended, after_arms, armed_with, IsCase, IsAdded, EndIsSet, BodyEnded, takes_else, takes_when, Fits, Builds, Closes, stage_context, context_at}
 use Rattle.liquid_language.specs.declared.block.Block.{Block}
 use Rattle.liquid_syntax.specs.declared.build.Builder.{Builder}
 use Rattle.liquid_language.specs.declared.block.BlockContext.{BlockContext}
@@ -87,14 +87,14 @@ ends_count k (body f bs) = omega (arith, ends_count (k + forest_size f) bs)
 
 -- ---- the `when` parts of a `case`
 
-arms_done : (make : Whens → Nodes → tree.Node) (vss : List (List Expression)) (fs : List Nodes) (o : Nodes) → length vss ≡ length fs → with_arms make vss (fs ++ o ∷ []) ≡ behind_arms make vss fs no_whens o
+arms_done : (make : Whens → Nodes → tree.Node) (vss : List (List Expression)) (fs : List Nodes) (o : Nodes) → length vss ≡ length fs → with_arms make vss (fs ++ o ∷ []) ≡ after_arms make vss fs no_whens o
 arms_done make [] [] o h = refl
 arms_done make [] (f ∷ fs) o h = absurd (omega (arith, h))
 arms_done make (vs ∷ vss) [] o h = absurd (omega (arith, h))
 arms_done make (vs ∷ vss) (f ∷ fs) o h = arms_done (λ ws o. make (when vs f ws) o) vss fs o (omega (arith, h))
 
 arms_more : (make : Whens → Nodes → tree.Node) (vss : List (List Expression)) (fs : List Nodes) (vs : List Expression) (f : Nodes) (ws : Whens) (o : Nodes) → length vss ≡ length fs
-    → behind_arms make (vss ++ vs ∷ []) (fs ++ f ∷ []) ws o ≡ behind_arms make vss fs (when vs f ws) o
+    → after_arms make (vss ++ vs ∷ []) (fs ++ f ∷ []) ws o ≡ after_arms make vss fs (when vs f ws) o
 arms_more make [] [] vs f ws o h = refl
 arms_more make [] (g ∷ fs) vs f ws o h = absurd (omega (arith, h))
 arms_more make (us ∷ vss) [] vs f ws o h = absurd (omega (arith, h))
@@ -251,7 +251,7 @@ armed_pauses ns ms o os b make f k ls cur (old, was, set) (pre, x, bs, c, is_c, 
     ∙ ap (λ l. armed_with t (vss ++ vs ∷ []) l ws o) (ap (λ l. bodies_of bs ++ l ∷ []) is_c ∙ sym (bodies_with bs c)) in
     (pre, new, cs, at, block, chained, (t, vss ++ vs ∷ [], z, many, refl, made), all, below)
 
--- behind it the else list begins
+-- after it the else list begins
 last_goes : (ns : Flats) (o p : Open) (os : List Open) (b : Block) (make : Whens → Nodes → tree.Node) (f : Nodes) (k : Bool) (ls : List Level)
     → p.node_index ≡ o.node_index → p.chained ≡ o.chained → p.block ≡ o.block → p.stage ≡ Last → Pauses ns o os b make f k ls → Builds ns (p ∷ os) (level (last b (make no_whens)) f k ∷ ls) no_nodes
 unfolding Pauses
@@ -408,7 +408,7 @@ when_on ns mid ms all rest now o p vs old y e e2 done takes set was added at ch 
     let r = when_by ns mid ms o p (reverse rest) vs old y done takes set was added at ch bl st ls cur h' in
     (r.0, r.1, subst (λ os. Builds ms os r.0.0 r.0.1) (sym (ap reverse e2 ∙ reverse-last rest p)) r.2, r.3)
 
--- a block ends: its last body, or another, behind which the last is empty
+-- a block ends: its last body, or another, after which the last is empty
 last_open : Open → Open
 last_open o = record { node_index = o.node_index; block = o.block; stage = Last; chained = o.chained }
 
@@ -447,7 +447,7 @@ prepared_fits o b Last n k st bl prepared = (st, bl, prepared, λ g. refl)
 prepared_fits o b Unkept n k st bl (t, z, is, makes) = (st, bl, refl, (t, [], z, refl, is, makes))
 prepared_fits o b Armed n k st bl prepared = absurd prepared
 
--- a block begins behind the nodes
+-- a block begins after the nodes
 pub begins_on : (ns ms : Flats) (n : code.Node) (all now : List Open) (o : Open) (b : Block) (stage : Stage) (ls : List Level) (cur : Nodes) → ms ≡ ns ++ flat_of n ∷ [] → now ≡ all ++ o ∷ [] → o.node_index ≡ length ns
     → o.stage ≡ stage → o.block ≡ b → IsPrepared stage n → Builds ns (reverse all) ls cur → Builds ms (reverse now) (level (begun (opening b stage n)) cur o.chained ∷ ls) no_nodes
 begins_on ns ms n all now o b stage ls cur e stack at st bl prepared built =

@@ -74,7 +74,7 @@ never statement e s = absurd (subst Stands (sym e) s)
 assigned : (l : Language) (ts : List Token) (n : Node) → assign_of l ts ≡ Some n → (w : Text) × (c : Chain) × (n ≡ assign w c)
 assigned l ts n h =
     let (x, named, more) = bind_some (word_first ts) _ n h in
-    let (rest, behind, made) = bind_some (past Assign x.1) _ n more in
+    let (rest, following, made) = bind_some (past Assign x.1) _ n more in
     let (d, read, same) = map_some (chain_of (registered_in l.filters) rest) (assign x.0) n made in
     (x.0, d, sym same)
 

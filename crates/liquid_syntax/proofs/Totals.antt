@@ -75,7 +75,7 @@ module _ {R : Type 0} (none : R) (plus : R → R → R) (of_node : tree.Node →
       of_arms [] = none
       of_arms (vs ∷ vss) = plus (of_values vs) (of_arms vss)
 
-      -- the values of a part and of those behind it, then its body and those behind it
+      -- the values of a part and of those after it, then its body and those after it
       turned : (a v f e t : R) → plus (plus a (plus v f)) (plus e t) ≡ plus a (plus (plus v e) (plus f t))
       turned a v f e t =
           sum.grouped a (plus v f) (plus e t)

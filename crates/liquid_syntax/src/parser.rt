@@ -16,7 +16,7 @@ use crate::faults::too_nested;
 use crate::positions::Positions;
 use crate::template::Template;
 use liquid_core::{Error, Result};
-use liquid_language::{Language, body_behind, explanation_of};
+use liquid_language::{Language, body_after, explanation_of};
 use liquid_lexer::{
     Markup, ParseError, location, past_byte, read_body, read_markup, stripped, text_before,
 };
@@ -119,8 +119,8 @@ impl Reader<'_> {
         let mut strip_next = false;
         let mut rest = source;
         'pieces: loop {
-            let (text, behind) = text_before(rest);
-            let Some(inside) = past_byte(behind, b'{') else {
+            let (text, following) = text_before(rest);
+            let Some(inside) = past_byte(following, b'{') else {
                 return self.text(alloc, stripped(strip_next, text, false), rest.len());
             };
             let found = read_markup(alloc, inside)?;
@@ -129,7 +129,7 @@ impl Reader<'_> {
                 stripped(strip_next, text, found.0.before),
                 rest.len(),
             )?;
-            let (strips, after) = self.piece(alloc, language, found, behind)?;
+            let (strips, after) = self.piece(alloc, language, found, following)?;
             strip_next = strips;
             rest = after;
         }
@@ -167,7 +167,7 @@ impl Reader<'_> {
     {
         let context = self.builder.context();
         let (markup, after) = found;
-        let body = body_behind(language, context, &markup.piece);
+        let body = body_after(language, context, &markup.piece);
         let (markup, after) = read_body(body, markup, after)?;
         if self.builder.is_full() && opens(language, context, &markup.piece) {
             return Err(too_nested(at.len()));

@@ -98,7 +98,7 @@ fn tell_end<R: Print>(told: &Told<'_, R>, step: &Value, end: &str) -> Result<()>
 fn tell_pages<R: Print, S: AnySite>(told: &Told<'_, R>, site: &S, step: &Value) -> Result<()> {
     if !shows(site, Some(step)) {
         let at = named(told.alloc, step)?;
-        let _ = println!(told.rt; "the site shows other pages behind {at}");
+        let _ = println!(told.rt; "the site shows other pages after {at}");
     }
     Ok(())
 }

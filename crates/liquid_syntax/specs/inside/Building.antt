@@ -130,15 +130,15 @@ IsAdded vs x y = (t : Expression) (vss : List (List Expression)) (es : List ℕ)
 
 -- what a `case` makes of further `when` parts after those with these values and bodies, and of its
 -- else list
-abbrev pub behind_arms : (tree.Whens → Nodes → Node) → List (List Expression) → List Nodes →
+abbrev pub after_arms : (tree.Whens → Nodes → Node) → List (List Expression) → List Nodes →
     tree.Whens → Nodes → Node
-behind_arms make [] fs ws o = make ws o
-behind_arms make (vs ∷ vss) [] ws o = make ws o
-behind_arms make (vs ∷ vss) (f ∷ fs) ws o =
-    behind_arms (λ ws o. make (tree.when vs f ws) o) vss fs ws o
+after_arms make [] fs ws o = make ws o
+after_arms make (vs ∷ vss) [] ws o = make ws o
+after_arms make (vs ∷ vss) (f ∷ fs) ws o =
+    after_arms (λ ws o. make (tree.when vs f ws) o) vss fs ws o
 
 abbrev pub armed_with : Expression → List (List Expression) → List Nodes → tree.Whens → Nodes → Node
-armed_with t vss fs ws o = behind_arms (λ ws o. tree.case_of t ws o) vss fs ws o
+armed_with t vss fs ws o = after_arms (λ ws o. tree.case_of t ws o) vss fs ws o
 
 -- a `case` with as many `when` parts as closed bodies, which begin at k
 abbrev pub IsCase : Flat Maker → Bodies Maker → ℕ → (tree.Whens → Nodes → Node) → Type 0

@@ -4,7 +4,7 @@ use Rattle.liquid_page.specs.Words.{lent}
 use Rattle.liquid_page_texts.specs.Page.{sources_of}
 use Rattle.liquid_page.proofs.page.read_partials.Given as goal
 
--- the same files are known, and what is left gives, behind what was read, what the whole gives
+-- the same files are known, and what is left gives, after what was read, what the whole gives
 abbrev pub invariant-loop-name : goal.invariant-loop-name
 invariant-loop-name g l = record {
   same : g.T.Texts.known l.texts ≡ g.T.Texts.known l.initial.texts;

@@ -4,7 +4,7 @@ use Rattle.std.specs.Io.KnownBytes.{Keeps}
 use Rattle.liquid_page.specs.Buffering.{buffered_contents}
 use Rattle.liquid_page.specs.Written.{IsBegun}
 use Rattle.liquid_page_texts.specs.Page.{PageTexts, sources_of}
-use Rattle.liquid_page.proofs.Begun.{begun_behind}
+use Rattle.liquid_page.proofs.Begun.{after_begun}
 use Rattle.liquid_page.proofs.page.write_page.Goals as goal
 use Rattle.liquid_page.proofs.page.write_page.Goals.{in-Ok-answer, in-Err-answer}
 
@@ -20,4 +20,4 @@ returns-clause-begun g c =
       | in-Err-answer w ↦ subst (λ b. Keeps (buffered_contents contents c.into_inner-buffered.result) (buffered_contents contents b)) (sym w.buffered-is) w.flush_buffer-flushed.ensures.bytes
     ] in
     let kept = subst (λ b. Keeps (buffered_contents contents b) (buffered_contents contents c.match-answer.buffered)) c.into_inner-buffered.ensures flushed in
-    subst (λ w. IsBegun texts (contents c.args.writer) (contents w)) (sym c.into_inner.ensures) (begun_behind texts _ _ _ _ _ c.match-answer.buffered.held.items start c.run_last-answer.ensures.page kept)
+    subst (λ w. IsBegun texts (contents c.args.writer) (contents w)) (sym c.into_inner.ensures) (after_begun texts _ _ _ _ _ c.match-answer.buffered.held.items start c.run_last-answer.ensures.page kept)
