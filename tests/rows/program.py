@@ -20,7 +20,7 @@ class Ended:
     """What a call of the program came to."""
 
     page: bytes
-    # the line that is told, and the lines that are shown behind it
+    # the line that is told, and the lines that are shown after it
     told: str
     shown: str
     status: int
@@ -57,8 +57,8 @@ class Program:
         """What a call comes to that is refused what is said."""
         requests, writes, steps, status = self.answer(ASKED.pack(refuse_at, refuse_write, write_bytes, write_room, refuse_step))
         page, told = written(self.page), written(self.told).decode(errors="replace")
-        behind = SHOWN.search(told)
-        at = behind.start() if behind else len(told)
+        after = SHOWN.search(told)
+        at = after.start() if after else len(told)
         return Ended(page, told[:at], told[at:], status, requests, writes, steps)
 
     def answer(self, asked):

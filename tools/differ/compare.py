@@ -8,7 +8,7 @@ from typing import Any, Callable
 
 from language.faults import TooLong
 
-# how liquid_page reports a fault, and how bikleinu does: behind the name of the file
+# how liquid_page reports a fault, and how bikleinu does: after the name of the file
 TOLD = re.compile(r"error: (\w+): .+\n", re.S)
 TOLD_OF_FILE = re.compile(r"error: [^:\n]+: (\w+): .+\n", re.S)
 # a program that takes longer is killed
