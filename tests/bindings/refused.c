@@ -3,7 +3,7 @@
  * request has to answer BIKLEINU_MEMORY, and called again what it answered at first, and no other call may answer otherwise than at
  * first. A row is a line with the numbers of bytes of its source and its data and how many partials it has, those bytes, and for each
  * partial a line with the numbers of bytes of its name and its source, and those. When its handles are freed, a row must leave no memory
- * after, which no proof speaks of. A line tells each thing that isn't well, and the last one "rows: N calls: N refused: N". */
+ * allocated, which no proof speaks of. A line tells each thing that isn't well, and the last one "rows: N calls: N refused: N". */
 #define _GNU_SOURCE
 #include <stdio.h>
 #include <stdlib.h>
