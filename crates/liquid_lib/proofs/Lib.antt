@@ -12,7 +12,7 @@ pub mod Interrupts
 pub mod ItemRuns
 pub mod Joined
 pub mod Kept
-pub mod LentData
+pub mod BorrowedData
 pub mod LimitedPages
 pub mod LoopItems
 pub mod LoopMeanings
