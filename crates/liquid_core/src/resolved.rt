@@ -37,7 +37,8 @@ pub struct Scopes<'a, 'd> {
 pub enum Resolved<'a, 'd> {
     /// A value that is borrowed from the caller's data, for the whole run.
     Borrowed(Found<'d>),
-    /// A value that the state or the template holds.
+    /// A value that the state or the template holds, or a number, a truth value or nil that none
+    /// holds.
     Local(Found<'a>),
     /// A loop's object, which no value holds.
     Loop(&'a LoopFrame<'d>, Scopes<'a, 'd>),
