@@ -64,8 +64,11 @@ fn lacking_in(
     ensures memory { IfErr result (λ e. e.kind ≡ ErrorKind.Memory) }
 {
     let asked = RefCell::new(Asked::new(alloc));
-    let lent = Some(&asked);
-    let filters = TableFilters { table, asked: lent };
+    let borrowed = Some(&asked);
+    let filters = TableFilters {
+        table,
+        asked: borrowed,
+    };
     drop(render_hosted_page(alloc, template, &filters, around, data));
     let listed = list_lacking(alloc, asked.into_inner(), table)?;
     if listed.is_empty() {

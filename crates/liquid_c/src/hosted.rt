@@ -50,7 +50,7 @@ pub extern "C" fn bikleinu_render_with(
     let held_answers = answers.take(alloc);
     let answer = page(
         alloc,
-        Lent {
+        HandleContents {
             template: seen(&held_template),
             data: seen(&held_data),
             partials: seen(&held_partials),
@@ -67,36 +67,40 @@ pub extern "C" fn bikleinu_render_with(
 
 /// What the handles of a call hold.
 #[derive(Clone, Copy, Drop)]
-struct Lent<'h> {
+struct HandleContents<'h> {
     template: Option<&'h Content>,
     data: Option<&'h Content>,
     partials: Option<&'h Content>,
     answers: Option<&'h Content>,
 }
 
-fn page(alloc: Global, lent: Lent<'_>, allowed: Allowed) -> Result<Content, Refusal>
+fn page(alloc: Global, contents: HandleContents<'_>, allowed: Allowed) -> Result<Content, Refusal>
     ensures { IsHosted allowed.levels
-        (option_map (λ h. h.now) lent.entry.template)
-        (option_map (λ h. h.now) lent.entry.«data»)
-        (option_map (λ h. h.now) lent.entry.partials)
+        (option_map (λ h. h.now) contents.entry.template)
+        (option_map (λ h. h.now) contents.entry.«data»)
+        (option_map (λ h. h.now) contents.entry.partials)
         allowed.depth
-        (option_map (λ h. h.now) lent.entry.answers) result }
+        (option_map (λ h. h.now) contents.entry.answers) result }
 {
-    let Some(Content::Template(template, levels)) = lent.template else {
+    let Some(Content::Template(template, levels)) = contents.template else {
         return Err(Refusal::OtherHandle);
     };
-    let Some(Content::Answers(table)) = lent.answers else {
+    let Some(Content::Answers(table)) = contents.answers else {
         return Err(Refusal::OtherHandle);
     };
     let no_data = empty_data(alloc);
     let no_partials = Partials::new(alloc);
-    let is_deep = levels.pass(levels_held(lent.partials), allowed.depth, allowed.levels);
+    let is_deep = levels.pass(
+        levels_held(contents.partials),
+        allowed.depth,
+        allowed.levels,
+    );
     shown(
         alloc,
         Hosted { template, table },
         is_deep,
-        data_held(lent.data, &no_data),
-        partials_held(lent.partials, &no_partials),
+        data_held(contents.data, &no_data),
+        partials_held(contents.partials, &no_partials),
         allowed,
     )
 }

@@ -10,15 +10,15 @@ use Rattle.liquid_core.specs.declared.frame.Scope.{Scope}
 use Rattle.liquid_core.specs.declared.frame.Scope.TheVariants.{LoopFrame}
 use Rattle.liquid_core.specs.declared.resolved.Scopes.{Scopes}
 use Rattle.liquid_core.specs.declared.resolved.Resolved.{Resolved}
-use Rattle.liquid_core.specs.declared.resolved.Resolved.TheVariants.{Lent, Near, Loop}
+use Rattle.liquid_core.specs.declared.resolved.Resolved.TheVariants.{Borrowed, Local, Loop}
 
--- the scopes of lent names, the innermost first
+-- the scopes of borrowed names, the innermost first
 abbrev pub scopes_view : Scopes → List (Map Datum)
 scopes_view scopes = standing scopes.frames.now (reverse (map held scopes.outer.now))
 
 abbrev pub resolved_view : Resolved → Datum
-resolved_view (Lent f) = found_view f
-resolved_view (Near f) = found_view f
+resolved_view (Borrowed f) = found_view f
+resolved_view (Local f) = found_view f
 resolved_view (Loop frame enclosing) = frame_object frame.now (local_of (scopes_view enclosing))
 
 -- a value holds it, or it is a number, a truth value or nil

@@ -14,12 +14,12 @@ use Rattle.liquid_core.specs.declared.frame.LoopFrame.{LoopFrame}
 use Rattle.liquid_core.specs.declared.state.State.{State}
 use Rattle.liquid_core.specs.declared.state.Parts.{Parts}
 use Rattle.liquid_core.specs.declared.state.Data.{Data}
-use Rattle.liquid_core.specs.declared.state.Data.TheVariants.{Own, Lent}
+use Rattle.liquid_core.specs.declared.state.Data.TheVariants.{Own, Borrowed}
 use Rattle.liquid_core.specs.declared.interrupt.Interrupt.{Interrupt}
 
 abbrev pub data_held : Data → Map Datum
 data_held (Own object) = held object
-data_held (Lent object) = held object.now
+data_held (Borrowed object) = held object.now
 
 pub record Layers : Type 0 where
   -- the innermost first

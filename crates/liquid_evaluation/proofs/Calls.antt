@@ -17,8 +17,8 @@ use Rattle.liquid_core.specs.Environment.{Environment}
 use Rattle.liquid_core.specs.Expressions.{value_of, required, all_required}
 use Rattle.liquid_core.specs.FilterAnswers.{AnswersIf}
 use Rattle.liquid_core.specs.Said.{Says}
-use Rattle.liquid_core.specs.declared.resolved.Near.{Near}
-use Rattle.liquid_core.specs.declared.resolved.Near.TheVariants.{Held, Number, Truth, Loop, Nothing, Unsaid}
+use Rattle.liquid_core.specs.declared.resolved.DirectValue.{DirectValue}
+use Rattle.liquid_core.specs.declared.resolved.DirectValue.TheVariants.{Held, Number, Truth, Loop, Nothing, Unsaid}
 use Rattle.liquid_evaluation.specs.Calls.{Call, applied}
 use Rattle.liquid_evaluation.specs.Said.{SaysOf}
 use Rattle.liquid_evaluation.specs.Tree.{FilterCall, Chain}
@@ -239,7 +239,7 @@ its_entry : (answers : FilterAnswers) (chain : Chain) (e : Environment) (d : Dat
 its_entry answers chain e d none h =
     chain_from answers chain e d (sym (ap (λ o. entry_value o chain.filters) h)) ∙ ap (λ fs. applied (calls_by answers fs) d e) none ∙ nothing_applied answers d e
 
-pub said_of : (n : Near) (chain : Chain) (e : Environment) → chain.filters ≡ [] → Says n (value_of chain.entry e) None → SaysOf n chain e
+pub said_of : (n : DirectValue) (chain : Chain) (e : Environment) → chain.filters ≡ [] → Says n (value_of chain.entry e) None → SaysOf n chain e
 said_of (Held v) chain e none h = λ answers. its_entry answers chain e (view v.now) none h
 said_of (Number n) chain e none h = λ answers. its_entry answers chain e (number n) none h
 said_of (Truth b) chain e none h = λ answers. its_entry answers chain e (truth b) none h

@@ -64,10 +64,10 @@ joins_by : (old : List (Bor Value)) (item : Bor Value) (d : Datum) (b : Bool) �
 joins_by old item d true e = map-append datum_of old (item ∷ []) ∙ ap (λ x. map datum_of old ++ x ∷ []) e
 joins_by old item d false e = map-append datum_of old []
 
--- the same of items that are lent
-pub one_more_member : (old new : List (Bor Value)) (item : Value) (lent : Bor Value) (t u q : Text) → new ≡ old ++ item_if_named t lent q → lent.now ≡ item → t ≡ u → map datum_of new ≡ map datum_of old ++ member_if_named u (view item) q
-one_more_member old new item lent t u q n l e =
-    ap (map datum_of) n ∙ joins_by old lent (view item) (same_text q t) (ap view l) ∙ ap (λ s. map datum_of old ++ member_if_named s (view item) q) e
+-- the same of items that are borrowed
+pub one_more_member : (old new : List (Bor Value)) (item : Value) (borrowed : Bor Value) (t u q : Text) → new ≡ old ++ item_if_named t borrowed q → borrowed.now ≡ item → t ≡ u → map datum_of new ≡ map datum_of old ++ member_if_named u (view item) q
+one_more_member old new item borrowed t u q n l e =
+    ap (map datum_of) n ∙ joins_by old borrowed (view item) (same_text q t) (ap view l) ∙ ap (λ s. map datum_of old ++ member_if_named s (view item) q) e
 
 -- ---- texts that are noted
 pub noted_there : (t : Text) (us : List Text) → has_text t us ≡ true → us ≡ noted t us

@@ -6,11 +6,11 @@ mod filters;
 mod habits;
 mod items;
 mod names;
-mod near;
 mod numbers;
 mod outline;
 mod parentheses;
 mod phrasing;
+mod similar;
 mod unread;
 mod wanted;
 

@@ -1,5 +1,6 @@
 pub mod Added
 pub mod Apart
+pub mod BorrowedData
 pub mod Bound
 pub mod CaseChoices
 pub mod Cases
@@ -12,7 +13,6 @@ pub mod Interrupts
 pub mod ItemRuns
 pub mod Joined
 pub mod Kept
-pub mod LentData
 pub mod LimitedPages
 pub mod LoopItems
 pub mod LoopMeanings

@@ -12,7 +12,7 @@ use crate::context::RunContext;
 use crate::counted::CountedWrite;
 use crate::output::Output;
 use crate::push_value::{push_number, push_value};
-use liquid_core::{NamedFilters, Near, Result, State};
+use liquid_core::{DirectValue, NamedFilters, Result, State};
 use liquid_syntax::FilterChain;
 use std::alloc::Global;
 
@@ -74,9 +74,9 @@ pub(crate) fn run_output<W: CountedWrite, H: NamedFilters>(
         state.old state.new }
     ensures loops { loops_of state.new ≡ loops_of state.old }
 {
-    match chain.near(state) {
-        Near::Held(value) => push_value(alloc, value, out),
-        Near::Number(n) => push_number(alloc, n, out),
+    match chain.direct_value(state) {
+        DirectValue::Held(value) => push_value(alloc, value, out),
+        DirectValue::Number(n) => push_number(alloc, n, out),
         _ => run_chain(alloc, context, chain, out, state),
     }
 }

@@ -5,6 +5,7 @@
 //! [extra].
 #![tactic(auto)]
 
+mod borrowed_data;
 mod choice;
 mod context;
 mod counted;
@@ -19,10 +20,8 @@ mod hosted_page;
 mod ifchanged;
 pub mod jekyll;
 mod leaves;
-mod lent;
 mod limits;
 mod loop_turns;
-mod near_partial;
 mod nodes;
 mod output;
 mod own_state;
@@ -33,6 +32,7 @@ mod render;
 mod runtime;
 mod runtime_calls;
 pub mod shopify;
+mod similar_partial;
 mod source;
 mod standard;
 pub mod stdlib;

@@ -32,11 +32,11 @@ pub(crate) struct Apart<'d, H> {
     pub(crate) own: State<'d>,
 }
 
-/// The names that a partial is given: with values of their own, or a single one that is lent.
+/// The names that a partial is given: with values of their own, or a single one that is borrowed.
 #[derive(Drop)]
 enum Given<'d> {
     Names(Object),
-    Lent(&'d str, &'d Value),
+    Borrowed(&'d str, &'d Value),
 }
 
 /// An item of a `render .. for`.
@@ -75,14 +75,15 @@ pub(crate) fn enter_render<'d, H>(
     Ok((called, Apart { inner, own }))
 }
 
-/// The names that a partial is given which runs apart: a single one is lent where its value is.
+/// The names that a partial is given which runs apart: a single one is borrowed where its value
+/// is.
 fn given_names<'d>(alloc: Global, bindings: &'d [Binding], state: &State<'d>) -> Result<Given<'d>>
     ensures { Answers given_map result (bound_scope (bindings_view bindings.now)
         (environment_of state.now)) }
 {
     if let [binding] = bindings {
-        if let Some(value) = binding.value.lent(state) {
-            return Ok(Given::Lent(binding.name.as_str(), value));
+        if let Some(value) = binding.value.borrowed_value(state) {
+            return Ok(Given::Borrowed(binding.name.as_str(), value));
         }
     }
     Ok(Given::Names(pairs_scope(alloc, bindings, state)?))
@@ -95,17 +96,17 @@ fn given_state<'d>(alloc: Global, names: Given<'d>) -> Result<State<'d>>
 {
     match names {
         Given::Names(names) => own_state(alloc, names),
-        Given::Lent(name, value) => lent_state(alloc, name, value),
+        Given::Borrowed(name, value) => state_with_borrowed(alloc, name, value),
     }
 }
 
-/// A state that holds this name alone, whose value is lent.
-fn lent_state<'d>(alloc: Global, name: &'d str, value: &'d Value) -> Result<State<'d>>
+/// A state that holds this name alone, whose value is borrowed.
+fn state_with_borrowed<'d>(alloc: Global, name: &'d str, value: &'d Value) -> Result<State<'d>>
     ensures { IsValueOrMemory environment_of result
         (new_environment (insert empty name.now (view value.now))) }
 {
     let mut own = State::alone(alloc, BTreeMap::new(alloc));
-    if let Err(fault) = own.push_lent(name, value) {
+    if let Err(fault) = own.push_borrowed(name, value) {
         drop(own);
         return Err(fault);
     }
@@ -185,7 +186,7 @@ fn frame_at<'d>(item: &EachItem<'d>) -> LoopFrame<'d>
 {
     LoopFrame {
         name: item.each.variable.as_str(),
-        items: lent(&item.source.items),
+        items: borrowed_items(&item.source.items),
         from: 0,
         count: item.source.count,
         reversed: false,
@@ -194,13 +195,13 @@ fn frame_at<'d>(item: &EachItem<'d>) -> LoopFrame<'d>
     }
 }
 
-/// The same items, lent.
-fn lent<'x>(items: &'x Items<'_>) -> Items<'x>
+/// The same items, borrowed.
+fn borrowed_items<'x>(items: &'x Items<'_>) -> Items<'x>
     ensures { item_of result ≡ item_of items.now }
 {
     match items {
-        Items::Lent(list) => Items::Lent(*list),
-        Items::Owned(list) => Items::Lent(list.as_slice()),
+        Items::Borrowed(list) => Items::Borrowed(*list),
+        Items::Owned(list) => Items::Borrowed(list.as_slice()),
         Items::Numbers(first, last) => Items::Numbers(*first, *last),
     }
 }

@@ -39,8 +39,8 @@ impl Page {
     }
 }
 
-/// The page of a template in a new run over this data, without filters of a host. The data is lent,
-/// so that nothing of it is copied.
+/// The page of a template in a new run over this data, without filters of a host. The data is
+/// borrowed, so that nothing of it is copied.
 ///
 /// A fault is the page's end, and the page has the text up to there. The answer is `Memory` where a
 /// growth was refused, and no other kind.
@@ -103,14 +103,14 @@ pub fn render_page_within(
     Ok(LimitedPage { page, limit })
 }
 
-/// A new state over data that is lent. It takes no memory.
+/// A new state over borrowed data. It takes no memory.
 pub(crate) fn state_over<'d>(alloc: Global, data: &'d Object) -> State<'d>
     ensures layers { layers_of result ≡ new_layers (held «data».now) }
     ensures loops { loops_of result ≡ [] }
 {
     let (parts, none) = State::new(alloc, BTreeMap::new(alloc)).into_parts();
     drop(none);
-    State::from_parts(alloc, parts, Data::Lent(data))
+    State::from_parts(alloc, parts, Data::Borrowed(data))
 }
 
 /// The page of a run that wrote this text and ended so.

@@ -18,8 +18,8 @@ ghost use Rattle.liquid_meaning.specs.Runs.{ended_with};
 ghost use Rattle.liquid_lib.specs.RuntimeView.{SettingKept, layers_in, environment_in};
 ghost use Rattle.liquid_lib.specs.Silent.{AreSilent, IsDoneOrStopped};
 
+use crate::borrowed_data::run_template;
 use crate::counted::{CountedWrite, NoWriter};
-use crate::lent::run_template;
 use crate::output::Output;
 use crate::runtime::Runtime;
 use liquid_core::{ErrorKind, Result};

@@ -39,11 +39,11 @@ left_begun : (known : Option ReadableFiles) (wanted : ReadableFiles → Result P
 left_begun None wanted texts old new read begun = tt
 left_begun (Some files) wanted texts old new read begun = subst (λ w. LeavesAtWriter w old new) (sym read) begun
 
--- the same of texts that are lent
-pub lent_begun : (known : Option ReadableFiles) (wanted : ReadableFiles → Result PageTexts Stop) (read : PageTexts) (t d : Text) (ps : Sources) (old new : Option (List ℕ))
+-- the same of borrowed texts
+pub borrowed_begun : (known : Option ReadableFiles) (wanted : ReadableFiles → Result PageTexts Stop) (read : PageTexts) (t d : Text) (ps : Sources) (old new : Option (List ℕ))
     → t ≡ read.template → d ≡ read.«data» → ps ≡ read.partials
     → IfSome known (λ files. wanted files ≡ Ok read) → IsBegun (record { template = t; «data» = d; partials = ps }) old new → IfSome known (λ files. LeavesAtWriter (wanted files) old new)
-lent_begun known wanted read t d ps old new ts ds pss is begun = left_begun known wanted read old new is
+borrowed_begun known wanted read t d ps old new ts ds pss is begun = left_begun known wanted read old new is
     (subst (λ x. IsBegun (record { template = x; «data» = read.«data»; partials = read.partials }) old new) ts
     (subst (λ x. IsBegun (record { template = t; «data» = x; partials = read.partials }) old new) ds
     (subst (λ x. IsBegun (record { template = t; «data» = d; partials = x }) old new) pss begun)))
@@ -64,12 +64,12 @@ left_ended : (known : Option ReadableFiles) (wanted : ReadableFiles → Result P
 left_ended None wanted texts r o old new read written told = tt
 left_ended (Some files) wanted texts r o old new read written told = ended_by texts r o (wanted files) old new read written told
 
--- the same of texts that are lent
-pub lent_ended : (known : Option ReadableFiles) (wanted : ReadableFiles → Result PageTexts Stop) (read : PageTexts) (t d : Text) (ps : Sources) (r : Result (Unit {0}) Error) (o : Outcome) (old new : Option (List ℕ))
+-- the same of borrowed texts
+pub borrowed_ended : (known : Option ReadableFiles) (wanted : ReadableFiles → Result PageTexts Stop) (read : PageTexts) (t d : Text) (ps : Sources) (r : Result (Unit {0}) Error) (o : Outcome) (old new : Option (List ℕ))
     → t ≡ read.template → d ≡ read.«data» → ps ≡ read.partials
     → IfSome known (λ files. wanted files ≡ Ok read) → (is_refused r ≡ false → IsPageWritten (record { template = t; «data» = d; partials = ps }) r old new)
     → MatchResult r (λ u. o ≡ Done) (λ e. o ≡ Fault e) → IfSome known (λ files. EndsCall (wanted files) o old new)
-lent_ended known wanted read t d ps r o old new ts ds pss is written told = left_ended known wanted read r o old new is (λ q.
+borrowed_ended known wanted read t d ps r o old new ts ds pss is written told = left_ended known wanted read r o old new is (λ q.
     (subst (λ x. IsPageWritten (record { template = x; «data» = read.«data»; partials = read.partials }) r old new) ts
     (subst (λ x. IsPageWritten (record { template = t; «data» = x; partials = read.partials }) r old new) ds
     (subst (λ x. IsPageWritten (record { template = t; «data» = d; partials = x }) r old new) pss (written q))))) told

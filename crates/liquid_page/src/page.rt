@@ -5,7 +5,7 @@ ghost use Rattle.liquid_page.specs.Files.{ReadableFiles, EndsCall, Finds, Leaves
 ghost use Rattle.liquid_page.specs.Files.{sources_from, file_text};
 ghost use Rattle.liquid_page.specs.Files.{texts_at, called_texts};
 ghost use Rattle.liquid_page.specs.Read.{IsTextOf, page_texts_view};
-ghost use Rattle.liquid_page.specs.Words.{call_view, lent};
+ghost use Rattle.liquid_page.specs.Words.{call_view, borrowed_pair};
 ghost use Rattle.liquid_page.specs.Written.{IsBegun, IsPageWritten};
 ghost use Rattle.liquid_page_texts.specs.Page.{sources_of};
 
@@ -146,7 +146,7 @@ fn read_partials<T: Texts>(
     texts: &mut T,
 ) -> std::result::Result<Vec<(String, String)>, Outcome>
     ensures { IfSome (T.known texts.old) (λ files. Finds (λ v. sources_of v.items)
-        (sources_from files (map lent partials.now) []) result) }
+        (sources_from files (map borrowed_pair partials.now) []) result) }
 {
     let mut sources = Vec::new(alloc);
     for (name, path) in partials {

@@ -46,7 +46,7 @@ fn called<'d>(alloc: Global, state: &mut State<'d>, step: &'d Value) -> Result<V
 fn looped<'d>(state: &mut State<'d>, step: &'d Value) -> Result<Value> {
     nil(state.push_frame(LoopFrame {
         name: text_member(step, 1),
-        items: Items::Lent(items_member(step, 2)),
+        items: Items::Borrowed(items_member(step, 2)),
         from: 0,
         count: 1,
         reversed: false,

@@ -33,11 +33,11 @@ pub(crate) fn hosted_pages<R: Print>(
     row: &WorkedRow,
     host: &HostFilters,
 ) -> Result<()> {
-    let lent = match option(&row.on, "lacks_filters") {
+    let given = match option(&row.on, "lacks_filters") {
         Some(_) => None,
         None => Some(host),
     };
-    pages_made(told, row, Object::new(told.alloc), lent)
+    pages_made(told, row, Object::new(told.alloc), given)
 }
 
 /// Calls the filters of the host. Each step is a list: the call, the filter's name, the input, the

@@ -264,7 +264,7 @@ fn then_ending(answer: &Result<String>, step: &Value) -> &'static str {
     otherwise
 }
 
-/// The page over lent data, with its fault beside its text.
+/// The page over borrowed data, with its fault beside its text.
 fn page_rendered<R: Print>(told: &Told<'_, R>, given: &Given<'_>) {
     let Value::Object(data) = given.data else {
         return;

@@ -10,6 +10,6 @@ returns c local =
     let item = c.args.item.now in
     let e : 0 + item.at ≡ item.at = omega arith in
     let bound = loop_scope (codes "forloop") (forloop_object item.at item.source.now.count nil) in
-    ap (λ k. bound c.as_str.result.now (item_of c.lent.result k)) e
-    ∙ ap (λ name. bound name (item_of c.lent.result item.at)) c.as_str.ensures.value
-    ∙ ap (λ of. bound (string_bytes item.each.now.variable) (of item.at)) c.lent.ensures
+    ap (λ k. bound c.as_str.result.now (item_of c.borrowed_items.result k)) e
+    ∙ ap (λ name. bound name (item_of c.borrowed_items.result item.at)) c.as_str.ensures.value
+    ∙ ap (λ of. bound (string_bytes item.each.now.variable) (of item.at)) c.borrowed_items.ensures
