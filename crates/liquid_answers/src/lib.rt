@@ -7,9 +7,9 @@ mod asked;
 mod filter;
 mod json;
 mod lacking;
-mod page;
+mod answered_page;
 
 pub use answers::{Answer, Answers};
 pub use json::json_of;
 pub use lacking::Lacking;
-pub use page::{Answered, render_page_answered};
+pub use answered_page::{Answered, render_page_answered};

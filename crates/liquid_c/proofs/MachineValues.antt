@@ -30,7 +30,7 @@ use Rattle.std.proofs.ResultValues.{and_tt}
 use Rattle.liquid_c.specs.Owned.{owned}
 use Rattle.liquid_c.specs.declared.held.Held.{Held}
 use Rattle.liquid_c.specs.contracts.held.Held as held
-use Rattle.liquid_c.specs.contracts.kept.Kept as kept
+use Rattle.liquid_c.specs.contracts.raw_box.Kept as kept
 use Rattle.liquid_c.specs.contracts.handle.Handle as handle
 
 abbrev pub Z : RattleType

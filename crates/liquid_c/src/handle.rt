@@ -6,7 +6,7 @@ ghost use Rattle.liquid_c.specs.Shared.{Regained};
 ghost use Rattle.liquid_c.specs.declared.held.Held.{Held};
 
 use crate::held::{Held, regain};
-use crate::kept::Kept;
+use crate::raw_box::Kept;
 use std::alloc::Global;
 use std::marker::Model;
 use std::mem;

@@ -3,7 +3,7 @@ ghost use Rattle.std.specs.Prelude.{◌≡◌, ◌≤◌, IfErr, IfOk, length};
 
 use crate::findings::MOST_FINDINGS;
 use crate::html_place::HtmlPlace;
-use crate::part::past_piece;
+use crate::faulty_piece::past_piece;
 use liquid_core::{ErrorKind, Expression, Location, Result};
 use liquid_language::Language;
 use liquid_lexer::{

@@ -8,7 +8,7 @@ mod findings;
 mod html_place;
 mod left_over;
 mod otherwise;
-mod part;
+mod faulty_piece;
 
 pub use asked::{Asked, asked_paths};
 pub use attributes::unescaped_attributes;

@@ -3,26 +3,26 @@
 mod blocks;
 mod characters;
 mod filters;
-mod habits;
-mod items;
+mod foreign_syntax;
+mod misplaced_items;
 mod names;
 mod near;
 mod numbers;
 mod outline;
 mod parentheses;
 mod phrasing;
-mod unread;
+mod malformed_piece;
 mod wanted;
 
 use crate::language::Language;
 use blocks::{missing_end, unknown_tag};
 use filters::{miscounted, unknown_filter};
-use items::misplaced;
+use misplaced_items::misplaced;
 use liquid_lexer::{Fault, FaultKind, PlacedPiece, placed_piece};
 use outline::{Outline, outline_at};
 use phrasing::{Phrasing, message_of};
 use std::alloc::{AllocError, Global};
-use unread::unread;
+use malformed_piece::unread;
 
 /// What the message says of a fault.
 #[derive(Drop)]

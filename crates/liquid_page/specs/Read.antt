@@ -3,9 +3,9 @@ use Rattle.std.specs.Prelude.{◌≡◌, Option, Some, None, Result, Ok, Err, �
 use Rattle.std.specs.declared.alloc.Global.{Global}
 use Rattle.liquid_model.specs.Texts.{Text}
 use Rattle.liquid_page_texts.specs.Page.{PageTexts, sources_of}
-use Rattle.liquid_page.specs.declared.page.ReadFiles.{ReadFiles}
-use Rattle.liquid_page.specs.declared.page.Unreadable.{Unreadable}
-use Rattle.liquid_page.specs.declared.page.Unreadable.TheVariants.{Memory, File}
+use Rattle.liquid_page.specs.declared.page_from_files.ReadFiles.{ReadFiles}
+use Rattle.liquid_page.specs.declared.page_from_files.Unreadable.{Unreadable}
+use Rattle.liquid_page.specs.declared.page_from_files.Unreadable.TheVariants.{Memory, File}
 
 -- a file's text, or that it has none, unless memory ran out
 abbrev pub IsTextOf : Option Text → Result (String Global) Unreadable → Type 0

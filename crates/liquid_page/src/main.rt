@@ -3,11 +3,11 @@
 
 mod buffered;
 mod outcome;
-mod page;
+mod page_from_files;
 mod words;
 
 use crate::outcome::Outcome;
-use crate::page::{ReadFiles, Texts, Unreadable, page};
+use crate::page_from_files::{ReadFiles, Texts, Unreadable, page};
 use liquid_excerpts::{Excerpt, Reason};
 pub use liquid_page_texts::{data_from_json, run};
 use std::alloc::AllocError;

@@ -7,10 +7,10 @@ mod head;
 mod lines;
 mod record;
 mod records;
-mod rows;
+mod csv_rows;
 
 pub use head::{HeadFault, column_names};
 pub use lines::Lines;
 pub use record::{RowFault, record_of};
 pub use records::{RecordData, RecordFault, RecordReading, Records};
-pub use rows::{HeadStop, Rows};
+pub use csv_rows::{HeadStop, Rows};

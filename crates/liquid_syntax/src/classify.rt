@@ -11,14 +11,14 @@ ghost use Rattle.liquid_syntax.specs.Classification.{raw_statement, reads, tag_s
 ghost use Rattle.liquid_language.specs.Roles.{role_of};
 
 mod blocks;
-mod leaves;
+mod leaf_tags;
 mod tags;
 
 use crate::build::Statement;
 use crate::chain_items::{expected_before, read_chain};
 use crate::node::Node;
 use blocks::{read_block, read_control};
-use leaves::read_leaf;
+use leaf_tags::read_leaf;
 use liquid_language::{BlockContext, Language, Role, role_of, unread_body};
 use liquid_lexer::{Body, Expectation, Fault, FaultKind, Item, ParseError, Piece};
 use std::alloc::Global;

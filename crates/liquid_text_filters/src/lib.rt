@@ -3,5 +3,5 @@
 
 mod argument;
 pub mod laws;
-mod part;
+mod text_parts;
 pub mod stdlib;

@@ -1,7 +1,7 @@
 //! Numbers that aren't whole.
 use super::characters::{ends_value, is_digit, is_sign};
-use super::habits::{FaultSite, Spot, site_of};
-use super::items::front_before;
+use super::foreign_syntax::{FaultSite, Spot, site_of};
+use super::misplaced_items::front_before;
 use super::phrasing::Phrasing;
 use liquid_lexer::PlacedPiece;
 

@@ -1,8 +1,8 @@
 //! Parentheses that hold no range: calls, lists and conditions of other languages.
 use super::characters::{is_digit, is_letter};
 use super::filters::{meant_elsewhere, meant_here};
-use super::habits::{FaultSite, Spot};
-use super::items::{front_before, spelling_before};
+use super::foreign_syntax::{FaultSite, Spot};
+use super::misplaced_items::{front_before, spelling_before};
 use super::phrasing::Phrasing;
 use crate::language::Language;
 use liquid_lexer::PlacedPiece;

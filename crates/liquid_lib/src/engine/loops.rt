@@ -19,7 +19,7 @@ ghost use Rattle.liquid_lib.specs.Performs.{Performs, configuration_of};
 use super::run_range;
 use crate::context::RunContext;
 use crate::counted::CountedWrite;
-use crate::loop_turns::{for_frame, row_frame, takes_break};
+use crate::loop_setup::{for_frame, row_frame, takes_break};
 use crate::output::Output;
 use crate::stdlib::Row;
 use liquid_core::{NamedFilters, Result, State};
