@@ -1,12 +1,12 @@
 //! Languages, partials and data.
 ghost use Rattle.std.specs.Prelude.{◌≡◌, None};
 ghost use Rattle.liquid_c.specs.Calls.{AreNoPartials, IsData, IsLanguage};
-ghost use Rattle.liquid_c.specs.Settled.{Settled};
+ghost use Rattle.liquid_c.specs.ResultStored.{ResultStored};
 
 use crate::content::Content;
 use crate::handle::Handle;
 use crate::levels::TemplateLevels;
-use crate::refusal::{Refusal, settle};
+use crate::refusal::{Refusal, store_result};
 use liquid_json::data_from_json;
 use liquid_lib::{Partials, language};
 use std::alloc::Global;
@@ -14,9 +14,9 @@ use std::alloc::Global;
 /// Makes the standard language. 0, or `Memory`.
 #[unsafe(no_mangle)]
 pub extern "C" fn bikleinu_language(alloc: Global, made: &mut Handle) -> u32
-    ensures { Settled IsLanguage result made.new.held }
+    ensures { ResultStored IsLanguage result made.new.held }
 {
-    settle(alloc, standard(alloc), made)
+    store_result(alloc, standard(alloc), made)
 }
 
 fn standard(alloc: Global) -> Result<Content, Refusal>
@@ -31,9 +31,9 @@ fn standard(alloc: Global) -> Result<Content, Refusal>
 /// Makes partials, of which there are none yet. 0, or `Memory`.
 #[unsafe(no_mangle)]
 pub extern "C" fn bikleinu_partials(alloc: Global, made: &mut Handle) -> u32
-    ensures { Settled AreNoPartials result made.new.held }
+    ensures { ResultStored AreNoPartials result made.new.held }
 {
-    settle(alloc, no_partials(alloc), made)
+    store_result(alloc, no_partials(alloc), made)
 }
 
 fn no_partials(alloc: Global) -> Result<Content, Refusal>
@@ -46,9 +46,9 @@ fn no_partials(alloc: Global) -> Result<Content, Refusal>
 /// `InvalidInput`, `Float` or `Memory`.
 #[unsafe(no_mangle)]
 pub extern "C" fn bikleinu_data(alloc: Global, json: &[u8], made: &mut Handle) -> u32
-    ensures { Settled (IsData json.now) result made.new.held }
+    ensures { ResultStored (IsData json.now) result made.new.held }
 {
-    settle(alloc, data(alloc, json), made)
+    store_result(alloc, data(alloc, json), made)
 }
 
 fn data(alloc: Global, json: &[u8]) -> Result<Content, Refusal>

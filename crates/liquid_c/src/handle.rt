@@ -6,7 +6,7 @@ ghost use Rattle.liquid_c.specs.Shared.{Regained};
 ghost use Rattle.liquid_c.specs.declared.held.Held.{Held};
 
 use crate::held::{Held, regain};
-use crate::raw_box::Kept;
+use crate::raw_box::RawBox;
 use std::alloc::Global;
 use std::marker::Model;
 use std::mem;
@@ -41,13 +41,13 @@ impl Handle {
     pub(crate) fn of(held: Box<Held>) -> Handle
         ensures { result.held ≡ Some held.value }
     {
-        Handle::seal(Kept::of(held))
+        Handle::seal(RawBox::of(held))
     }
 
-    fn seal(held: Kept<Held, Global>) -> Handle
+    fn seal(held: RawBox<Held, Global>) -> Handle
         ensures { result.held ≡ Some held.value }
     {
-        let Kept { ptr, alloc } = held;
+        let RawBox { ptr, alloc } = held;
         Handle {
             there: true,
             at: ptr as *mut (),
@@ -55,12 +55,12 @@ impl Handle {
         }
     }
 
-    fn unseal(self) -> Option<Kept<Held, Global>>
+    fn unseal(self) -> Option<RawBox<Held, Global>>
         ensures { option_map (λ k. k.value) result ≡ self.held }
     {
         let Handle { there, at, alloc } = self;
         if there {
-            Some(Kept {
+            Some(RawBox {
                 ptr: at as *mut Held,
                 alloc,
             })

@@ -4,13 +4,13 @@ ghost use Rattle.liquid_core.specs.Held.{held as map_held};
 ghost use Rattle.liquid_syntax.specs.Templates.{partials_of, tree_of};
 ghost use Rattle.liquid_c.specs.Calls.{OfBoth, bound_of};
 ghost use Rattle.liquid_c.specs.Hosted.{IsHosted, ShowsAnswered, ShowsUnlessDeep};
-ghost use Rattle.liquid_c.specs.Settled.{Settled};
+ghost use Rattle.liquid_c.specs.ResultStored.{ResultStored};
 ghost use Rattle.liquid_c.specs.Shared.{shared_content};
 
 use crate::content::Content;
 use crate::handle::Handle;
 use crate::held::seen;
-use crate::refusal::{Refusal, settle};
+use crate::refusal::{Refusal, store_result};
 use crate::render::{
     Allowed, RenderLimits, allowed_by, data_held, empty_data, levels_held, limits_of, partials_held,
 };
@@ -33,7 +33,7 @@ pub extern "C" fn bikleinu_render_with(
     answers: &mut Handle,
     made: &mut Handle,
 ) -> u32
-    ensures rendered { Settled (IsHosted (bound_of limits.now.levels)
+    ensures rendered { ResultStored (IsHosted (bound_of limits.now.levels)
         (shared_content template.old.held)
         (shared_content «data».old.held) (shared_content partials.old.held) depth
         (shared_content answers.old.held))
@@ -62,7 +62,7 @@ pub extern "C" fn bikleinu_render_with(
     data.put(alloc, held_data);
     partials.put(alloc, held_partials);
     answers.put(alloc, held_answers);
-    settle(alloc, answer, made)
+    store_result(alloc, answer, made)
 }
 
 /// What lies behind the handles of a call.

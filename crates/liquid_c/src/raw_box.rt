@@ -6,32 +6,32 @@ use std::alloc::Allocator;
 use std::marker::Model;
 
 /// What a box owned, at its pointer.
-pub(crate) struct Kept<T, A: Allocator> {
+pub(crate) struct RawBox<T, A: Allocator> {
     pub(crate) ptr: *mut T,
     pub(crate) alloc: A,
     pub(crate) ghost value: { T },
 }
 
-impl<T, A: Allocator> Model for Kept<T, A> {
+impl<T, A: Allocator> Model for RawBox<T, A> {
     ghost also_owns = { λ p. box_owns (A.dealloc_token p.alloc) T.row p.ptr p.value };
 }
 
-impl<T, A: Allocator> Kept<T, A> {
+impl<T, A: Allocator> RawBox<T, A> {
     /// Takes a box apart.
-    pub(crate) fn of(b: Box<T, A>) -> Kept<T, A>
+    pub(crate) fn of(b: Box<T, A>) -> RawBox<T, A>
     where
         T: Drop,
         ensures { result.value ≡ b.value }
     {
         let (ptr, alloc) = Box::into_raw_with_allocator(b);
-        Kept { ptr, alloc }
+        RawBox { ptr, alloc }
     }
 
     /// The box again.
     pub(crate) fn into_box(self) -> Box<T, A>
         ensures { result.value ≡ self.value }
     {
-        let Kept { ptr, alloc } = self;
+        let RawBox { ptr, alloc } = self;
         unsafe { Box::from_raw(alloc, ptr) }
     }
 }

@@ -2,7 +2,7 @@
 ghost use Rattle.std.specs.Prelude.{◌≡◌, IfErr, IfOk, option_map};
 ghost use Rattle.liquid_c.specs.Languages.{IsRegistration, MakesIncludeAndSort, RegistersFilter};
 ghost use Rattle.liquid_c.specs.Languages.{WithIncludeAndSort};
-ghost use Rattle.liquid_c.specs.Settled.{Settled};
+ghost use Rattle.liquid_c.specs.ResultStored.{ResultStored};
 ghost use Rattle.liquid_c.specs.Shared.{Regaining};
 ghost use Rattle.std.specs.Prelude.{Some};
 ghost use Rattle.liquid_c.specs.declared.content.Content.TheVariants as content;
@@ -11,7 +11,7 @@ ghost use Rattle.liquid_c.specs.declared.held.Held.TheVariants.{Own};
 use crate::content::Content;
 use crate::handle::Handle;
 use crate::held::Held;
-use crate::refusal::{Refusal, settle};
+use crate::refusal::{Refusal, store_result};
 use liquid_core::{ErrorKind, Result as Answer};
 use liquid_lib::{FilterKind, Language, jekyll, language};
 use liquid_syntax::TagKind;
@@ -20,9 +20,9 @@ use std::alloc::Global;
 /// Makes Jekyll's language: the standard one with Jekyll's `include` and `sort`. 0, or `Memory`.
 #[unsafe(no_mangle)]
 pub extern "C" fn bikleinu_jekyll_language(alloc: Global, made: &mut Handle) -> u32
-    ensures { Settled MakesIncludeAndSort result made.new.held }
+    ensures { ResultStored MakesIncludeAndSort result made.new.held }
 {
-    settle(alloc, include_and_sort(alloc), made)
+    store_result(alloc, include_and_sort(alloc), made)
 }
 
 fn include_and_sort(alloc: Global) -> Result<Content, Refusal>

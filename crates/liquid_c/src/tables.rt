@@ -1,6 +1,6 @@
 //! Tables of answers to calls of the caller's filters.
 ghost use Rattle.std.specs.Prelude.{◌≡◌, Some, option_map};
-ghost use Rattle.liquid_c.specs.Settled.{Settled};
+ghost use Rattle.liquid_c.specs.ResultStored.{ResultStored};
 ghost use Rattle.liquid_c.specs.Shared.{Regaining};
 ghost use Rattle.liquid_c.specs.Tables.{ChangesTable, HasName, IsNaming, IsNewTable};
 ghost use Rattle.liquid_c.specs.declared.content.Content.TheVariants as content;
@@ -9,7 +9,7 @@ ghost use Rattle.liquid_c.specs.declared.held.Held.TheVariants.{Own};
 use crate::content::Content;
 use crate::handle::Handle;
 use crate::held::Held;
-use crate::refusal::{Refusal, settle};
+use crate::refusal::{Refusal, store_result};
 use liquid_answers::Answers;
 use liquid_core::ErrorKind;
 use std::alloc::Global;
@@ -17,9 +17,9 @@ use std::alloc::Global;
 /// Makes a table without names of filters and without answers. 0, or `Memory`.
 #[unsafe(no_mangle)]
 pub extern "C" fn bikleinu_answers(alloc: Global, made: &mut Handle) -> u32
-    ensures { Settled IsNewTable result made.new.held }
+    ensures { ResultStored IsNewTable result made.new.held }
 {
-    settle(alloc, new_table(alloc), made)
+    store_result(alloc, new_table(alloc), made)
 }
 
 fn new_table(alloc: Global) -> Result<Content, Refusal>

@@ -94,7 +94,7 @@ fn given_state<'d>(alloc: Global, names: Given<'d>) -> Result<State<'d>>
         (new_environment (given_map names.entry)) }
 {
     match names {
-        Given::Names(names) => own_state(alloc, names),
+        Given::Names(names) => isolated_state(alloc, names),
         Given::Lent(name, value) => lent_state(alloc, name, value),
     }
 }
@@ -151,7 +151,7 @@ pub(crate) fn left_by(answer: Result<()>, own: &State<'_>) -> Result<Option<Inte
 
 /// A state that holds these names alone.
 #[inline(never)]
-fn own_state<'d>(alloc: Global, names: Object) -> Result<State<'d>>
+fn isolated_state<'d>(alloc: Global, names: Object) -> Result<State<'d>>
     ensures { IsValueOrMemory environment_of result (new_environment (held names)) }
 {
     let mut own = State::alone(alloc, BTreeMap::new(alloc));
@@ -169,7 +169,7 @@ fn state_at<'d>(alloc: Global, names: Object, item: &EachItem<'d>) -> Result<Sta
     ensures { IsValueOrMemory environment_of result
         (new_environment (merged (item_scope item.now) (held names))) }
 {
-    let mut own = own_state(alloc, names)?;
+    let mut own = isolated_state(alloc, names)?;
     if let Err(fault) = own.push_frame(frame_at(item)) {
         drop(own);
         return Err(fault);

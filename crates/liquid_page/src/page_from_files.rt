@@ -14,13 +14,13 @@ use crate::outcome::Outcome;
 use crate::words::{CommandLine, call_of};
 use liquid_core::{Error, ErrorKind, Origin, Result};
 use liquid_lib::Counted;
-use liquid_page_texts::run_last;
+use liquid_page_texts::run_without_cleanup;
 use std::alloc::{AllocError, Global};
 use std::io::Write;
 
 /// Why a file has no text.
 #[derive(Clone, Copy, Debug, Drop)]
-pub enum Unreadable {
+pub enum ReadError {
     /// No memory was to be had.
     Memory,
     /// It can't be read, or isn't UTF-8.
@@ -33,7 +33,7 @@ pub trait Texts {
     ghost known: { Self → Option ReadableFiles } = { λ _. None };
 
     /// The text of the file at a path.
-    fn text_at(&mut self, path: &str) -> std::result::Result<String, Unreadable>
+    fn text_at(&mut self, path: &str) -> std::result::Result<String, ReadError>
         ensures text { IfSome (known self.old) (λ files. IsTextOf (files path.now) result) }
         ensures same { known self.new ≡ known self.old };
 }
@@ -171,8 +171,8 @@ fn text_of<T: Texts>(
 {
     match texts.text_at(path) {
         Ok(text) => Ok(text),
-        Err(Unreadable::Memory) => Err(Outcome::from(AllocError)),
-        Err(Unreadable::File) => Err(Outcome::Unread(String::from_str(alloc, path)?)),
+        Err(ReadError::Memory) => Err(Outcome::from(AllocError)),
+        Err(ReadError::File) => Err(Outcome::Unreadable(String::from_str(alloc, path)?)),
     }
 }
 
@@ -205,7 +205,7 @@ pub fn write_page<W: Write + Drop>(
         Err(writer) => return (writer, Err(Error::from(AllocError))),
     };
     let mut counted = Counted::new(buffered);
-    let answer = run_last(alloc, template, data, partials, &mut counted);
+    let answer = run_without_cleanup(alloc, template, data, partials, &mut counted);
     let mut buffered = counted.into_inner();
     let flushed = match &answer {
         Ok(()) => buffered.flush(),

@@ -6,4 +6,4 @@ mod page_from_texts;
 
 pub use laws::page_law;
 pub use liquid_json::data_from_json;
-pub use page_from_texts::{run, run_last};
+pub use page_from_texts::{run, run_without_cleanup};

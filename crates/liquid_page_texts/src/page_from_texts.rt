@@ -13,7 +13,7 @@ ghost use Rattle.liquid_page_texts.specs.Shown.{ShowsStandard, page_inputs_view}
 use liquid_core::{Error, ErrorKind, Object, Result};
 use liquid_json::{data_for, data_from_json};
 use liquid_lib::{CountedWrite, DEFAULT_DEPTH, Renderable, RuntimeBuilder, language};
-use liquid_syntax::{Language, Partials, Template, parse_kept};
+use liquid_syntax::{Language, Partials, Template, parse_with_source};
 use liquid_uses::uses_of;
 use std::alloc::Global;
 use std::mem;
@@ -24,9 +24,9 @@ const BYTES_FOR_A_NODE: usize = 4096;
 /// What becomes of what was read, after the page: to take large data apart is a tenth of the work
 /// of a page and more.
 #[derive(Clone, Copy, Drop)]
-enum Afterwards {
-    Freed,
-    Kept,
+enum Cleanup {
+    Free,
+    Skip,
 }
 
 /// The texts of a page, read.
@@ -69,12 +69,12 @@ pub fn run<W: CountedWrite>(
 {
     let language = language(alloc)?;
     let read = read_texts(alloc, &language, template, data, partials)?;
-    render_texts(alloc, read, writer, Afterwards::Freed)
+    render_texts(alloc, read, writer, Cleanup::Free)
 }
 
 /// As `run`, for a program that ends after it: what was read isn't taken apart, so its memory
 /// stays until the process ends.
-pub fn run_last<W: CountedWrite>(
+pub fn run_without_cleanup<W: CountedWrite>(
     alloc: Global,
     template: &str,
     data: &str,
@@ -96,7 +96,7 @@ pub fn run_last<W: CountedWrite>(
 {
     let language = language(alloc)?;
     let read = read_texts(alloc, &language, template, data, partials)?;
-    render_texts(alloc, read, writer, Afterwards::Kept)
+    render_texts(alloc, read, writer, Cleanup::Skip)
 }
 
 /// The template's fault comes first, then the data's, then that of a partial. The partials are
@@ -114,7 +114,7 @@ fn read_texts(
       partials = sources_of partials.now;
     }) result }
 {
-    let template = parse_kept(alloc, template, language)?;
+    let template = parse_with_source(alloc, template, language)?;
     match read_partials(alloc, language, partials) {
         Ok(partials) => {
             let data = read_seen(alloc, data, &template, &partials)?;
@@ -179,7 +179,7 @@ fn read_partial(alloc: Global, language: &Language, name: &str, source: &str) ->
     ensures parses { ParsesTo language.now source.now result }
     ensures kinds { IfErr result (λ e. MayRefuse e.kind) }
 {
-    match parse_kept(alloc, source, language) {
+    match parse_with_source(alloc, source, language) {
         Ok(template) => Ok(template),
         Err(error) => Err(error.in_partial(alloc, name)),
     }
@@ -190,7 +190,7 @@ fn render_texts<W: CountedWrite>(
     alloc: Global,
     read: ReadTexts,
     writer: &mut W,
-    afterwards: Afterwards,
+    cleanup: Cleanup,
 ) -> Result<()>
     ensures whole { is_refused result ≡ false →
         Appends (W.contents writer.old) (W.contents writer.new)
@@ -216,16 +216,16 @@ fn render_texts<W: CountedWrite>(
         .set_depth(DEFAULT_DEPTH)
         .build(alloc);
     let answer = template.render_to(alloc, writer, &mut runtime);
-    leave(runtime, afterwards);
-    leave(template, afterwards);
-    leave(partials, afterwards);
+    clean_up(runtime, cleanup);
+    clean_up(template, cleanup);
+    clean_up(partials, cleanup);
     answer
 }
 
 /// Frees what isn't needed any more, or keeps it to the end of the program.
-fn leave<T: Drop>(read: T, afterwards: Afterwards) {
-    match afterwards {
-        Afterwards::Freed => drop(read),
-        Afterwards::Kept => mem::forget(read),
+fn clean_up<T: Drop>(read: T, cleanup: Cleanup) {
+    match cleanup {
+        Cleanup::Free => drop(read),
+        Cleanup::Skip => mem::forget(read),
     }
 }

@@ -26,7 +26,7 @@ pub struct Rows<R> {
 #[derive(Drop)]
 pub enum HeadStop {
     /// The file can't be read.
-    Unread(io::ErrorKind),
+    Unreadable(io::ErrorKind),
     /// Its first row names no columns.
     Faulted(HeadFault),
     /// Memory ran out.
@@ -56,7 +56,7 @@ impl<R: Read + Drop> Rows<R> {
             row: ByteRecord::new(alloc),
         };
         if let Err(refused) = rows.advance() {
-            return Err(HeadStop::Unread(refused.kind()));
+            return Err(HeadStop::Unreadable(refused.kind()));
         }
         match column_names(alloc, &rows.row)? {
             Ok(names) => rows.names = names,

@@ -25,8 +25,8 @@ pub(crate) fn end_body(nodes: &mut Vec<Node>, block: Open)
     match block.stage {
         Stage::First => end_before_last(&mut nodes[block.node_index], end),
         Stage::Last => {}
-        Stage::Unkept => nodes.truncate(block.node_index + 1),
-        Stage::Armed => end_before_last(&mut nodes[block.node_index], end),
+        Stage::CaseHead => nodes.truncate(block.node_index + 1),
+        Stage::WhenBody => end_before_last(&mut nodes[block.node_index], end),
     }
 }
 

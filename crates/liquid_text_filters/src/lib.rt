@@ -3,5 +3,5 @@
 
 mod argument;
 pub mod laws;
-mod text_parts;
 pub mod stdlib;
+mod text_parts;

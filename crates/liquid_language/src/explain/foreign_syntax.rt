@@ -13,7 +13,7 @@ use tags::{ASSIGN, ELSE, LOOP, NAME, OTHER, PARTIAL, SETTING, TAG};
 
 /// What kind of piece a fault is in.
 #[derive(Clone, Copy)]
-pub enum FaultSite {
+pub enum PieceContext {
     Output,
     /// A tag, where its name is wanted.
     Name,
@@ -31,9 +31,9 @@ pub enum FaultSite {
 
 /// Where a fault is, and what stands around it.
 #[derive(Clone, Copy)]
-pub struct Spot<'s> {
+pub struct ErrorSite<'s> {
     pub kind: Delimiter,
-    pub site: FaultSite,
+    pub context: PieceContext,
     /// What is wanted at it.
     pub wanted: Expectation,
     /// The item before it, or `^` where there is none.
@@ -49,57 +49,57 @@ pub struct Spot<'s> {
 }
 
 /// What the message says of a habit, where one is met.
-pub fn advice(spot: &Spot<'_>) -> Option<&'static str> {
-    match spot.site {
-        FaultSite::Name => first_of(NAME, spot),
-        FaultSite::Output => of_output(spot).or(of_any_piece(spot)),
-        _ => first_of(TAG, spot).or(of_tag(spot)).or(of_any_piece(spot)),
+pub fn advice(site: &ErrorSite<'_>) -> Option<&'static str> {
+    match site.context {
+        PieceContext::Name => first_of(NAME, site),
+        PieceContext::Output => of_output(site).or(of_any_piece(site)),
+        _ => first_of(TAG, site).or(of_tag(site)).or(of_any_piece(site)),
     }
 }
 
-fn of_output(spot: &Spot<'_>) -> Option<&'static str> {
-    of_map(spot).or(first_of(OUTPUT, spot)).or(of_value(spot))
+fn of_output(site: &ErrorSite<'_>) -> Option<&'static str> {
+    of_map(site).or(first_of(OUTPUT, site)).or(of_value(site))
 }
 
-fn of_assign(spot: &Spot<'_>) -> Option<&'static str> {
-    let phrasing = first_of(ASSIGN, spot);
-    if spot.count < 2 {
-        phrasing.or(first_of(SETTING, spot))
+fn of_assign(site: &ErrorSite<'_>) -> Option<&'static str> {
+    let phrasing = first_of(ASSIGN, site);
+    if site.count < 2 {
+        phrasing.or(first_of(SETTING, site))
     } else {
-        phrasing.or(of_value(spot))
+        phrasing.or(of_value(site))
     }
 }
 
-fn of_tag(spot: &Spot<'_>) -> Option<&'static str> {
-    match spot.site {
-        FaultSite::Else => first_of(ELSE, spot),
-        FaultSite::Condition => first_of(CONDITION, spot),
-        FaultSite::Assign => of_assign(spot),
-        FaultSite::Loop => first_of(LOOP, spot),
-        FaultSite::Partial => first_of(PARTIAL, spot),
-        FaultSite::Tag => first_of(OTHER, spot),
-        FaultSite::Name | FaultSite::Output => None,
+fn of_tag(site: &ErrorSite<'_>) -> Option<&'static str> {
+    match site.context {
+        PieceContext::Else => first_of(ELSE, site),
+        PieceContext::Condition => first_of(CONDITION, site),
+        PieceContext::Assign => of_assign(site),
+        PieceContext::Loop => first_of(LOOP, site),
+        PieceContext::Partial => first_of(PARTIAL, site),
+        PieceContext::Tag => first_of(OTHER, site),
+        PieceContext::Name | PieceContext::Output => None,
     }
 }
 
-fn of_any_piece(spot: &Spot<'_>) -> Option<&'static str> {
-    of_sum(spot).or(first_of(ANYWHERE, spot)).or(of_step(spot))
+fn of_any_piece(site: &ErrorSite<'_>) -> Option<&'static str> {
+    of_sum(site).or(first_of(ANYWHERE, site)).or(of_step(site))
 }
 
-fn of_value(spot: &Spot<'_>) -> Option<&'static str> {
-    if spot.rest.starts_with(">") && spot.before.ends_with("-") {
+fn of_value(site: &ErrorSite<'_>) -> Option<&'static str> {
+    if site.rest.starts_with(">") && site.before.ends_with("-") {
         return Some("`a->b` is written `a.b`");
     }
-    if spot.rest.starts_with("(") && !spot.found.is_empty() {
+    if site.rest.starts_with("(") && !site.found.is_empty() {
         return Some("a range is no value; a loop goes over one, as `{% for i in (1..5) %}`");
     }
-    first_of(VALUE, spot)
+    first_of(VALUE, site)
 }
 
 /// A brace at the beginning of an output that begins a map, and no third brace.
-fn of_map(spot: &Spot<'_>) -> Option<&'static str> {
-    let inside = spot.rest.strip_prefix("{")?;
-    if spot.count > 0 {
+fn of_map(site: &ErrorSite<'_>) -> Option<&'static str> {
+    let inside = site.rest.strip_prefix("{")?;
+    if site.count > 0 {
         return None;
     }
     let end = inside.find('}').unwrap_or(inside.len());
@@ -112,20 +112,20 @@ fn of_map(spot: &Spot<'_>) -> Option<&'static str> {
 }
 
 /// A `+` beside a text, or a `%` after one.
-fn of_sum(spot: &Spot<'_>) -> Option<&'static str> {
-    let after = spot.rest.strip_prefix(['+', '%'])?;
-    let is_text = spot.before.starts_with(is_quote)
-        || spot.rest.starts_with("+") && after.trim_start().starts_with(is_quote);
-    if is_text && !matches!(spot.site, FaultSite::Condition) {
+fn of_sum(site: &ErrorSite<'_>) -> Option<&'static str> {
+    let after = site.rest.strip_prefix(['+', '%'])?;
+    let is_text = site.before.starts_with(is_quote)
+        || site.rest.starts_with("+") && after.trim_start().starts_with(is_quote);
+    if is_text && !matches!(site.context, PieceContext::Condition) {
         return Some("texts are joined by a filter, as `a | append: 'text'`");
     }
     None
 }
 
 /// What the message says of the first of these habits that fits, each on a line.
-fn first_of(habits: &'static str, spot: &Spot<'_>) -> Option<&'static str> {
+fn first_of(habits: &'static str, site: &ErrorSite<'_>) -> Option<&'static str> {
     for habit in habits.lines() {
-        if let Some(phrasing) = phrasing_of(habit, spot) {
+        if let Some(phrasing) = phrasing_of(habit, site) {
             return Some(phrasing);
         }
     }
@@ -135,10 +135,10 @@ fn first_of(habits: &'static str, spot: &Spot<'_>) -> Option<&'static str> {
 /// What the message says of a habit, where it fits: what stands before the fault (`^` for no item,
 /// empty for any), what stands at it (empty for anything), and what the message says, with a `¦`
 /// between them.
-fn phrasing_of(habit: &'static str, spot: &Spot<'_>) -> Option<&'static str> {
+fn phrasing_of(habit: &'static str, site: &ErrorSite<'_>) -> Option<&'static str> {
     let (before, after) = habit.split_once('¦')?;
     let (found, phrasing) = after.split_once('¦')?;
-    if (before.is_empty() || before == spot.before) && is_found(found, spot) {
+    if (before.is_empty() || before == site.before) && is_found(found, site) {
         return Some(phrasing);
     }
     None
@@ -146,28 +146,28 @@ fn phrasing_of(habit: &'static str, spot: &Spot<'_>) -> Option<&'static str> {
 
 /// Whether what a habit has at a fault stands there: all of the item that is found, and no
 /// beginning of a longer word.
-fn is_found(found: &str, spot: &Spot<'_>) -> bool {
+fn is_found(found: &str, site: &ErrorSite<'_>) -> bool {
     if found.is_empty() {
         return true;
     }
-    let Some(after) = spot.rest.strip_prefix(found) else {
+    let Some(after) = site.rest.strip_prefix(found) else {
         return false;
     };
     let is_cut = found.ends_with(is_letter) && after.starts_with(is_in_word);
-    found.len() >= spot.found.len() && !is_cut
+    found.len() >= site.found.len() && !is_cut
 }
 
 /// A `[` or a `.` that stands where no step of a name does.
-fn of_step(spot: &Spot<'_>) -> Option<&'static str> {
-    if spot.rest.starts_with("[") {
-        return match spot.before {
+fn of_step(site: &ErrorSite<'_>) -> Option<&'static str> {
+    if site.rest.starts_with("[") {
+        return match site.before {
             "^" | "=" | "in" | ":" | "," | "|" => Some(
                 "a list can't be written in a template; `'a,b' | split: ','` makes one",
             ),
             _ => Some("`[` follows a name directly, without white space"),
         };
     }
-    let after = spot.rest.strip_prefix(".")?;
+    let after = site.rest.strip_prefix(".")?;
     if after.starts_with("[") {
         return Some("`[` follows a name directly, without `.`");
     }
@@ -180,28 +180,28 @@ fn of_step(spot: &Spot<'_>) -> Option<&'static str> {
     if !after.starts_with(follows_dot) && !after.starts_with("}}") {
         return None;
     }
-    if spot.count == 0 && spot.at_item {
+    if site.count == 0 && site.at_item {
         return Some("a path begins with a name: `.a` is written `a`");
     }
     Some("`.` stands between two names, without white space")
 }
 
-/// The site of a piece.
-pub fn site_of(piece: &PlacedPiece<'_>) -> FaultSite {
+/// The context of a piece.
+pub fn context_of(piece: &PlacedPiece<'_>) -> PieceContext {
     match piece.kind {
-        Delimiter::Output => FaultSite::Output,
-        Delimiter::Tag => site_of_tag(piece.name),
+        Delimiter::Output => PieceContext::Output,
+        Delimiter::Tag => context_of_tag(piece.name),
     }
 }
 
-fn site_of_tag(name: &str) -> FaultSite {
+fn context_of_tag(name: &str) -> PieceContext {
     match name {
-        "" => FaultSite::Name,
-        "if" | "elsif" | "unless" => FaultSite::Condition,
-        "else" => FaultSite::Else,
-        "assign" => FaultSite::Assign,
-        "for" | "tablerow" => FaultSite::Loop,
-        "include" | "render" => FaultSite::Partial,
-        _ => FaultSite::Tag,
+        "" => PieceContext::Name,
+        "if" | "elsif" | "unless" => PieceContext::Condition,
+        "else" => PieceContext::Else,
+        "assign" => PieceContext::Assign,
+        "for" | "tablerow" => PieceContext::Loop,
+        "include" | "render" => PieceContext::Partial,
+        _ => PieceContext::Tag,
     }
 }

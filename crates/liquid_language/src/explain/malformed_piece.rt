@@ -1,8 +1,10 @@
 //! Faults of pieces that can't be read: of what stands where an item can't begin or go on, and of a
 //! source that ends inside one.
 use super::characters::{is_digit, is_letter, is_letter_beyond, is_quote};
-use super::foreign_syntax::{FaultSite, Spot, advice, site_of};
-use super::misplaced_items::{closer_of, closer_word, front_before, is_tag, not_wanted, spelling_before};
+use super::foreign_syntax::{ErrorSite, PieceContext, advice, context_of};
+use super::misplaced_items::{
+    closer_of, closer_word, front_before, is_tag, not_wanted, spelling_before,
+};
 use super::names::meant_tag;
 use super::numbers::{is_fraction, no_whole, number_front};
 use super::outline::Outline;
@@ -15,7 +17,7 @@ use liquid_lexer::{Delimiter, Expectation, Fault, FaultKind, PlacedPiece};
 static LITERALS: [&str; 4] = ["nil", "null", "true", "false"];
 
 /// Of a piece that can't be read.
-pub fn unread<'s>(
+pub fn malformed<'s>(
     language: &Language,
     fault: &Fault,
     outline: &Outline<'s>,
@@ -35,7 +37,7 @@ pub fn unread<'s>(
         };
         return Phrasing::quoting(outline.at, words, piece.name, piece.name);
     }
-    unread_item(language, fault, outline, piece)
+    malformed_item(language, fault, outline, piece)
 }
 
 /// What the message says of a tag that another language has, and whose items this one can't read.
@@ -47,7 +49,7 @@ fn foreign_tag(language: &Language, piece: &PlacedPiece<'_>) -> Option<&'static 
 }
 
 /// Of an item that can't be read.
-fn unread_item<'s>(
+fn malformed_item<'s>(
     language: &Language,
     fault: &Fault,
     outline: &Outline<'s>,
@@ -65,7 +67,7 @@ fn unread_item<'s>(
             let words = "`empty` and `blank` aren't known; compare with `''`, or `.size` with 0";
             Phrasing::plain(from, words)
         }
-        _ => unreadable(language, fault, outline, piece),
+        _ => bad_item(language, fault, outline, piece),
     }
 }
 
@@ -114,40 +116,40 @@ fn escapes_quote(piece: &PlacedPiece<'_>) -> bool {
 }
 
 /// Of a `BadItem`, or of a tag without a name.
-fn unreadable<'s>(
+fn bad_item<'s>(
     language: &Language,
     fault: &Fault,
     outline: &Outline<'s>,
     piece: &PlacedPiece<'s>,
 ) -> Phrasing<'s> {
-    let spot = spot_of(fault, outline.from, piece);
-    if let Some(phrasing) = in_parentheses(language, &spot, piece) {
+    let site = site_of(fault, outline.from, piece);
+    if let Some(phrasing) = in_parentheses(language, &site, piece) {
         return phrasing;
     }
-    if let Some(phrasing) = in_value(&spot, outline.at, piece) {
+    if let Some(phrasing) = in_value(&site, outline.at, piece) {
         return phrasing;
     }
-    if let Some(phrasing) = after_text(&spot, piece) {
+    if let Some(phrasing) = after_text(&site, piece) {
         return phrasing;
     }
-    if spot.before == "<" && spot.rest.starts_with("/") {
-        return before_html(&spot, outline.at);
+    if site.before == "<" && site.rest.starts_with("/") {
+        return before_html(&site, outline.at);
     }
-    match advice(&spot) {
-        Some(words) => Phrasing::plain(spot.rest, words),
-        None => with_opener(found_there(&spot), outline.at, spot.kind),
+    match advice(&site) {
+        Some(words) => Phrasing::plain(site.rest, words),
+        None => with_opener(found_there(&site), outline.at, site.kind),
     }
 }
 
 /// Of a piece in which a text holds the closer, so that the piece goes on after it.
-fn after_text<'s>(spot: &Spot<'s>, piece: &PlacedPiece<'s>) -> Option<Phrasing<'s>> {
-    let closer = closer_word(spot.kind);
+fn after_text<'s>(site: &ErrorSite<'s>, piece: &PlacedPiece<'s>) -> Option<Phrasing<'s>> {
+    let closer = closer_word(site.kind);
     for placed in &piece.items {
         if placed.spelling.starts_with(is_quote) && placed.spelling.contains(closer) {
             let words = "found `…`; the text of § holds `¤`: is its closing quote missing?";
             return Some(Phrasing {
                 other: placed.from,
-                ..Phrasing::quoting(spot.rest, words, first_word(spot.rest, spot.kind), closer)
+                ..Phrasing::quoting(site.rest, words, first_word(site.rest, site.kind), closer)
             });
         }
     }
@@ -155,25 +157,25 @@ fn after_text<'s>(spot: &Spot<'s>, piece: &PlacedPiece<'s>) -> Option<Phrasing<'
 }
 
 /// Of an end of HTML before the closer.
-fn before_html<'s>(spot: &Spot<'s>, at: &'s str) -> Phrasing<'s> {
+fn before_html<'s>(site: &ErrorSite<'s>, at: &'s str) -> Phrasing<'s> {
     let words = "`</` is of HTML, and the `¤` of § has no `¤`";
     Phrasing {
         other: at,
         ..Phrasing::quoting(
-            spot.rest,
+            site.rest,
             words,
-            opener_word(spot.kind),
-            closer_word(spot.kind),
+            opener_word(site.kind),
+            closer_word(site.kind),
         )
     }
 }
 
 /// Where the piece can't be read.
-fn spot_of<'s>(fault: &Fault, from: &'s str, piece: &PlacedPiece<'s>) -> Spot<'s> {
+fn site_of<'s>(fault: &Fault, from: &'s str, piece: &PlacedPiece<'s>) -> ErrorSite<'s> {
     let count = piece.items.len();
-    Spot {
+    ErrorSite {
         kind: piece.kind,
-        site: site_of(piece),
+        context: context_of(piece),
         wanted: fault.wanted,
         before: spelling_before(&piece.items, count),
         found: closer_of(from, piece.kind),
@@ -185,48 +187,52 @@ fn spot_of<'s>(fault: &Fault, from: &'s str, piece: &PlacedPiece<'s>) -> Spot<'s
 
 /// What the message says of the end of the source, or of the value that the fault is in, at the end
 /// of what was read of the piece, which begins at the other place.
-fn in_value<'s>(spot: &Spot<'s>, at: &'s str, piece: &PlacedPiece<'s>) -> Option<Phrasing<'s>> {
-    if matches!(spot.rest.trim_end(), "-" | ".") {
-        return Some(at_end(spot, at));
+fn in_value<'s>(
+    site: &ErrorSite<'s>,
+    at: &'s str,
+    piece: &PlacedPiece<'s>,
+) -> Option<Phrasing<'s>> {
+    if matches!(site.rest.trim_end(), "-" | ".") {
+        return Some(at_end(site, at));
     }
-    let front = front_before(piece.rest, spot.rest);
-    if let Expectation::LiteralWithoutStep = spot.wanted {
-        return Some(step_of_literal(spot.rest, front));
+    let front = front_before(piece.rest, site.rest);
+    if let Expectation::LiteralWithoutStep = site.wanted {
+        return Some(step_of_literal(site.rest, front));
     }
-    if spot.rest.starts_with("]") && front.trim_end().ends_with("[") {
+    if site.rest.starts_with("]") && front.trim_end().ends_with("[") {
         let words = "a place or a key is wanted in the brackets, as `a[0]` or `a['b']`";
-        return Some(Phrasing::plain(spot.rest, words));
+        return Some(Phrasing::plain(site.rest, words));
     }
-    if is_fraction(spot) {
-        return Some(no_whole(spot.rest, "0", piece));
+    if is_fraction(site) {
+        return Some(no_whole(site.rest, "0", piece));
     }
-    in_brackets(spot, front)
+    in_brackets(site, front)
 }
 
 /// What the message says of a fault in brackets, after what was read of the value.
-fn in_brackets<'s>(spot: &Spot<'s>, front: &str) -> Option<Phrasing<'s>> {
-    if matches!(spot.wanted, Expectation::ClosingBracket) && spot.rest.starts_with(":") {
+fn in_brackets<'s>(site: &ErrorSite<'s>, front: &str) -> Option<Phrasing<'s>> {
+    if matches!(site.wanted, Expectation::ClosingBracket) && site.rest.starts_with(":") {
         let words = "a part of a list is taken by a filter, as `a | slice: 0, 2`";
-        return Some(Phrasing::plain(spot.rest, words));
+        return Some(Phrasing::plain(site.rest, words));
     }
-    let after = spot.rest.trim_start_matches(is_digit).strip_prefix(".")?;
+    let after = site.rest.trim_start_matches(is_digit).strip_prefix(".")?;
     if front.ends_with("[") && after.starts_with(is_letter) {
         let words = "a `]` is missing after the place, as in `a[0].b`";
-        return Some(Phrasing::plain(spot.rest, words));
+        return Some(Phrasing::plain(site.rest, words));
     }
     None
 }
 
 /// Of a piece that the end of the source cuts off.
-fn at_end<'s>(spot: &Spot<'s>, at: &'s str) -> Phrasing<'s> {
+fn at_end<'s>(site: &ErrorSite<'s>, at: &'s str) -> Phrasing<'s> {
     let words = "the source ends here, and the `¤` of § has no `¤`";
     Phrasing {
         other: at,
         ..Phrasing::quoting(
-            spot.rest,
+            site.rest,
             words,
-            opener_word(spot.kind),
-            closer_word(spot.kind),
+            opener_word(site.kind),
+            closer_word(site.kind),
         )
     }
 }
@@ -249,26 +255,26 @@ fn literal_at_end(text: &str) -> &'static str {
 }
 
 /// `found X where W is wanted`
-fn found_there<'s>(spot: &Spot<'s>) -> Phrasing<'s> {
-    let found = first_word(spot.rest, spot.kind);
-    if begins_beyond(spot.rest) {
+fn found_there<'s>(site: &ErrorSite<'s>) -> Phrasing<'s> {
+    let found = first_word(site.rest, site.kind);
+    if begins_beyond(site.rest) {
         let words =
             "found `…`; a name has the letters a to z, digits, `_` and `-`, and others as in `a['é']`";
-        return Phrasing::quoting(spot.rest, words, found, "");
+        return Phrasing::quoting(site.rest, words, found, "");
     }
-    let is_value = matches!(spot.wanted, Expectation::Value);
-    if is_value && spot.found.is_empty() && spot.count > 0 {
-        return Phrasing::quoting(spot.rest, "found `…`, which means nothing here", found, "");
+    let is_value = matches!(site.wanted, Expectation::Value);
+    if is_value && site.found.is_empty() && site.count > 0 {
+        return Phrasing::quoting(site.rest, "found `…`, which means nothing here", found, "");
     }
-    if matches!(spot.site, FaultSite::Assign) && spot.count == 0 && spot.at_item {
+    if matches!(site.context, PieceContext::Assign) && site.count == 0 && site.at_item {
         let words = "found `…`; a name begins with a letter or `_`";
-        return Phrasing::quoting(spot.rest, words, found, "");
+        return Phrasing::quoting(site.rest, words, found, "");
     }
-    if let Expectation::WholeNumber = spot.wanted {
+    if let Expectation::WholeNumber = site.wanted {
         let words = "found `…` where a whole number is wanted, which has digits alone";
-        return Phrasing::quoting(spot.rest, words, found, "");
+        return Phrasing::quoting(site.rest, words, found, "");
     }
-    not_wanted(spot, found)
+    not_wanted(site, found)
 }
 
 /// Adds where the piece opens that may lack its closer, if that is on another line.

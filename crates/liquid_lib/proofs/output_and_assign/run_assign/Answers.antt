@@ -10,7 +10,7 @@ use Rattle.liquid_meaning.specs.Runs.{change}
 use Rattle.liquid_meaning.specs.Effects.{assigned_to}
 use Rattle.liquid_lib.specs.Performs.{unit, configuration_of}
 use Rattle.liquid_lib.proofs.Joined.{by_rule, given_met, refused_met, change_met, gives_merged}
-use Rattle.liquid_lib.proofs.Kept.{kept_assigned}
+use Rattle.liquid_lib.proofs.StateKept.{kept_assigned}
 use Rattle.liquid_meaning.proofs.Rules.{assign_rule}
 use Rattle.liquid_lib.proofs.output_and_assign.run_assign.Goals as goal
 

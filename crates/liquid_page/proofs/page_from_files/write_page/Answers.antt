@@ -20,4 +20,4 @@ returns-clause-begun g c =
       | in-Err-answer w ↦ subst (λ b. Keeps (buffered_contents contents c.into_inner-buffered.result) (buffered_contents contents b)) (sym w.buffered-is) w.flush_buffer-flushed.ensures.bytes
     ] in
     let kept = subst (λ b. Keeps (buffered_contents contents b) (buffered_contents contents c.match-answer.buffered)) c.into_inner-buffered.ensures flushed in
-    subst (λ w. IsBegun texts (contents c.args.writer) (contents w)) (sym c.into_inner.ensures) (begun_behind texts _ _ _ _ _ c.match-answer.buffered.held.items start c.run_last-answer.ensures.page kept)
+    subst (λ w. IsBegun texts (contents c.args.writer) (contents w)) (sym c.into_inner.ensures) (begun_behind texts _ _ _ _ _ c.match-answer.buffered.held.items start c.run_without_cleanup-answer.ensures.page kept)

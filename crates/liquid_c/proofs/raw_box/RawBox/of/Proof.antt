@@ -37,14 +37,14 @@ use Rattle.std.proofs.alloc.Calls.{token, handle_tells, Goes-blank}
 use Rattle.std.specs.Box.Ownership.{box_owns}
 use Rattle.std.proofs.BoxSteps.Form.{Bx, D, τ, R, P, B, word, box_typed}
 use Rattle.std.proofs.BoxSteps.Steps.{box_out, box_in}
-use Rattle.liquid_c.specs.contracts.raw_box.Kept as parts
+use Rattle.liquid_c.specs.contracts.raw_box.RawBox as parts
 use Rattle.std.specs.contracts.boxed.Box.into_raw_with_allocator as Ra
 use Rattle.std.proofs.boxed.Box.into_raw_with_allocator.Symbol as raw_sym
 use Rattle.std.proofs.boxed.Box.into_raw_with_allocator.Met as raw_met
-use Rattle.liquid_c.specs.contracts.raw_box.Kept.of as F
-use Rattle.liquid_c.specs.contracts.raw_box.Kept.of.Key.{name as #self}
-use Rattle.liquid_c.proofs.raw_box.Kept.of.Statement as stated
-use Rattle.liquid_c.proofs.raw_box.Kept.of.Code as code
+use Rattle.liquid_c.specs.contracts.raw_box.RawBox.of as F
+use Rattle.liquid_c.specs.contracts.raw_box.RawBox.of.Key.{name as #self}
+use Rattle.liquid_c.proofs.raw_box.RawBox.of.Statement as stated
+use Rattle.liquid_c.proofs.raw_box.RawBox.of.Code as code
 
 module _ (E : Bx) (dx : Dict) where
   abbrev args : Args

@@ -24,12 +24,12 @@ abbrev pub reads_count : List Datum → Datum → Bool
 reads_count [] d = false
 reads_count (s ∷ path) d = counts_at s d || holds_of (reads_count path) (step d s)
 
-abbrev pub Kept : Datum → Datum → Type 0
-Kept d e =
+abbrev pub PathsKept : Datum → Datum → Type 0
+PathsKept d e =
     (path : List Datum) (c : Datum) → reads_count path d ≡ false → find d path ≡ Some c
     → (f : Datum) × (find e path ≡ Some f) × (shape c ≡ shape f)
 
 -- completing changes nothing that is there. How many members a map has is left out, since one that
 -- is put in counts
 abbrev pub CompletedKeeps : Type 0
-CompletedKeeps = (u : Use) (d : Datum) → Kept d (completed u d)
+CompletedKeeps = (u : Use) (d : Datum) → PathsKept d (completed u d)

@@ -2,7 +2,7 @@ use Rattle.std.proofs.lemmas.Result.{err_from_is_err_and}
 use Rattle.liquid_page_texts.specs.Page.{PageTexts, sources_of}
 use Rattle.liquid_page_texts.specs.Shown.{page_inputs_view}
 use Rattle.liquid_page_texts.proofs.Reading.{refused_shown, page_shown}
-use Rattle.liquid_page_texts.proofs.page_from_texts.run_last.Goals as goal
+use Rattle.liquid_page_texts.proofs.page_from_texts.run_without_cleanup.Goals as goal
 
 pub returns-in_err-read-clause-page : goal.returns-in_err-read-clause-page
 returns-in_err-read-clause-page g c =

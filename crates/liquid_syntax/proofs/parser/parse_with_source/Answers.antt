@@ -1,7 +1,7 @@
 use Rattle.std.proofs.Common.{subst, sym}
 use Rattle.liquid_syntax.specs.Parsing.{IsOnlyTree}
-use Rattle.liquid_syntax.proofs.KeptSource.{same_tree}
-use Rattle.liquid_syntax.proofs.parser.parse_kept.Goals as goal
+use Rattle.liquid_syntax.proofs.StoredSource.{same_tree}
+use Rattle.liquid_syntax.proofs.parser.parse_with_source.Goals as goal
 
 pub returns-in-Ok-clause-parses : goal.returns-in-Ok-clause-parses
 returns-in-Ok-clause-parses c =

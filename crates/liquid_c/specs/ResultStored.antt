@@ -11,13 +11,13 @@ use Rattle.liquid_c.specs.declared.refusal.Refusal.{Refusal}
 
 -- the handle holds what was made, with its number. Without room for it, it holds nothing and the
 -- number is that of `Memory`
-abbrev pub Settles : Result Content Refusal → ℕ → Option Held → Type 0
-Settles (Ok c) number left = ((number ≡ number_of_content c) × (left ≡ Some (Own c))) ⊎
+abbrev pub StoresResult : Result Content Refusal → ℕ → Option Held → Type 0
+StoresResult (Ok c) number left = ((number ≡ number_of_content c) × (left ≡ Some (Own c))) ⊎
     ((number ≡ number_of Memory) × (left ≡ None))
-Settles (Err r) number left = (number ≡ number_of_refusal r) × (left ≡ None)
+StoresResult (Err r) number left = (number ≡ number_of_refusal r) × (left ≡ None)
 
-pub record Settled (R : Result Content Refusal → Type 0) (number : ℕ) (left : Option Held) : Type 0
-  where
-    pub answer : Result Content Refusal
-    pub is : R answer
-    pub told : Settles answer number left
+pub record ResultStored (R : Result Content Refusal → Type 0) (number : ℕ) (left : Option Held)
+    : Type 0 where
+  pub answer : Result Content Refusal
+  pub is : R answer
+  pub told : StoresResult answer number left
