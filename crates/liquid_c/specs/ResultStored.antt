@@ -1,5 +1,5 @@
 -- What a call leaves behind the handle for what it makes, and the number that it answers.
---     Settled R number left      some answer of which R holds was settled so
+--     ResultStored R number left      some answer of which R holds was stored so
 use Rattle.std.specs.Prelude.{◌≡◌, ◌⊎◌, ℕ, Option, Some, None, Result, Ok, Err}
 use Rattle.liquid_model.specs.ErrorKinds.{number_of}
 use Rattle.liquid_model.specs.declared.error.ErrorKind.TheVariants.{Memory}

@@ -1,8 +1,8 @@
 -- The status of a program that ends before its input does.
 use Rattle.std.specs.Prelude.{ℕ}
 use Rattle.liquid_folder.specs.declared.stop.FolderStop.{FolderStop}
-use Rattle.liquid_folder.specs.declared.stop.FolderStop.TheVariants.{Usage, Missing, Unreadable, Inside}
-use Rattle.liquid_folder.specs.declared.stop.FolderStop.TheVariants.{Fault, Streams}
+use Rattle.liquid_folder.specs.declared.stop.FolderStop.TheVariants.{Usage, Missing, Inside}
+use Rattle.liquid_folder.specs.declared.stop.FolderStop.TheVariants.{Unreadable, Fault, Streams}
 
 abbrev pub folder_stop_status : FolderStop → ℕ
 folder_stop_status Usage = 2

@@ -36,7 +36,7 @@ pub enum Stage {
     First,
     /// The last body that the block can have.
     Last,
-    /// What stands before the first `when` or `else` of a `case`; it is not kept.
+    /// What stands before the first `when` or `else` of a `case`; its nodes are dropped.
     CaseHead,
     /// The body of a `when`.
     WhenBody,
@@ -191,7 +191,7 @@ impl Builder {
         }
     }
 
-    /// `when`: the body of the one before it ends, or what isn't kept, and its own begins.
+    /// `when`: the body of the one before it ends, or the head of the `case`, and its own begins.
     fn when(&mut self, values: Vec<Expression>, left: usize) -> Result<(), ParseError>
         requires { IsBuilt self.old }
         ensures stack { (ls : List Level) (cur : Nodes) → IsBuilding self.old ls cur →

@@ -88,7 +88,7 @@ pub enum Node {
     Increment(String),
     /// `{% decrement name %}`
     Decrement(String),
-    /// `{% cycle values %}`, with its group, which is settled when the template is parsed.
+    /// `{% cycle values %}`, with its group, which is fixed when the template is parsed.
     Cycle(String, Vec<Expression>),
     /// `{% ifchanged %}`, and where its body ends.
     IfChanged(usize),

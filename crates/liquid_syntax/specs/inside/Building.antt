@@ -6,8 +6,8 @@ use Rattle.liquid_syntax.specs.Flats.{Maker, case_flat, flat_of, flats, nodes_of
 use Rattle.liquid_syntax.specs.Forest.{Forest, Bodies, no_bodies, sizes}
 use Rattle.liquid_syntax.specs.Laid.{Flat, ends_of, laid, laid_bodies}
 use Rattle.liquid_syntax.specs.Nesting as nesting
-use Rattle.liquid_syntax.specs.OpenBlocks.{Reading, last, first, case_head, when_body, begun, ended, Level}
-use Rattle.liquid_syntax.specs.OpenBlocks.{level, State, block_depth, to_elsif, with_node}
+use Rattle.liquid_syntax.specs.OpenBlocks.{Reading, last, first, case_head, when_body, begun, ended}
+use Rattle.liquid_syntax.specs.OpenBlocks.{Level, level, State, block_depth, to_elsif, with_node}
 use Rattle.liquid_lexer.specs.Readers.{Fails}
 use Rattle.liquid_syntax.specs.Templates.{tree_of}
 use Rattle.liquid_evaluation.specs.Tree.{Node, Nodes, no_nodes, plain}
