@@ -9,7 +9,7 @@ ghost use Rattle.liquid_c.specs.Shared.{shared_content};
 
 use crate::content::Content;
 use crate::handle::Handle;
-use crate::held::seen;
+use crate::handle_content::seen;
 use crate::named::list_of;
 use crate::refusal::{Refusal, store_result};
 use crate::render::partials_held;

@@ -6,7 +6,7 @@ ghost use Rattle.liquid_c.specs.Shared.{shared_content};
 
 use crate::content::Content;
 use crate::handle::Handle;
-use crate::held::seen;
+use crate::handle_content::seen;
 use crate::refusal::{Refusal, store_result};
 use liquid_core::Uses;
 use liquid_json::data_for;

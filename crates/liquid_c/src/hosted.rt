@@ -9,7 +9,7 @@ ghost use Rattle.liquid_c.specs.Shared.{shared_content};
 
 use crate::content::Content;
 use crate::handle::Handle;
-use crate::held::seen;
+use crate::handle_content::seen;
 use crate::refusal::{Refusal, store_result};
 use crate::render::{
     Allowed, RenderLimits, allowed_by, data_held, empty_data, levels_held, limits_of, partials_held,

@@ -13,7 +13,7 @@ mod content;
 mod create_and_free;
 mod data_for;
 mod handle;
-mod held;
+mod handle_content;
 mod hosted;
 mod insert;
 mod levels;

@@ -11,7 +11,7 @@ ghost use Rattle.liquid_c.specs.Shared.{shared_content};
 
 use crate::content::Content;
 use crate::handle::Handle;
-use crate::held::seen;
+use crate::handle_content::seen;
 use crate::refusal::{Refusal, store_result};
 use crate::render::partials_held;
 use liquid_answers::json_of;

@@ -6,7 +6,7 @@ ghost use Rattle.liquid_c.specs.Shared.{shared_content};
 
 use crate::content::Content;
 use crate::handle::Handle;
-use crate::held::seen;
+use crate::handle_content::seen;
 use crate::levels::levels_in;
 use crate::refusal::{Refusal, store_result};
 use liquid_lib::{Language, parse_with_source};

@@ -5,7 +5,7 @@ ghost use Rattle.liquid_c.specs.ResultStored.{StoresResult};
 
 use crate::content::Content;
 use crate::handle::Handle;
-use crate::held::Held;
+use crate::handle_content::HandleContent;
 use liquid_core::ErrorKind;
 use std::alloc::Global;
 
@@ -56,7 +56,7 @@ pub(crate) fn store_result(
         }
     };
     let number = content.number();
-    match Box::new(alloc, Held::Own(content)) {
+    match Box::new(alloc, HandleContent::Own(content)) {
         Ok(held) => {
             made.put(alloc, Some(held));
             number

@@ -6,11 +6,11 @@ ghost use Rattle.liquid_c.specs.ResultStored.{ResultStored};
 ghost use Rattle.liquid_c.specs.Shared.{Regaining};
 ghost use Rattle.std.specs.Prelude.{Some};
 ghost use Rattle.liquid_c.specs.declared.content.Content.TheVariants as content;
-ghost use Rattle.liquid_c.specs.declared.held.Held.TheVariants.{Own};
+ghost use Rattle.liquid_c.specs.declared.handle_content.HandleContent.TheVariants.{Own};
 
 use crate::content::Content;
 use crate::handle::Handle;
-use crate::held::Held;
+use crate::handle_content::HandleContent;
 use crate::refusal::{Refusal, store_result};
 use liquid_core::{ErrorKind, Result as Answer};
 use liquid_lib::{FilterKind, Language, jekyll, language};
@@ -70,7 +70,7 @@ pub extern "C" fn bikleinu_register(
 
 fn register_behind(
     alloc: Global,
-    held: &mut Option<Box<Held>>,
+    held: &mut Option<Box<HandleContent>>,
     name: &[u8],
     least: usize,
     most: usize,
@@ -80,10 +80,10 @@ fn register_behind(
 {
     match held {
         Some(held) => match &mut **held {
-            Held::Own(Content::Language(language)) => {
+            HandleContent::Own(Content::Language(language)) => {
                 register(alloc, language, name, least, most)
             }
-            Held::Shared(_) => Refusal::SharedHandle.number(),
+            HandleContent::Shared(_) => Refusal::SharedHandle.number(),
             _ => Refusal::OtherHandle.number(),
         },
         None => Refusal::OtherHandle.number(),

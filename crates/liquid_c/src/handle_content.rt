@@ -9,32 +9,32 @@ use std::sync::Arc;
 
 /// What lies behind a handle.
 #[derive(Drop)]
-pub enum Held {
+pub enum HandleContent {
     /// What no other handle has.
     Own(Content),
     /// What other handles may have too, which therefore doesn't change.
     Shared(Arc<Content>),
 }
 
-impl Held {
+impl HandleContent {
     /// What a call made.
     pub(crate) fn content(&self) -> &Content
         ensures { result.now ≡ content_of self.now }
     {
         match self {
-            Held::Own(content) => content,
-            Held::Shared(content) => &**content,
+            HandleContent::Own(content) => content,
+            HandleContent::Shared(content) => &**content,
         }
     }
 }
 
 /// Something for the moment in which what is behind a handle is taken out. It takes no memory.
-pub(crate) fn blank(alloc: Global) -> Held {
-    Held::Own(Content::Names(String::new(alloc)))
+pub(crate) fn blank(alloc: Global) -> HandleContent {
+    HandleContent::Own(Content::Names(String::new(alloc)))
 }
 
 /// What was shared is its own again, where no other handle has it any more.
-pub(crate) fn regain(alloc: Global, held: &mut Option<Box<Held>>)
+pub(crate) fn regain(alloc: Global, held: &mut Option<Box<HandleContent>>)
     ensures { Regained (option_map (λ b. b.value) held.old) (option_map (λ b. b.value) held.new) }
 {
     if let Some(held) = held {
@@ -43,20 +43,20 @@ pub(crate) fn regain(alloc: Global, held: &mut Option<Box<Held>>)
     }
 }
 
-fn regained(held: Held) -> Held
+fn regained(held: HandleContent) -> HandleContent
     ensures { IsRegained held result }
 {
     match held {
-        Held::Own(content) => Held::Own(content),
-        Held::Shared(content) => match Arc::try_unwrap(content) {
-            Ok(content) => Held::Own(content),
-            Err(content) => Held::Shared(content),
+        HandleContent::Own(content) => HandleContent::Own(content),
+        HandleContent::Shared(content) => match Arc::try_unwrap(content) {
+            Ok(content) => HandleContent::Own(content),
+            Err(content) => HandleContent::Shared(content),
         },
     }
 }
 
 /// What an owner of a box, or of none, holds.
-pub(crate) fn seen(held: &Option<Box<Held>>) -> Option<&Content>
+pub(crate) fn seen(held: &Option<Box<HandleContent>>) -> Option<&Content>
     ensures { option_map (λ c. c.now) result ≡ shared_content (option_map (λ b. b.value) held.now) }
 {
     match held {
