@@ -1,7 +1,7 @@
 -- What was found is found as before.
 --     reads_count path d      on its way from d the path comes to the number of a map's members
---     Kept d e      each other path that finds a value in d finds one in e, the same where it is a
---     scalar, and a list or a map as it was
+--     PathsKept d e      each other path that finds a value in d finds one in e, the same where
+--     it is a scalar, and a list or a map as it was
 use Rattle.std.specs.Prelude.{◌≡◌, Bool, false, ◌&&◌, ◌||◌, not, is_some, codes}
 use Rattle.std.specs.Prelude.{List, [], ◌∷◌, Option, Some, None}
 use Rattle.liquid_model.specs.Texts.{same_text}

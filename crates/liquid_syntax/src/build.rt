@@ -295,7 +295,7 @@ impl Builder {
     }
 
     /// A block whose body isn't read, where the blocks around it aren't too deep already.
-    fn closed(&mut self, node: Node, left: usize) -> Result<(), ParseError>
+    fn verbatim(&mut self, node: Node, left: usize) -> Result<(), ParseError>
         requires { (flat_of node).ends ≡ [] }
         ensures stack { (ls : List Level) (cur : Nodes) → IsBuilding self.old ls cur →
             AdvancesTo (to_closed ((flat_of node).head []) ls cur) self.new result }
@@ -342,7 +342,7 @@ impl Builder {
     {
         match statement {
             Statement::Leaf(node) => self.leaf(node),
-            Statement::Verbatim(node) => self.closed(node, left),
+            Statement::Verbatim(node) => self.verbatim(node, left),
             Statement::Begins(block, stage, node) => self.begin(block, stage, node, left),
             Statement::Elsif(node) => self.elsif(node, left),
             Statement::When(values) => self.when(values, left),
