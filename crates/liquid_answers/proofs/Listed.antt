@@ -15,7 +15,7 @@ use Rattle.liquid_answers.specs.Tables.{answer_at}
 use Rattle.liquid_answers.specs.declared.answers.Answers.{Answers}
 use Rattle.liquid_answers.specs.declared.lacking.Lacking.{Lacking}
 use Rattle.liquid_answers.specs.declared.lacking.Listed.{Listed}
-use Rattle.liquid_answers.specs.declared.page.Answered.TheVariants as answered
+use Rattle.liquid_answers.specs.declared.answered_page.Answered.TheVariants as answered
 use Rattle.liquid_answers.specs.inside.Listed.{AreListed, IsAfter, IsNone, comma_after}
 use Rattle.liquid_answers.proofs.Told.{told_more, told_none}
 

@@ -26,8 +26,8 @@ use Rattle.liquid_c.specs.Numbers.{number_of_refusal}
 use Rattle.liquid_c.specs.declared.content.Content.{Content}
 use Rattle.liquid_c.specs.declared.content.Content.TheVariants as content
 use Rattle.liquid_c.specs.declared.levels.TemplateLevels.{TemplateLevels}
-use Rattle.liquid_c.specs.declared.held.Held.{Held}
-use Rattle.liquid_c.specs.declared.held.Held.TheVariants.{Own, Shared}
+use Rattle.liquid_c.specs.declared.handle_content.HandleContent.{HandleContent}
+use Rattle.liquid_c.specs.declared.handle_content.HandleContent.TheVariants.{Own, Shared}
 use Rattle.liquid_c.specs.declared.refusal.Refusal.{Refusal}
 use Rattle.liquid_c.specs.declared.refusal.Refusal.TheVariants.{SharedHandle, NoText, OtherHandle}
 use Rattle.liquid_c.specs.declared.refusal.Refusal.TheVariants.{TooManyLevels}
@@ -144,7 +144,7 @@ bound_of asked = if nat_eq asked 0 then usual_levels else asked
 -- ---- a partial put in
 
 -- the handle holds these partials, of which one reaches so many levels
-abbrev pub Holds : Option Held → List (Text × Nodes) → TemplateLevels → Type 0
+abbrev pub Holds : Option HandleContent → List (Text × Nodes) → TemplateLevels → Type 0
 Holds (Some (Own (content.Partials p most))) trees levels =
     (partials_of p ≡ trees) × (most ≡ levels)
 Holds _ trees levels = ⊥
@@ -153,7 +153,7 @@ Holds _ trees levels = ⊥
 -- nothing changed;  the name is no text
 pub data InsertsPartial (old : Partials) (most : TemplateLevels) (name : List ℕ) (t : Template)
     (levels : TemplateLevels)
-    (number : ℕ) (partials template was : Option Held) : Type 0 where
+    (number : ℕ) (partials template was : Option HandleContent) : Type 0 where
   done : IsUtf8 name → number ≡ 0 → Holds partials (put_entry name (tree_of t) (partials_of old))
       (greater_of most levels) → template ≡ None →
       InsertsPartial old most name t levels number partials template was
@@ -164,7 +164,8 @@ pub data InsertsPartial (old : Partials) (most : TemplateLevels) (name : List �
       InsertsPartial old most name t levels number partials template was
 
 -- what is shared isn't changed, and doesn't move
-abbrev pub IsInsertion : Option Held → List ℕ → Option Held → ℕ → Option Held → Option Held → Type 0
+abbrev pub IsInsertion : Option HandleContent → List ℕ → Option HandleContent → ℕ
+    → Option HandleContent → Option HandleContent → Type 0
 IsInsertion (Some (Own (content.Partials p most))) name (Some (Own (content.Template t levels)))
     number
     partials template =

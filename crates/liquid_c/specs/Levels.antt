@@ -13,7 +13,7 @@ use Rattle.liquid_syntax.specs.declared.node.Node.TheVariants.{If, Unless, Captu
 use Rattle.liquid_syntax.specs.declared.node.Node.TheVariants.{TableRow, IfChanged}
 use Rattle.liquid_syntax.specs.declared.node.Node.TheVariants.{Include, JekyllInclude, Render}
 use Rattle.liquid_syntax.specs.declared.node.Node.TheVariants.{RenderEach}
-use Rattle.liquid_syntax.specs.declared.node.TwoBodies.{TwoBodies}
+use Rattle.liquid_syntax.specs.declared.node.BodyEnds.{BodyEnds}
 use Rattle.liquid_c.specs.declared.levels.TemplateLevels.{TemplateLevels}
 use Rattle.liquid_c.specs.declared.levels.Open.{Open}
 

@@ -20,8 +20,8 @@ use Rattle.liquid_answers.specs.declared.answers.Answers.{Answers}
 use Rattle.liquid_c.specs.Numbers.{number_of_refusal}
 use Rattle.liquid_c.specs.declared.content.Content.{Content}
 use Rattle.liquid_c.specs.declared.content.Content.TheVariants as content
-use Rattle.liquid_c.specs.declared.held.Held.{Held}
-use Rattle.liquid_c.specs.declared.held.Held.TheVariants.{Own, Shared}
+use Rattle.liquid_c.specs.declared.handle_content.HandleContent.{HandleContent}
+use Rattle.liquid_c.specs.declared.handle_content.HandleContent.TheVariants.{Own, Shared}
 use Rattle.liquid_c.specs.declared.refusal.Refusal.{Refusal}
 use Rattle.liquid_c.specs.declared.refusal.Refusal.TheVariants.{NoSuchCall}
 use Rattle.liquid_c.specs.declared.refusal.Refusal.TheVariants.{SharedHandle, NoText, OtherHandle}
@@ -33,7 +33,7 @@ IsNewTable (Ok (content.Answers table)) = (filter_names table ≡ []) ×
 IsNewTable _ = ⊥
 
 -- the table in the handle is such a one
-abbrev pub HoldsTable : (Answers → Type 0) → Option Held → Type 0
+abbrev pub HoldsTable : (Answers → Type 0) → Option HandleContent → Type 0
 HoldsTable P (Some (Own (content.Answers table))) = P table
 HoldsTable P _ = ⊥
 
@@ -44,7 +44,7 @@ IsSameTable old new = (filter_names new ≡ filter_names old)
 
 -- the table changed as R says;  or memory ran out, and nothing changed
 pub data ChangesTable (R : Answers → Answers → Type 0) (old : Answers) (number : ℕ)
-    (left : Option Held) : Type 0 where
+    (left : Option HandleContent) : Type 0 where
   done : number ≡ 0 → HoldsTable (R old) left → ChangesTable R old number left
   refused : number ≡ number_of Memory → HoldsTable (IsSameTable old) left →
       ChangesTable R old number left
@@ -56,7 +56,7 @@ abbrev pub HasName : Text → Answers → Answers → Type 0
 HasName name old new = (filter_names new ≡ with_name name (filter_names old))
     × ((call : Datum) → answer_at new call ≡ answer_at old call)
 
-abbrev pub IsNaming : Option Held → List ℕ → ℕ → Option Held → Type 0
+abbrev pub IsNaming : Option HandleContent → List ℕ → ℕ → Option HandleContent → Type 0
 IsNaming (Some (Own (content.Answers table))) name number left =
     (IsUtf8 name × ChangesTable (HasName name) table number left)
     ⊎ ((IsUtf8 name → ⊥) × (number ≡ number_of_refusal NoText)
@@ -109,8 +109,8 @@ StoresAnswer call said old new = (answer : Answer) × (said_by answer ≡ said) 
     IsAnswerStored old call answer new
     × (filter_names new ≡ filter_names old)
 
-abbrev pub IsAnswering : Option Held → Result Datum Refusal
-    → Result (Result Datum ErrorKind) Refusal → ℕ → Option Held → Type 0
+abbrev pub IsAnswering : Option HandleContent → Result Datum Refusal
+    → Result (Result Datum ErrorKind) Refusal → ℕ → Option HandleContent → Type 0
 IsAnswering old (Err r) answer number left = (number ≡ number_of_refusal r) × (left ≡ old)
 IsAnswering old (Ok call) (Err r) number left = (number ≡ number_of_refusal r) × (left ≡ old)
 IsAnswering (Some (Own (content.Answers table))) (Ok call) (Ok said) number left =
@@ -121,7 +121,8 @@ IsAnswering old (Ok call) (Ok said) number left =
     (number ≡ number_of_refusal OtherHandle) × (left ≡ old)
 
 -- an answer of a kind, where the message is a text
-abbrev pub IsRefusing : Option Held → Result Datum Refusal → ℕ → List ℕ → ℕ → Option Held → Type 0
+abbrev pub IsRefusing : Option HandleContent → Result Datum Refusal → ℕ → List ℕ → ℕ
+    → Option HandleContent → Type 0
 IsRefusing old call kind message number left =
     (IsUtf8 message
     × IsAnswering old call (Ok (Err (kind_among kinds_of_runs kind))) number left)

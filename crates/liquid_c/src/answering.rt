@@ -11,12 +11,12 @@ ghost use Rattle.liquid_c.specs.Tables.{answer_among, answer_of_handle, call_of_
 ghost use Rattle.liquid_c.specs.Tables.{calls_of_handle, kind_among, kinds_of_runs};
 ghost use Rattle.liquid_c.specs.Shared.{Regaining, shared_content};
 ghost use Rattle.liquid_c.specs.declared.content.Content.TheVariants as content;
-ghost use Rattle.liquid_c.specs.declared.held.Held.TheVariants.{Own};
+ghost use Rattle.liquid_c.specs.declared.handle_content.HandleContent.TheVariants.{Own};
 ghost use Rattle.liquid_c.specs.declared.refusal.Refusal.{Refusal};
 
 use crate::content::Content;
 use crate::handle::Handle;
-use crate::held::{Held, seen};
+use crate::handle_content::{HandleContent, seen};
 use crate::refusal::Refusal;
 use liquid_answers::{Answer, Answers};
 use liquid_core::{ErrorKind, Object, Value, look_up};
@@ -122,7 +122,7 @@ pub extern "C" fn bikleinu_refuse(
 /// text.
 fn refuse(
     alloc: Global,
-    held: &mut Option<Box<Held>>,
+    held: &mut Option<Box<HandleContent>>,
     call: Result<&Value, Refusal>,
     kind: u32,
     message: &[u8],
@@ -198,7 +198,7 @@ fn kind_of(kinds: &[ErrorKind], number: u32) -> ErrorKind
 /// Puts an answer to a call into the table that a handle holds.
 fn put(
     alloc: Global,
-    held: &mut Option<Box<Held>>,
+    held: &mut Option<Box<HandleContent>>,
     call: Result<&Value, Refusal>,
     answer: Result<Option<Answer>, Refusal>,
 ) -> u32
@@ -217,8 +217,8 @@ fn put(
     };
     match held {
         Some(held) => match &mut **held {
-            Held::Own(Content::Answers(table)) => put_answer(alloc, table, call, answer),
-            Held::Shared(_) => Refusal::SharedHandle.number(),
+            HandleContent::Own(Content::Answers(table)) => put_answer(alloc, table, call, answer),
+            HandleContent::Shared(_) => Refusal::SharedHandle.number(),
             _ => Refusal::OtherHandle.number(),
         },
         None => Refusal::OtherHandle.number(),

@@ -7,7 +7,7 @@ ghost use Rattle.liquid_c.specs.Shared.{shared_content};
 
 use crate::content::Content;
 use crate::handle::Handle;
-use crate::held::seen;
+use crate::handle_content::seen;
 use liquid_core::{Error, Location, Origin};
 use std::alloc::Global;
 

@@ -6,14 +6,14 @@ ghost use Rattle.liquid_syntax.specs.Templates.{partials_of, tree_of};
 ghost use Rattle.liquid_c.specs.Calls.{IsRendering, OfBoth, ShowsNodes, ShowsUnless, ShowsWithin};
 ghost use Rattle.liquid_c.specs.Calls.{bound_of, data_of_handle, has_limit, levels_of_handle};
 ghost use Rattle.liquid_c.specs.Calls.{partials_of_handle, usual_levels};
-ghost use Rattle.liquid_c.specs.Settled.{Settled};
+ghost use Rattle.liquid_c.specs.ResultStored.{ResultStored};
 ghost use Rattle.liquid_c.specs.Shared.{shared_content};
 
 use crate::content::Content;
 use crate::handle::Handle;
-use crate::held::seen;
+use crate::handle_content::seen;
 use crate::levels::TemplateLevels;
-use crate::refusal::{Refusal, settle};
+use crate::refusal::{Refusal, store_result};
 use liquid_core::Object;
 use liquid_lib::{LimitedPage, Partials, Template, render_page, render_page_within};
 use std::alloc::Global;
@@ -64,7 +64,7 @@ pub extern "C" fn bikleinu_render(
     depth: u32,
     made: &mut Handle,
 ) -> u32
-    ensures rendered { Settled
+    ensures rendered { ResultStored
         (IsRendering usual_levels false (shared_content template.old.held)
         (shared_content «data».old.held)
         (shared_content partials.old.held) depth)
@@ -80,7 +80,7 @@ pub extern "C" fn bikleinu_render(
         turns: 0,
     };
     let answer = rendered(alloc, template, data, partials, allowed);
-    settle(alloc, answer, made)
+    store_result(alloc, answer, made)
 }
 
 /// The same, within limits of the caller's. A page that the limit on bytes ended answers 104, and
@@ -95,7 +95,7 @@ pub extern "C" fn bikleinu_render_within(
     limits: &RenderLimits,
     made: &mut Handle,
 ) -> u32
-    ensures rendered { Settled
+    ensures rendered { ResultStored
         (IsRendering (bound_of limits.now.levels) (has_limit limits.now.bytes limits.now.turns)
         (shared_content template.old.held) (shared_content «data».old.held)
         (shared_content partials.old.held) depth)
@@ -106,7 +106,7 @@ pub extern "C" fn bikleinu_render_within(
 {
     let allowed = allowed_by(depth, limits);
     let answer = rendered(alloc, template, data, partials, allowed);
-    settle(alloc, answer, made)
+    store_result(alloc, answer, made)
 }
 
 /// What these limits allow.

@@ -22,7 +22,7 @@ pub enum Stop {
     /// A fault of no text, as that memory ran out.
     Fault(Error),
     /// The file or folder of this path can't be read.
-    Unread(String, Reason),
+    Unreadable(String, Reason),
     /// Partials are to be in the folder of this path, and it is none.
     NoFolder(String),
     /// The file of this path can't be written.
@@ -33,9 +33,9 @@ pub enum Stop {
 
 impl Stop {
     /// A path that can't be read.
-    pub fn unread(alloc: Global, path: &str, reason: Reason) -> Stop {
+    pub fn unreadable(alloc: Global, path: &str, reason: Reason) -> Stop {
         match String::from_str(alloc, path) {
-            Ok(path) => Stop::Unread(path, reason),
+            Ok(path) => Stop::Unreadable(path, reason),
             Err(refused) => Stop::from(refused),
         }
     }
@@ -45,7 +45,7 @@ impl Stop {
         match String::from_str(alloc, path) {
             Ok(path) => match kind {
                 io::ErrorKind::NotADirectory => Stop::NoFolder(path),
-                kind => Stop::Unread(path, Reason::from(kind)),
+                kind => Stop::Unreadable(path, Reason::from(kind)),
             },
             Err(refused) => Stop::from(refused),
         }
@@ -72,7 +72,7 @@ impl Stop {
     /// Prints that a path can't be read, so that a command can go on without it. What isn't that
     /// ends the command.
     pub fn passed_over(self, rt: &HostRuntime) -> Result<(), Stop> {
-        if let Stop::Unread(_, _) | Stop::NoFolder(_) = &self {
+        if let Stop::Unreadable(_, _) | Stop::NoFolder(_) = &self {
             self.print(rt);
             return Ok(());
         }
@@ -128,7 +128,7 @@ impl fmt::Display for Stop {
                 let option = *option;
                 write!(f, "{option} {word}: {gap}")
             }
-            Stop::Unread(path, reason) => {
+            Stop::Unreadable(path, reason) => {
                 let path = shown(path);
                 match reason_words(*reason) {
                     Some(words) => write!(f, "{path}: {words}"),

@@ -3,26 +3,26 @@
 mod blocks;
 mod characters;
 mod filters;
-mod habits;
-mod items;
+mod foreign_syntax;
+mod malformed_piece;
+mod misplaced_items;
 mod names;
 mod numbers;
 mod outline;
 mod parentheses;
 mod phrasing;
 mod similar;
-mod unread;
 mod wanted;
 
 use crate::language::Language;
 use blocks::{missing_end, unknown_tag};
 use filters::{miscounted, unknown_filter};
-use items::misplaced;
 use liquid_lexer::{Fault, FaultKind, PlacedPiece, placed_piece};
+use malformed_piece::malformed;
+use misplaced_items::misplaced;
 use outline::{Outline, outline_at};
 use phrasing::{Phrasing, message_of};
 use std::alloc::{AllocError, Global};
-use unread::unread;
 
 /// What the message says of a fault.
 #[derive(Drop)]
@@ -71,7 +71,7 @@ fn phrasing_of<'s>(
         | FaultKind::NumberLiteral
         | FaultKind::FloatLiteral
         | FaultKind::StateWord
-        | FaultKind::Expected => Ok(unread(language, fault, outline, piece)),
+        | FaultKind::Expected => Ok(malformed(language, fault, outline, piece)),
     }
 }
 

@@ -7,7 +7,7 @@ use Rattle.liquid_core.specs.Environment.{Names}
 use Rattle.liquid_core.specs.States.{Layers, layers_with, merged_layers}
 use Rattle.liquid_core.specs.declared.state.Parts.{Parts}
 use Rattle.liquid_meaning.specs.Runs.{Nothing, Run}
-use Rattle.liquid_lib.specs.Kept.{LayersKept}
+use Rattle.liquid_lib.specs.StateKept.{LayersKept}
 use Rattle.liquid_lib.specs.Performs.{Performs}
 use Rattle.liquid_lib.specs.Sinks.{Sink}
 

@@ -15,7 +15,7 @@ use Rattle.liquid_syntax.proofs.Places.{one_body}
 use Rattle.liquid_lib.specs.inside.Choices.{CaseStands, HasCaseAt}
 use Rattle.liquid_lib.specs.inside.Engine.{node_meant}
 use Rattle.liquid_lib.specs.Silent.{IsSilent}
-use Rattle.liquid_lib.specs.Kept.{Keeps, IsRenderNode}
+use Rattle.liquid_lib.specs.StateKept.{Keeps, IsRenderNode}
 use Rattle.liquid_lib.specs.Performs.{Configuration, Performs}
 use Rattle.liquid_meaning.specs.Meaning.{Setting}
 use Rattle.liquid_lib.proofs.CaseChoices.{case_le}

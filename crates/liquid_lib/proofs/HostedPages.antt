@@ -16,7 +16,7 @@ use Rattle.liquid_lib.specs.LimitedPages.{PageWithin}
 use Rattle.liquid_lib.specs.Pages.{ended_page, page_view, shown}
 use Rattle.liquid_lib.specs.Performs.{Performs}
 use Rattle.liquid_lib.specs.declared.limits.LimitReached.{LimitReached}
-use Rattle.liquid_lib.specs.declared.page.Page.{Page}
+use Rattle.liquid_lib.specs.declared.rendered_page.Page.{Page}
 use Rattle.liquid_lib.proofs.LimitedPages.{page_within, within_limits}
 
 pub hosted_within : (text : Text) (refused : ℕ) (last : LimitReached) (named : Text → FilterAnswer) (depth : ℕ) (partials : List (Text × Nodes)) («data» : Map Datum) (nodes : Nodes)

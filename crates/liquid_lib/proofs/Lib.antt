@@ -12,7 +12,7 @@ pub mod HostedPages
 pub mod Interrupts
 pub mod ItemRuns
 pub mod Joined
-pub mod Kept
+pub mod StateKept
 pub mod LimitedPages
 pub mod LoopItems
 pub mod LoopMeanings

@@ -14,7 +14,7 @@ use Rattle.liquid_lib.specs.LimitedParts.{both}
 use Rattle.liquid_lib.specs.Pages.{ended_page, fault_of, page_view, shown, Shown}
 use Rattle.liquid_lib.specs.Performs.{Configuration, Performs}
 use Rattle.liquid_lib.specs.declared.limits.LimitReached.{LimitReached}
-use Rattle.liquid_lib.specs.declared.page.Page.{Page}
+use Rattle.liquid_lib.specs.declared.rendered_page.Page.{Page}
 use Rattle.liquid_lib.proofs.Taken.{none_refused, one_refused}
 
 -- into a buffer, beside a writer that a limit has refused so often

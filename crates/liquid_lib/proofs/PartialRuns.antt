@@ -31,7 +31,7 @@ use Rattle.liquid_core.specs.FilterAnswers.{FilterAnswer}
 use Rattle.liquid_evaluation.specs.Evaluation.{answers_with}
 use Rattle.liquid_lib.specs.declared.context.RunContext.{RunContext}
 use Rattle.liquid_lib.specs.inside.Engine.{nodes_meant, setting_of}
-use Rattle.liquid_lib.specs.Kept.{LayersKept}
+use Rattle.liquid_lib.specs.StateKept.{LayersKept}
 use Rattle.liquid_lib.specs.inside.Partials.{bound_as, depth_left, entry_at, entry_of, include_entry, item_entry, jekyll_entry, left_with, named_entry, render_environment, partial_of, render_entry, render_partial}
 use Rattle.liquid_lib.specs.Performs.{Configuration, Meets, MeetsAt, Performs, unit}
 use Rattle.liquid_lib.specs.Sinks.{Sink}

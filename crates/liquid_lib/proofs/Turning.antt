@@ -21,13 +21,13 @@ use Rattle.liquid_evaluation.specs.Names.{node_names, nodes_names, optional_name
 use Rattle.liquid_evaluation.specs.Tree.{Nodes, Source, Window, for_each, tablerow}
 use Rattle.liquid_meaning.specs.Within.{Within}
 use Rattle.liquid_meaning.proofs.Within.{left, right}
-use Rattle.liquid_lib.specs.Kept.{LayersKept}
+use Rattle.liquid_lib.specs.StateKept.{LayersKept}
 use Rattle.liquid_lib.specs.inside.LoopRuns.{StartsAt, cells_meant, one_cell, one_turn, turns_meant}
 use Rattle.liquid_lib.specs.inside.LoopTurns.{each_from}
 use Rattle.liquid_lib.specs.Performs.{Configuration, Meets, Performs, WritesText, unit}
 use Rattle.liquid_lib.specs.Sinks.{Sink}
 use Rattle.liquid_lib.proofs.Joined.{by_rule, bind_met, bind_faulted, change_met, done_met, read_met, write_met}
-use Rattle.liquid_lib.proofs.Kept.{kept_after, kept_interrupt}
+use Rattle.liquid_lib.proofs.StateKept.{kept_after, kept_interrupt}
 use Rattle.liquid_lib.proofs.LoopItems.{each_more, each_none}
 use Rattle.liquid_lib.proofs.PartialRuns.{partial_met}
 use Rattle.liquid_lib.proofs.Sinks.{Adds-nil}

@@ -4,7 +4,7 @@ ghost use Rattle.liquid_core.specs.States.{layers_of, loops_of};
 ghost use Rattle.liquid_syntax.specs.Templates.{tree_of};
 ghost use Rattle.liquid_evaluation.specs.Names.{nodes_names};
 ghost use Rattle.liquid_lib.specs.inside.Engine.{setting_of, nodes_in};
-ghost use Rattle.liquid_lib.specs.Kept.{Keeps, LayersKept, AreRenderNodes};
+ghost use Rattle.liquid_lib.specs.StateKept.{Keeps, LayersKept, AreRenderNodes};
 ghost use Rattle.liquid_lib.specs.Performs.{Performs, configuration_of};
 ghost use Rattle.liquid_lib.specs.Rendered.{run_in, names_in};
 ghost use Rattle.liquid_lib.specs.RuntimeView.{SettingKept, layers_in};

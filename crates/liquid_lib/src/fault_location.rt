@@ -22,7 +22,7 @@ pub(crate) fn located<H: NamedFilters>(
 ) -> Error
     ensures { IsKindOrMemory fault.kind result.kind }
 {
-    if is_settled(&fault) {
+    if is_complete(&fault) {
         return fault;
     }
     let Some(node) = nodes.get(at) else {
@@ -49,7 +49,7 @@ pub(crate) fn located_elsif(
 ) -> Error
     ensures { IsKindOrMemory fault.kind result.kind }
 {
-    if is_settled(&fault) {
+    if is_complete(&fault) {
         return fault;
     }
     match item_of_condition(alloc, condition, state) {
@@ -59,7 +59,7 @@ pub(crate) fn located_elsif(
 }
 
 /// Whether nothing is to be added to a fault.
-fn is_settled(fault: &Error) -> bool {
+fn is_complete(fault: &Error) -> bool {
     fault.location.is_some() || matches!(fault.kind, ErrorKind::Memory | ErrorKind::Write)
 }
 
@@ -67,7 +67,7 @@ fn is_settled(fault: &Error) -> bool {
 fn at_item(alloc: Global, places: Places<'_>, at: usize, item: PieceItem, fault: Error) -> Error
     ensures { IsKindOrMemory fault.kind result.kind }
 {
-    if is_settled(&fault) {
+    if is_complete(&fault) {
         return fault;
     }
     match location_of(alloc, places, at, item) {

@@ -13,7 +13,7 @@ use crate::context::{Places, RunContext};
 use crate::counted::{CountedWrite, NoWriter};
 use crate::limits::{Limited, Limits};
 use crate::output::Output;
-use crate::page::{LimitedPage, page_of_end, state_over};
+use crate::rendered_page::{LimitedPage, page_of_end, state_over};
 use liquid_core::{ErrorKind, NamedFilters, Object, Result, State};
 use liquid_syntax::{Partials, Template};
 use std::alloc::Global;

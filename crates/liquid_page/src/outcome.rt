@@ -16,7 +16,7 @@ pub enum Outcome {
     /// The words are no call.
     Usage,
     /// The file of this name can't be read, or isn't UTF-8.
-    Unread(String),
+    Unreadable(String),
     /// The page ended by a fault.
     Fault(Error),
 }
@@ -28,7 +28,7 @@ impl Outcome {
     {
         match self {
             Outcome::Done => 0,
-            Outcome::Unread(_) | Outcome::Fault(_) => 1,
+            Outcome::Unreadable(_) | Outcome::Fault(_) => 1,
             Outcome::Usage => 2,
         }
     }
@@ -42,7 +42,7 @@ impl fmt::Display for Outcome {
         match self {
             Outcome::Done => Ok(()),
             Outcome::Usage => f.write_str("usage: liquid_page TEMPLATE DATA [NAME=FILE ..]"),
-            Outcome::Unread(file) => {
+            Outcome::Unreadable(file) => {
                 let path = ShownPath {
                     path: file.as_str(),
                 };

@@ -23,7 +23,7 @@ use Rattle.liquid_meaning.specs.Runs.{Nothing}
 use Rattle.liquid_page_texts.specs.Page.{Sources, PageTexts, TemplateTrees, ArePartials}
 use Rattle.liquid_page_texts.specs.Page.{HasBadPartial, PageInputs}
 use Rattle.liquid_page_texts.specs.Page.{IsRead, RefusesTexts, IsPage, page_outcome}
-use Rattle.liquid_page_texts.specs.declared.page.ReadTexts.{ReadTexts}
+use Rattle.liquid_page_texts.specs.declared.page_from_texts.ReadTexts.{ReadTexts}
 
 abbrev pub page_inputs_view : ReadTexts → PageInputs
 page_inputs_view r = record {

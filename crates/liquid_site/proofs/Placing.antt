@@ -19,7 +19,7 @@ use Rattle.liquid_site.specs.Contents.{Trees, Contents, Pages, page_of, all_page
 use Rattle.liquid_site.specs.inside.Fresh.{selects, selected, all_placed}
 use Rattle.liquid_site.specs.declared.selection.Selection.TheVariants.{All}
 use Rattle.liquid_site.specs.Steps.{refreshed}
-use Rattle.liquid_site.proofs.Kept.{refreshed_all}
+use Rattle.liquid_site.proofs.KeptPages.{refreshed_all}
 
 placed_after : (name : Text) (y : Shown) (qs ps : Pages) → AllAbove name qs → all_placed qs ((name, y) ∷ ps) ≡ (name, y) ∷ all_placed qs ps
 placed_after name y [] ps h = refl

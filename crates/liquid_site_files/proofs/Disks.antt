@@ -12,7 +12,7 @@ use Rattle.liquid_lib.specs.Pages.{Shown}
 use Rattle.liquid_site.specs.Contents.{Pages}
 use Rattle.liquid_site.specs.Steps.{saturated_sum}
 use Rattle.liquid_site_files.specs.Written.{all_written, count_from, is_page_path, KeepsOtherFiles, unwritten_message, IsUnwritten, TellsUnwritten}
-use Rattle.liquid_disk.specs.Files.{File, Files, gone, holds, unread, with_file, is_held, ChangesAt, IsPut}
+use Rattle.liquid_disk.specs.Files.{File, Files, gone, holds, unreadable, with_file, is_held, ChangesAt, IsPut}
 use Rattle.liquid_disk.specs.declared.disk.DiskFault.{DiskFault}
 use Rattle.liquid_site_files.specs.inside.Needed.{NeededUnlessMemory}
 
@@ -27,7 +27,7 @@ file_there files path file h = fun_ext (λ q. at q (bytes_eq path q) refl)
 holding : (file : File) (text : Text) → is_held file text ≡ true → file ≡ holds text
 holding (holds held) text k = ap holds ((bytes_eq-Decides held text).0 k)
 holding gone text k = absurd cc
-holding unread text k = absurd cc
+holding unreadable text k = absurd cc
 
 pub unchanged_at : (o : Option Files) (path : Text) → IfSome o (λ f. ChangesAt path f o)
 unchanged_at None path = tt

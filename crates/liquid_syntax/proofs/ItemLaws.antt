@@ -171,8 +171,8 @@ loop_takes k head ts h =
     let (w, named, more) = bind_some (word_first ts) _ head h in
     let (rest, following, over) = bind_some (past_word (codes "in") w.1) _ head more in
     let (s, front, parts) = bind_some (source_first rest) _ head over in
-    let (ps, settle, same) = map_some (parts_after k no_parts s.1) (head_with w.0 s.0) head parts in
-    let (qs, read, is) = map_some (parts_of k s.1) (with_parts no_parts) ps settle in
+    let (ps, parts_read, same) = map_some (parts_after k no_parts s.1) (head_with w.0 s.0) head parts in
+    let (qs, read, is) = map_some (parts_of k s.1) (with_parts no_parts) ps parts_read in
     let there : ts ≡ word w.0 ∷ word (codes "in") ∷ source_token s.0 ∷ s.1 =
     first_word ts w.0 w.1 named ∙ ap (λ (ts : List Token). word w.0 ∷ ts) (past_word_is (codes "in") w.1 rest following) ∙ ap (λ (ts : List Token). word w.0 ∷ word (codes "in") ∷ ts) (first_source rest s.0 s.1 front) in
     let all = repeated_takes (part_first k) is_nothing (part_shorter k) (IsLoopPart k) IsNothing (part_takes k) (part_again k) nothing_is nothing_again s.1 qs read in
@@ -190,12 +190,12 @@ loop_again k head ts (a_loop {ps = ps} {ts = us} w s more) =
 
 -- ---- in the loop that reads parts
 
-settle_more : (ps : Parts) (p : Part) (o : Option (List Part)) → option_map (with_parts ps) (option_map (λ ps. p ∷ ps) o) ≡ option_map (with_parts (with_part ps p)) o
-settle_more ps p None = refl
-settle_more ps p (Some qs) = refl
+resolve_more : (ps : Parts) (p : Part) (o : Option (List Part)) → option_map (with_parts ps) (option_map (λ ps. p ∷ ps) o) ≡ option_map (with_parts (with_part ps p)) o
+resolve_more ps p None = refl
+resolve_more ps p (Some qs) = refl
 
 pub one_part_more : (k : LoopTag) (ps : Parts) (ts : List Token) (p : Part) (rest : List Token) → is_nothing ts ≡ false → part_first k ts ≡ Some (p, rest) → parts_after k ps ts ≡ parts_after k (with_part ps p) rest
-one_part_more k ps ts p rest e h = ap (option_map (with_parts ps)) (more_turn (part_first k) is_nothing (part_shorter k) ts p rest e h) ∙ settle_more ps p (parts_of k rest)
+one_part_more k ps ts p rest e h = ap (option_map (with_parts ps)) (more_turn (part_first k) is_nothing (part_shorter k) ts p rest e h) ∙ resolve_more ps p (parts_of k rest)
 
 pub no_part_more : (k : LoopTag) (ps : Parts) (ts : List Token) → is_nothing ts ≡ true → parts_after k ps ts ≡ Some ps
 no_part_more k ps ts e = ap (option_map (with_parts ps)) (end_turn (part_first k) is_nothing (part_shorter k) ts e)

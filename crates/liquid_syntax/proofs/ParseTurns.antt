@@ -7,7 +7,7 @@ use Rattle.liquid_model.specs.Texts.{Text}
 use Rattle.liquid_syntax.specs.inside.Building.{IsBuilding, Finishes, text_added}
 use Rattle.liquid_syntax.specs.inside.Classifies.{Classifies}
 use Rattle.liquid_syntax.specs.Classification.{if_of, unless_of, bare, capture_of, case_for, for_of, rows_of, one_or, many_or, two_or, tag_statement, raw_statement, comment_statement, reads, is_start, starts_block}
-use Rattle.liquid_language.specs.Roles.{role_of, unread_body}
+use Rattle.liquid_language.specs.Roles.{role_of, verbatim_body}
 use Rattle.liquid_lexer.specs.Items.{Item}
 use Rattle.liquid_lexer.specs.Tokens.{Token, tokens_of}
 use Rattle.liquid_language.specs.declared.block.Block.{Block}
@@ -152,8 +152,8 @@ piece_starts : (l : Language) (x : BlockContext) (p : Piece) → starts_block l 
 piece_starts l x (pieces.text t) h = absurd cc
 piece_starts l x (pieces.output is) h = absurd cc
 piece_starts l x (pieces.tag w is) h = tag_starts l is (tokens_of is) (role_of l x w) h
-piece_starts l x (pieces.raw w t) h = raw_starts t (unread_body (role_of l x w))
-piece_starts l x (pieces.comment w) h = comment_starts (unread_body (role_of l x w))
+piece_starts l x (pieces.raw w t) h = raw_starts t (verbatim_body (role_of l x w))
+piece_starts l x (pieces.comment w) h = comment_starts (verbatim_body (role_of l x w))
 
 pub no_room : (l : Language) (x : BlockContext) (p : Piece) (ls : List Level) (cur : Nodes) → starts_block l x p ≡ true → nat_le 200 (block_depth ls) ≡ true → statement_step (reads l x p) ls cur ≡ None
 no_room l x p ls cur o d = start_refused (reads l x p) ls cur (piece_starts l x p o) (full (block_depth ls) d)

@@ -23,9 +23,9 @@ use Rattle.liquid_syntax.specs.Flats.{bindings_view}
 use Rattle.liquid_syntax.specs.declared.node.Binding.{Binding}
 use Rattle.liquid_syntax.specs.declared.pair_items.PairStyle.TheVariants.{JekyllInclude}
 
-pub unread : {A : Type 0} (make : A → Node) (o : Option A) (e : ParseError) → Fails e o → Classifies (leaf_or (option_map make o)) (Err e)
-unread make o errors.Memory h = tt
-unread make o (errors.Fault f) h = ap (λ (o : Option _). leaf_or (option_map make o)) h
+pub malformed : {A : Type 0} (make : A → Node) (o : Option A) (e : ParseError) → Fails e o → Classifies (leaf_or (option_map make o)) (Err e)
+malformed make o errors.Memory h = tt
+malformed make o (errors.Fault f) h = ap (λ (o : Option _). leaf_or (option_map make o)) h
 
 unmapped : (o : Option Bindings) (ps : Bindings) → option_map (λ qs. [] ++ qs) o ≡ Some ps → o ≡ Some ps
 unmapped None ps h = absurd cc

@@ -36,10 +36,10 @@ pub enum Stage {
     First,
     /// The last body that the block can have.
     Last,
-    /// What stands before the first `when` or `else` of a `case`; it is not kept.
-    Unkept,
+    /// What stands before the first `when` or `else` of a `case`; its nodes are dropped.
+    CaseHead,
     /// The body of a `when`.
-    Armed,
+    WhenBody,
 }
 
 /// What a piece is, where it stands. A node with bodies doesn't know yet where they end.
@@ -48,7 +48,7 @@ pub enum Statement {
     /// A node without bodies.
     Leaf(Node),
     /// A block whose body isn't read, as a whole.
-    Closed(Node),
+    Verbatim(Node),
     /// The start of a block.
     Begins(Block, Stage, Node),
     /// `elsif`, as the `if` that it is in the else list.
@@ -56,9 +56,9 @@ pub enum Statement {
     /// `when`, with its values.
     When(Vec<Expression>),
     /// `else`
-    Otherwise,
+    Else,
     /// The end of the innermost block.
-    Ends,
+    End,
 }
 
 /// A block that is open.
@@ -105,7 +105,9 @@ impl Builder {
         match self.blocks.last() {
             None => BlockContext::Outside,
             Some(open) => match open.stage {
-                Stage::First | Stage::Unkept | Stage::Armed => BlockContext::InBody(open.block),
+                Stage::First | Stage::CaseHead | Stage::WhenBody => BlockContext::InBody(
+                    open.block,
+                ),
                 Stage::Last => BlockContext::InLast(open.block),
             },
         }
@@ -189,7 +191,7 @@ impl Builder {
         }
     }
 
-    /// `when`: the body of the one before it ends, or what isn't kept, and its own begins.
+    /// `when`: the body of the one before it ends, or the head of the `case`, and its own begins.
     fn when(&mut self, values: Vec<Expression>, left: usize) -> Result<(), ParseError>
         requires { IsBuilt self.old }
         ensures stack { (ls : List Level) (cur : Nodes) → IsBuilding self.old ls cur →
@@ -207,7 +209,7 @@ impl Builder {
                 self.blocks.push(Open {
                     node_index: open.node_index,
                     block: open.block,
-                    stage: Stage::Armed,
+                    stage: Stage::WhenBody,
                     chained: open.chained,
                 })?;
                 Ok(())
@@ -222,7 +224,7 @@ impl Builder {
         let open = self.blocks.last()?;
         match open.stage {
             Stage::First => Some(open.block),
-            Stage::Last | Stage::Unkept | Stage::Armed => None,
+            Stage::Last | Stage::CaseHead | Stage::WhenBody => None,
         }
     }
 
@@ -293,7 +295,7 @@ impl Builder {
     }
 
     /// A block whose body isn't read, where the blocks around it aren't too deep already.
-    fn closed(&mut self, node: Node, left: usize) -> Result<(), ParseError>
+    fn verbatim(&mut self, node: Node, left: usize) -> Result<(), ParseError>
         requires { (flat_of node).ends ≡ [] }
         ensures stack { (ls : List Level) (cur : Nodes) → IsBuilding self.old ls cur →
             AdvancesTo (to_closed ((flat_of node).head []) ls cur) self.new result }
@@ -340,12 +342,12 @@ impl Builder {
     {
         match statement {
             Statement::Leaf(node) => self.leaf(node),
-            Statement::Closed(node) => self.closed(node, left),
+            Statement::Verbatim(node) => self.verbatim(node, left),
             Statement::Begins(block, stage, node) => self.begin(block, stage, node, left),
             Statement::Elsif(node) => self.elsif(node, left),
             Statement::When(values) => self.when(values, left),
-            Statement::Otherwise => self.otherwise(left),
-            Statement::Ends => self.close(left),
+            Statement::Else => self.otherwise(left),
+            Statement::End => self.close(left),
         }
     }
 
@@ -373,8 +375,8 @@ fn takes_else(stage: Stage) -> bool
     match stage {
         Stage::First => true,
         Stage::Last => false,
-        Stage::Unkept => true,
-        Stage::Armed => true,
+        Stage::CaseHead => true,
+        Stage::WhenBody => true,
     }
 }
 
@@ -385,7 +387,7 @@ fn takes_when(stage: Stage) -> bool
     match stage {
         Stage::First => false,
         Stage::Last => false,
-        Stage::Unkept => true,
-        Stage::Armed => true,
+        Stage::CaseHead => true,
+        Stage::WhenBody => true,
     }
 }

@@ -47,7 +47,7 @@ pub fn parse(alloc: Global, source: &str, language: &Language) -> Result<Templat
 /// As [parse], for a template that keeps its source, in which a fault of a run finds the item that
 /// it is about. Of a source with more than 1 MiB nothing is kept, and the faults of its runs stand
 /// at their outputs and tags. `Memory` also where there is no room for the source.
-pub fn parse_kept(alloc: Global, source: &str, language: &Language) -> Result<Template>
+pub fn parse_with_source(alloc: Global, source: &str, language: &Language) -> Result<Template>
     ensures parses { ParsesTo language.now source.now result }
     ensures kinds { IfErr result (λ e. MayRefuse e.kind) }
 {

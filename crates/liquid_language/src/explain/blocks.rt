@@ -1,5 +1,5 @@
 //! Faults of tags' names and of blocks.
-use super::items::spelling_at;
+use super::misplaced_items::spelling_at;
 use super::names::meant_tag;
 use super::outline::{Opener, Otherwise, Outline};
 use super::phrasing::Phrasing;

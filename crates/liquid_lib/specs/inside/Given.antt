@@ -3,8 +3,8 @@ use Rattle.liquid_model.specs.Data.{Datum}
 use Rattle.liquid_model.specs.Maps.{Map, empty, insert}
 use Rattle.liquid_model.specs.View.{view}
 use Rattle.liquid_core.specs.Held.{held}
-use Rattle.liquid_lib.specs.declared.own_state.Given.{Given}
-use Rattle.liquid_lib.specs.declared.own_state.Given.TheVariants.{Names, Borrowed}
+use Rattle.liquid_lib.specs.declared.isolated_scope.Given.{Given}
+use Rattle.liquid_lib.specs.declared.isolated_scope.Given.TheVariants.{Names, Borrowed}
 
 abbrev pub given_map : Given → Map Datum
 given_map (Names o) = held o

@@ -16,7 +16,7 @@ use Rattle.liquid_core.specs.declared.state.State.{State}
 use Rattle.liquid_core.specs.declared.frame.Scope.{Scope}
 use Rattle.liquid_core.specs.declared.frame.LoopFrame.{LoopFrame}
 use Rattle.liquid_evaluation.specs.Names.{partials_names}
-use Rattle.liquid_lib.specs.Kept.{LayersKept}
+use Rattle.liquid_lib.specs.StateKept.{LayersKept}
 use Rattle.liquid_lib.specs.inside.LoopTurns.{turn_items}
 use Rattle.liquid_lib.specs.Performs.{Configuration}
 use Rattle.liquid_lib.specs.Sinks.{sink_of}

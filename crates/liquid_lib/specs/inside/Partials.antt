@@ -25,7 +25,7 @@ use Rattle.liquid_evaluation.specs.Tree.{Bindings, Nodes}
 use Rattle.liquid_syntax.specs.Templates.{template_nodes, most_of}
 use Rattle.liquid_syntax.specs.declared.template.Template.{Template}
 use Rattle.liquid_lib.specs.declared.context.RunContext.{RunContext}
-use Rattle.liquid_lib.specs.declared.own_state.EachItem.{EachItem}
+use Rattle.liquid_lib.specs.declared.isolated_scope.EachItem.{EachItem}
 use Rattle.liquid_meaning.specs.Meaning.{found, include_scope, partial_name_text, pairs_scope}
 
 -- the pairs, evaluated in order, and what is made of them

@@ -11,7 +11,7 @@ ghost use Rattle.liquid_evaluation.specs.Tree as tree;
 ghost use Rattle.liquid_syntax.specs.Flats.{Maker, IsForestAt, IsNodeRange, nodes_of, window_view};
 ghost use Rattle.liquid_syntax.specs.Forest.{Forest};
 ghost use Rattle.liquid_lib.specs.inside.Engine.{setting_of, node_in, nodes_in};
-ghost use Rattle.liquid_lib.specs.Kept.{Keeps};
+ghost use Rattle.liquid_lib.specs.StateKept.{Keeps};
 ghost use Rattle.liquid_lib.specs.inside.LoopRuns.{KeepsEnclosing, StartsAt, cells_meant};
 ghost use Rattle.liquid_lib.specs.inside.LoopRuns.{enclosing_configuration, enclosing_names};
 ghost use Rattle.liquid_lib.specs.inside.LoopRuns.{turns_meant};
@@ -20,11 +20,11 @@ ghost use Rattle.liquid_lib.specs.Performs.{Performs, configuration_of};
 use super::run_range;
 use crate::context::RunContext;
 use crate::counted::CountedWrite;
-use crate::loop_turns::{for_frame, row_frame, takes_break};
+use crate::loop_setup::{for_frame, row_frame, takes_break};
 use crate::output::Output;
 use crate::stdlib::Row;
 use liquid_core::{NamedFilters, Result, State};
-use liquid_syntax::{For, Node, TableRow, TwoBodies};
+use liquid_syntax::{BodyEnds, For, Node, TableRow};
 use std::alloc::Global;
 
 /// Runs the body for each item, or the nodes of `else` where there is none.
@@ -36,7 +36,7 @@ pub(super) fn run_for<'d, W: CountedWrite, H: NamedFilters>(
     nodes: &'d [Node],
     at: usize,
     head: &'d For,
-    bodies: TwoBodies,
+    bodies: BodyEnds,
     out: &mut Output<'_, W>,
     state: &mut State<'d>,
 ) -> Result<()>

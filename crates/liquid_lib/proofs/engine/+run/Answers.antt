@@ -33,7 +33,7 @@ use Rattle.liquid_meaning.proofs.Rules.{comment_rule, break_rule, continue_rule,
 use Rattle.liquid_lib.specs.inside.Changed.{shown_if_changed}
 use Rattle.liquid_lib.specs.inside.Choices.{CaseStands, HasCaseAt, Chosen, NodeComesTo}
 use Rattle.liquid_lib.specs.inside.Engine.{setting_of, node_meant, nodes_meant}
-use Rattle.liquid_lib.specs.Kept.{Keeps, LayersKept}
+use Rattle.liquid_lib.specs.StateKept.{Keeps, LayersKept}
 use Rattle.liquid_lib.specs.inside.Partials.{item_scope}
 use Rattle.liquid_meaning.specs.Within.{Within}
 use Rattle.liquid_evaluation.specs.Names.{partials_names}
@@ -44,7 +44,7 @@ use Rattle.liquid_lib.proofs.Choices.{chosen_inside, chosen_performs, refused_pe
 use Rattle.liquid_lib.proofs.Going.{leaf_performs, leaf_keeps, leaf_other, one, one_performs, one_keeps, one_other, two, two_performs, two_keeps, two_other, going_fault, going_halt, going_node, going_on, going_end, going_past, kept_step, alone_step, leaf_next, node_before, node_within}
 use Rattle.liquid_lib.proofs.Interrupts.{interrupt_of, some_of, none_of}
 use Rattle.liquid_lib.proofs.Joined.{by_rule, bind_met, bind_faulted, buffered_met, buffered_faulted, buffered_memory, change_met, done_met, gives_merged, memory_at}
-use Rattle.liquid_lib.proofs.Kept.{kept_same, kept_after, kept_assigned, kept_interrupt}
+use Rattle.liquid_lib.proofs.StateKept.{kept_same, kept_after, kept_assigned, kept_interrupt}
 use Rattle.liquid_lib.proofs.PartialRuns.{reserve, reserve_left, same_setting, include_found, include_refused, include_runs, item_refused, item_runs, jekyll_found, jekyll_refused, jekyll_runs, render_refused, render_runs, within_all, kept_around, partial_met}
 use Rattle.liquid_lib.proofs.ItemRuns.{items_left, item_on, item_breaks, item_faulted, items_end}
 use Rattle.liquid_lib.proofs.RenderEach.{item_run, name_refused, items_refused, items_met}

@@ -3,7 +3,7 @@ use Rattle.liquid_syntax.specs.Flats.{Maker, IsForestAt, nodes_of}
 use Rattle.liquid_syntax.specs.Forest.{Forest}
 use Rattle.liquid_evaluation.specs.Names.{nodes_names}
 use Rattle.liquid_lib.specs.inside.Engine.{setting_of, nodes_in}
-use Rattle.liquid_lib.specs.Kept.{Keeps, AreRenderNodes}
+use Rattle.liquid_lib.specs.StateKept.{Keeps, AreRenderNodes}
 use Rattle.liquid_lib.specs.Performs.{configuration_of}
 use Rattle.liquid_core.specs.States.{layers_of, loops_of, enclosing_scopes}
 use Rattle.liquid_lib.proofs.Going.{Going}
