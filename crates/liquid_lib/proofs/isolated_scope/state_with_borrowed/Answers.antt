@@ -5,7 +5,7 @@ use Rattle.liquid_core.specs.Held.{held}
 use Rattle.liquid_core.specs.States.{layers_of, with_scope_pushed}
 use Rattle.liquid_lib.proofs.Apart.{own_environment}
 use Rattle.liquid_lib.proofs.Renderings.{held_none}
-use Rattle.liquid_lib.proofs.own_state.state_with_borrowed.Goals as goal
+use Rattle.liquid_lib.proofs.isolated_scope.state_with_borrowed.Goals as goal
 
 pub returns : goal.returns
 returns c =
