@@ -20,4 +20,4 @@ pub record Settled (R : Result Content Refusal → Type 0) (number : ℕ) (left 
   where
     pub answer : Result Content Refusal
     pub is : R answer
-    pub told : Settles answer number left
+    pub agrees : Settles answer number left

@@ -24,8 +24,8 @@ pub record IsLack (p : List Step) (d : Datum) (l : Lacking) : Type 0 where
   pub on_the_way : IsElementOf (object l.among) (values_along before d)
   pub none_there : value_at (string_bytes key) l.among ≡ None
 
-abbrev pub LackingIsTold : Type 0
-LackingIsTold = (p : List Step) (d : Datum) (l : Lacking) → first_lack p d ≡ Some l → IsLack p d l
+abbrev pub FirstLackIsLack : Type 0
+FirstLackIsLack = (p : List Step) (d : Datum) (l : Lacking) → first_lack p d ≡ Some l → IsLack p d l
 
 abbrev pub NothingElseLacks : Type 0
 NothingElseLacks =

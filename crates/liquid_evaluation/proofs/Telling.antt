@@ -32,8 +32,8 @@ module _ {V : Type 0} {tells : V → List Text → Bool → V → Type 0} (telli
     pub item_ended : (first u v : V) (xs : List X) (i : ℕ) (x : X) (b : Bool) → Continues first xs i u → tells u (one x) b v → b ≡ true → x ≡ get_or xs i x → i < length xs → tells first (all xs) true v
     item_ended first u v xs i x b goes h holds is lt = goes true v (ended u v (one x) (all (drop (i + 1) xs)) _ b true h holds refl (next_item one all each xs i x is lt))
 
-    pub item_told : (first u v : V) (xs : List X) (i : ℕ) (x : X) (b : Bool) → Continues first xs i u → tells u (one x) b v → b ≡ false → x ≡ get_or xs i x → i < length xs → Continues first xs (i + 1) v
-    item_told first u v xs i x b goes h fails is lt r w k = goes r w (went_on u v w (one x) (all (drop (i + 1) xs)) _ b r h fails k (next_item one all each xs i x is lt))
+    pub item_visited : (first u v : V) (xs : List X) (i : ℕ) (x : X) (b : Bool) → Continues first xs i u → tells u (one x) b v → b ≡ false → x ≡ get_or xs i x → i < length xs → Continues first xs (i + 1) v
+    item_visited first u v xs i x b goes h fails is lt r w k = goes r w (went_on u v w (one x) (all (drop (i + 1) xs)) _ b r h fails k (next_item one all each xs i x is lt))
 
-    pub all_told : (first u : V) (xs : List X) (i : ℕ) → Continues first xs i u → length xs ≤ i → tells first (all xs) false u
-    all_told first u xs i goes le = goes false u (subst (λ l. tells u l false u) (sym (ap all (drop_all i xs le) ∙ each.none)) (telling.none u))
+    pub all_visited : (first u : V) (xs : List X) (i : ℕ) → Continues first xs i u → length xs ≤ i → tells first (all xs) false u
+    all_visited first u xs i goes le = goes false u (subst (λ l. tells u l false u) (sym (ap all (drop_all i xs le) ∙ each.none)) (telling.none u))

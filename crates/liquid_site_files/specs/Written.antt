@@ -53,7 +53,7 @@ pub record IsUnwritten (out : Text) (ps : Pages) (old : Files) (new : Option Fil
   pub all : ps ≡ front ++ page ∷ back
   pub needed : is_held (all_written out front old (out ++ page.0)) page.1.text ≡ false
   pub left : ChangesAt (out ++ page.0) (all_written out front old) new
-  pub told : option_map string_bytes e.message ≡ Some (unwritten_message (out ++ page.0))
+  pub message : option_map string_bytes e.message ≡ Some (unwritten_message (out ++ page.0))
 
 -- the page that isn't written, where that is the fault that is told
 abbrev pub TellsUnwritten : Text → Pages → Files → Option Files → Error → Type 0

@@ -3,10 +3,12 @@
 //! programs of rows share it.
 #![tactic(auto)]
 
+mod reporter;
 mod row;
 mod steps;
-mod told;
 
+pub use reporter::{
+    Reporter, ending, flag, found, kind_of, name_of, nil, number, optional, owned, text,
+};
 pub use row::{WorkedRow, items, items_member, member, read_row, text_member, text_of};
 pub use steps::{StateChange, step_of};
-pub use told::{Told, ending, flag, found, kind_of, name_of, nil, number, optional, owned, text};

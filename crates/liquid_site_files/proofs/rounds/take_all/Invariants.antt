@@ -11,5 +11,5 @@ abbrev pub invariant-loop-changed : goal.invariant-loop-changed
 invariant-loop-changed g l = record {
   language : language_of l.site ≡ language_of l.initial.site;
   taken : IfSome (g.D.Disk.files l.disk) (λ f. (d : Contents) → AreTaken (language_of l.initial.site) l.folder f (drop l.changed-index l.changes) (contents_of l.site) d → AreTaken (language_of l.initial.site) l.folder f l.changes (contents_of l.initial.site) d);
-  told : IfSome (g.D.Disk.files l.disk) (λ f. (rs : List RefusedFile) → AreRefusals (language_of l.initial.site) l.folder f (drop l.changed-index l.changes) rs → AreRefusals (language_of l.initial.site) l.folder f l.changes (l.refusals.items ++ rs));
+  reported : IfSome (g.D.Disk.files l.disk) (λ f. (rs : List RefusedFile) → AreRefusals (language_of l.initial.site) l.folder f (drop l.changed-index l.changes) rs → AreRefusals (language_of l.initial.site) l.folder f l.changes (l.refusals.items ++ rs));
 }

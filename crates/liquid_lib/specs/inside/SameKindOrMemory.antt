@@ -4,8 +4,8 @@ use Rattle.liquid_model.specs.declared.error.Error.{Error}
 use Rattle.liquid_model.specs.ErrorKinds.{IsKindOrMemory}
 
 -- the same value, or a fault of the same kind, unless memory ran out
-abbrev pub Retold : {V : Type 0} → Result V Error → Result V Error → Type 0
-Retold (Ok value) (Ok other) = other ≡ value
-Retold (Ok value) (Err f) = ⊥
-Retold (Err e) (Ok other) = ⊥
-Retold (Err e) (Err f) = IsKindOrMemory e.kind f.kind
+abbrev pub SameKindOrMemory : {V : Type 0} → Result V Error → Result V Error → Type 0
+SameKindOrMemory (Ok value) (Ok other) = other ≡ value
+SameKindOrMemory (Ok value) (Err f) = ⊥
+SameKindOrMemory (Err e) (Ok other) = ⊥
+SameKindOrMemory (Err e) (Err f) = IsKindOrMemory e.kind f.kind
