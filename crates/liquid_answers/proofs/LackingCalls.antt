@@ -1,4 +1,4 @@
--- Calls that are told one after another.
+-- Calls that the table lacks, listed one after another.
 use Rattle.std.proofs.Common.{◌≡◌, ℕ, suc, ◌+◌, ◌-◌, ◌<◌, ◌≤◌, List, [], ◌∷◌, ◌++◌, Some, None, Ordering, Less, length, refl, sym, ap, subst, arith}
 use Rattle.std.proofs.lemmas.List.{length-append}
 use Rattle.std.specs.Prelude.{slice_get}
@@ -51,7 +51,7 @@ front_snoc [] c = refl
 front_snoc (x ∷ []) c = refl
 front_snoc (x ∷ y ∷ ys) c = ap (λ zs. x ∷ zs) (front_snoc (y ∷ ys) c)
 
--- one more is told
+-- one more is listed
 pub lacking_calls_more : (table : Answers) (cs : List Value) (c : Value) → AreLackingCalls table cs → length cs < 1000 → length (json_list (items_view cs)) ≤ 1048576
     → ((last : Value) → slice_get cs (length cs - 1) ≡ Some last → by_view last c ≡ Less) → answer_at table (view c) ≡ None → AreLackingCalls table (cs ++ c ∷ [])
 lacking_calls_more table cs c are few short after lacks = record {
@@ -64,7 +64,7 @@ lacking_calls_more table cs c are few short after lacks = record {
 brackets : 2 ≤ 1048576
 brackets = omega arith
 
--- none is told
+-- none is listed
 pub lacking_calls_none : (table : Answers) → AreLackingCalls table []
 unfolding IsStrictlySortedBy
 lacking_calls_none table = record { lacking = tt; once = tt; few = omega arith; short = brackets }

@@ -27,7 +27,7 @@ among_either d (x ∷ xs) ys (inr a) = later (among_either d xs ys a)
     later (inl b) = inl (inr b)
     later (inr b) = inr b
 
--- ---- what is told is lacking
+-- ---- the first lack is a lack
 
 abbrev FirstIsLack : List Step → Type 0
 FirstIsLack p = (d : Datum) (l : Lacking) → first_lack p d ≡ Some l → IsLack p d l

@@ -1,6 +1,6 @@
 -- Laws of paths in data.
---     LackingIsTold      what is told to lack a path is a map on the way, and hasn't the next key
---     NothingElseLacks      where nothing is told, each map on the way has the next key
+--     FirstLackIsLack      the first that lacks a path is a map on the way without the next key
+--     NothingElseLacks      where nothing lacks it, each map on the way has the next key
 use Rattle.std.specs.Prelude.{◌≡◌, ◌⊎◌, false, bytes_eq, codes, string_bytes}
 use Rattle.std.specs.Prelude.{List, [], ◌∷◌, ◌++◌, length, Some, None, is_some, true, String}
 use Rattle.std.specs.declared.alloc.Global.{Global}

@@ -35,7 +35,7 @@ faulted_then {A} {B} kind a f h = on (is_memory kind) h
 pub faulted_as : {A : Type 0} (kind : ErrorKind) (a b : Result A ErrorKind) → a ≡ b → Faulted kind b → Faulted kind a
 faulted_as kind a b e h = subst (λ r. Faulted kind r) (sym e) h
 
--- the same fault, told again
+-- the same fault, with more in its message
 pub faulted_again : {A : Type 0} (kind reported : ErrorKind) (wanted : Result A ErrorKind) → IsKindOrMemory kind reported → Faulted kind wanted → Faulted reported wanted
 faulted_again kind reported wanted h f = on (is_memory reported) refl h
   where

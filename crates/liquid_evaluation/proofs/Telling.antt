@@ -20,7 +20,7 @@ module _ {V : Type 0} {tells : V → List Text → Bool → V → Type 0} (telli
   pub ended : (u v : V) (xs ys zs : List Text) (b r : Bool) → tells u xs b v → b ≡ true → r ≡ true → zs ≡ xs ++ ys → tells u zs r v
   ended u v xs ys zs b r h is holds e = subst (λ l. tells u l r v) (sym e) (subst (λ s. tells u (xs ++ ys) s v) (sym holds) (telling.ends u v xs ys (subst (λ s. tells u xs s v) is h)))
 
-  -- the first part was told, and then another
+  -- it visited the first part, and then another
   pub went_on : (u v w : V) (xs ys zs : List Text) (b r : Bool) → tells u xs b v → b ≡ false → tells v ys r w → zs ≡ xs ++ ys → tells u zs r w
   went_on u v w xs ys zs b r h is k e = subst (λ l. tells u l r w) (sym e) (telling.both u v w xs ys r (subst (λ s. tells u xs s v) is h) k)
 

@@ -68,7 +68,7 @@ bind_faulted va vb e m k p q (inr x) = inr (record { cause = x.cause; adds = par
 
 -- ---- want of memory
 
--- the same, with every argument told by the goal
+-- the same, with every argument inferred from the goal
 pub memory_at : {V A : Type 0} {view : V → A} {o : Outcome A} {s : Sink} {h : Environment} (e : Error) → e.kind ≡ Memory → MeetsAt view (Err e) o s s h
 memory_at e is = inr (record { cause = inl (is, inl refl); adds = AddsPart-none _ _ })
 

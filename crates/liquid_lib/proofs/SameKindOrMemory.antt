@@ -1,4 +1,4 @@
--- A step that ended by a fault ended so too where the fault is told again.
+-- A step that ended by a fault ended so too where the fault gets a location.
 use Rattle.std.proofs.Common.{◌≡◌, ℕ, Bool, true, false, [], Result, Ok, Err, inl, inr, refl, sym, ap, subst, ◌∙◌, append-nil}
 use Rattle.std.specs.Prelude.{MatchBool, ⊤}
 use Rattle.liquid_model.specs.declared.error.Error.{Error}

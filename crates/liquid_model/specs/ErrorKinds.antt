@@ -30,7 +30,7 @@ is_refusal Memory = true
 is_refusal Write = true
 is_refusal _ = false
 
--- the kind told is the wanted one, unless memory ran out
+-- the reported kind is the wanted one, unless memory ran out
 abbrev pub IsKindOrMemory : ErrorKind → ErrorKind → Type 0
 IsKindOrMemory wanted reported = MatchBool (is_memory reported) ⊤ (wanted ≡ reported)
 

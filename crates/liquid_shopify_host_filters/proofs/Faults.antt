@@ -1,4 +1,4 @@
--- A fault that was told is the wanted one.
+-- The reported fault is the wanted one.
 use Rattle.std.proofs.Common.{◌≡◌, Bool, true, false, MatchBool, Result, Err, sym, ap, ◌∙◌}
 use Rattle.std.specs.Bool.{⊤}
 use Rattle.liquid_model.specs.Answer.{Faulted}

@@ -13,7 +13,7 @@ pub(crate) fn unknown(alloc: Global) -> Error {
     Error::with_message(ErrorKind::UnknownPartial, String::new(alloc))
 }
 
-/// The fault of the kind that a division by zero is, with the message of the row, as it is told.
+/// The fault of the kind that a division by zero is, with the message of the row, as it is printed.
 pub(crate) fn fault_call(alloc: Global, name: &str, row: &WorkedRow) -> Result<Value> {
     let message = row.source.as_str();
     match name {

@@ -29,7 +29,7 @@
 //!   `src/asked.rt` tells.
 //! - `Check::NAME`: `findings` of the text `source`, each as its kind, line, column, start, length
 //!   and whether it follows; how many they are and the `nodes` of what is left; or `else_items`.
-//! - `Error::NAME`: a fault with the message `source`, as it is told.
+//! - `Error::NAME`: a fault with the message `source`, as it is printed.
 //! - `State`: calls of the state, one after another, as `src/states.rt` tells. `Site`: changes of a
 //!   site, as `src/sites.rt` tells. `LimitedSite`: the same of a site within the limits `on`.
 //! - `Example::shop`: the README's example of a site.
@@ -40,12 +40,12 @@
 //!   `Cycle::NAME`.
 //!
 //! With a word each call stands between marks, for `tests/refusals/run`, and how it ended after
-//! them. Where there is a row of a filter, each standard filter without one is told at the end.
+//! them. Where there is a row of a filter, each standard filter without one is named at the end.
 //!
 //! What rows of `date` and `date_in_tz` print was written by another program, `date` of the GNU
 //! core utilities, in the zone of each date. What directives print which that program lacks or
 //! prints in another way (`%C`, `%c`, `%f`, `%.f`, `%N`, `%^P`, `%Q`, `%r`, `%3u`, `%X`, `%x`,
-//! `%Z`) is told by the documentation of jiff.
+//! `%Z`) is what the documentation of jiff says.
 #![tactic(auto)]
 
 mod any_site;

@@ -1,4 +1,4 @@
-//! Rows of calls: how a row is read, and how it is told that its call ended as the row says. A call
+//! Rows of calls: how a row is read, and the report whether its call ended as the row says. A call
 //! stands between marks, for `tests/refusals/run`, which refuses its requests for memory. The
 //! programs of rows share it.
 #![tactic(auto)]

@@ -1,4 +1,4 @@
-//! How a call ends, and how that is told.
+//! How a call ends, and the report of it.
 ghost use Rattle.std.specs.Prelude.{◌≡◌, option_map};
 ghost use Rattle.liquid_model.specs.View.{view};
 ghost use Rattle.liquid_test_refusals.specs.Endings.{ending_of};
@@ -7,7 +7,7 @@ use crate::row::{WorkedRow, member, text_member, text_of};
 use liquid_core::{ErrorKind, Result, Value, ValueCow};
 use std::alloc::Global;
 
-/// Where answers are told, and whether each call stands between marks.
+/// Where answers are printed, and whether each call stands between marks.
 #[derive(Drop)]
 pub struct Reporter<'r, R> {
     pub rt: &'r R,

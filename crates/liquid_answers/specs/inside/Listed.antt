@@ -26,7 +26,7 @@ abbrev pub IsAfter : List Value → Value → Type 0
 IsAfter calls call = (last : Value) → slice_get calls (length calls - 1) ≡ Some last →
     on view order last call ≡ Less
 
--- the calls may be told, and the text is their list, but for its end
+-- the table lacks the calls, and the text is their list, but for its end
 pub record AreListed (table : Answers) (listed : Listed) : Type 0 where
   pub lacking_calls : AreLackingCalls table listed.calls.items
   pub text : string_bytes listed.text ≡ codes "[" ++ json_items [] (items_view listed.calls.items)

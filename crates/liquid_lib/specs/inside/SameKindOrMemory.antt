@@ -1,4 +1,4 @@
--- A fault that is told again, with where it stands.
+-- The same value, or a fault of the same kind, or of `Memory`.
 use Rattle.std.specs.Prelude.{◌≡◌, Result, Ok, Err}
 use Rattle.liquid_model.specs.declared.error.Error.{Error}
 use Rattle.liquid_model.specs.ErrorKinds.{IsKindOrMemory}
