@@ -5,7 +5,7 @@ use mathlib.Core.Path.{subst}
 use Rattle.liquid_model.specs.Data.{Datum, nil, truth, number, text, object, array, Items, no_items, item, Pairs}
 use Rattle.liquid_model.specs.Find.{value_at}
 use Rattle.liquid_data_paths.specs.DataPaths.{Lacking, first_lack, in_items, in_member, lack_at, of_each_item, of_found, or_later, values_along}
-use Rattle.liquid_data_paths.specs.Laws.{IsElementOf, IsLack, FirstLackIsLack, NothingElseLacks}
+use Rattle.liquid_data_paths.specs.Laws.{FirstLackIsLack, IsElementOf, IsLack, NothingElseLacks}
 use Rattle.liquid_data_paths.specs.declared.data_path.Step.{Step}
 use Rattle.liquid_data_paths.specs.declared.data_path.Step.TheVariants.{Key, Each}
 

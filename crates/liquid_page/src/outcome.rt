@@ -1,6 +1,6 @@
 //! How a call of the program ends.
 ghost use Rattle.std.specs.Prelude.{◌≡◌, Some, MatchResult};
-ghost use Rattle.liquid_page.specs.Outcomes.{IsOutOfMemory, outcome_status, outcome_line};
+ghost use Rattle.liquid_page.specs.Outcomes.{IsOutOfMemory, outcome_line, outcome_status};
 ghost use Rattle.liquid_page.specs.declared.outcome.Outcome.TheVariants.{Done, Fault};
 
 use liquid_core::{Error, Result};
