@@ -82,7 +82,7 @@ static text shown(int made) {
     return all;
 }
 
-static void told(const char *name, size_t at, uint32_t answer, const char *what) {
+static void report(const char *name, size_t at, uint32_t answer, const char *what) {
     wrong++;
     printf("row %zu, %s, request %zu: %u, %s\n", rows, name, at, (unsigned)answer, what);
 }
@@ -123,16 +123,16 @@ static uint32_t each(const char *name, uint32_t (*call)(const row *), const row 
         counts = false;
         if (requests < at) {
             if (takes) first = answer;
-            else if (!is_same(made, answer, first, left)) told(name, at, answer, "and none was refused");
+            else if (!is_same(made, answer, first, left)) report(name, at, answer, "and none was refused");
             break;
         }
         refused++;
         if (answer != BIKLEINU_MEMORY) {
-            told(name, at, answer, "where one was refused");
+            report(name, at, answer, "where one was refused");
             break;
         }
         if (!takes && !is_same(made, call(it), first, left)) {
-            told(name, at, answer, "and another page or fault after it");
+            report(name, at, answer, "and another page or fault after it");
             break;
         }
     }
@@ -179,16 +179,16 @@ int main(void) {
             text page = shown(PAGE);
             size_t length = bikleinu_length(&held[PAGE], BIKLEINU_TEXT);
             each("share", share, &it, SHARED, true);
-            if (!is_same(PAGE, render_shared(&it), ended, page)) told("render of what is shared", 0, ended, "and another page");
+            if (!is_same(PAGE, render_shared(&it), ended, page)) report("render of what is shared", 0, ended, "and another page");
             each("paths", find_paths, &it, PATHS, false);
             each("data for the template", read_for, &it, READ, false);
-            if (!is_same_page(render_read(&it), ended, page, length)) told("render of what is read for it", 0, ended, "and another page");
+            if (!is_same_page(render_read(&it), ended, page, length)) report("render of what is read for it", 0, ended, "and another page");
             free(page.at);
             each("complete", complete, &it, COMPLETED, false);
         }
         free(it.source.at), free(it.data.at);
         for (int at = TEMPLATE; at < HANDLES; at++) bikleinu_free(&held[at]);
-        if (blocks != before) told("all its calls", 0, BIKLEINU_DONE, "and memory is left behind");
+        if (blocks != before) report("all its calls", 0, BIKLEINU_DONE, "and memory is left behind");
     }
     bikleinu_free(&held[LANGUAGE]);
     printf("rows: %zu calls: %zu refused: %zu\n", rows, calls, refused);

@@ -41,21 +41,21 @@ def text_of(path):
 
 def read_edit(file):
     """The edit that the file holds."""
-    told, old, pairs = {"file": "", "goal": "", "by": ""}, None, []
+    named, old, pairs = {"file": "", "goal": "", "by": ""}, None, []
     for line in text_of(file).split("\n"):
         word, _, rest = line.partition(": ")
-        if word in told:
-            told[word] = rest.strip()
+        if word in named:
+            named[word] = rest.strip()
         elif line.startswith("old: "):
             old = line.removeprefix("old: ")
         elif line.startswith("new:"):
-            if not told["file"] or not old:
+            if not named["file"] or not old:
                 raise Unfit("a line new: before its lines file: and old:")
-            pairs.append((told["file"], old, line.removeprefix("new:").removeprefix(" ")))
+            pairs.append((named["file"], old, line.removeprefix("new:").removeprefix(" ")))
             old = None
     if not pairs:
         raise Unfit("it has no pair of lines old: and new:")
-    return Edit(file, tuple(pairs), told["goal"], told["by"])
+    return Edit(file, tuple(pairs), named["goal"], named["by"])
 
 
 def applied(edit, folder, texts, function=None):

@@ -97,7 +97,7 @@ impl Owner {
     }
 
     pub(crate) fn part(&self, part: u32) -> String {
-        // SAFETY: the handle is this owner's, and the bytes have the room that is told.
+        // SAFETY: the handle is this owner's, and the bytes have the room that is passed.
         let bytes = unsafe {
             let mut bytes = vec![0; bikleinu_length(self.at(), part)];
             let count = bikleinu_copy(self.at(), part, bytes.as_mut_ptr(), bytes.len());

@@ -20,4 +20,4 @@ pub record ResultStored (R : Result Content Refusal → Type 0) (number : ℕ)
     (left : Option HandleContent) : Type 0 where
   pub answer : Result Content Refusal
   pub is : R answer
-  pub told : StoresResult answer number left
+  pub agrees : StoresResult answer number left

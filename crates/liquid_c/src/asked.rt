@@ -69,7 +69,7 @@ fn asked_over(
         return Err(Refusal::OtherHandle);
     };
     match covering(alloc, template, partials) {
-        Ok(uses) => Ok(told(alloc, uses)),
+        Ok(uses) => Ok(paths_content(alloc, uses)),
         Err(fault) => Ok(Content::Fault(fault)),
     }
 }
@@ -82,7 +82,7 @@ fn covering(alloc: Global, template: &Template, partials: &Partials) -> Answer<U
 }
 
 /// The uses with their paths.
-fn told(alloc: Global, uses: Uses) -> Content
+fn paths_content(alloc: Global, uses: Uses) -> Content
     ensures { (partials : List (Text × Nodes)) (nodes : Nodes) → Covers partials nodes uses →
         TellsPaths partials nodes (Ok result) }
 {

@@ -69,13 +69,13 @@ fn named(
     let Some(partials) = partials else {
         return Err(Refusal::OtherHandle);
     };
-    match told(alloc, template, partials) {
+    match names_text(alloc, template, partials) {
         Ok(text) => Ok(Content::Names(text)),
         Err(fault) => Ok(Content::Fault(fault)),
     }
 }
 
-fn told(alloc: Global, template: &Template, partials: &Partials) -> Answer<String>
+fn names_text(alloc: Global, template: &Template, partials: &Partials) -> Answer<String>
     ensures names { IfOk result (λ it. AreNames (partials_of partials.now) (tree_of template.now)
         (string_bytes it)) }
     ensures memory { IfErr result (λ e. e.kind ≡ ErrorKind.Memory) }

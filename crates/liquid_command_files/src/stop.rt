@@ -119,7 +119,7 @@ impl fmt::Display for Stop {
     fn fmt<W: fmt::Write>(&self, f: &mut fmt::Formatter<W>) -> fmt::Result {
         match self {
             Stop::Refused | Stop::Faulted => Ok(()),
-            Stop::Usage(told) => f.write_str(told),
+            Stop::Usage(message) => f.write_str(message),
             Stop::Fault(fault) => write!(f, "{fault}"),
             Stop::Lacking(option, word, gap) => {
                 let word = ShownWord {
@@ -161,7 +161,7 @@ impl From<Error> for Stop {
 impl From<WordFault> for Stop {
     fn from(fault: WordFault) -> Stop {
         match fault {
-            WordFault::Wrong(told) => Stop::Usage(told),
+            WordFault::Wrong(message) => Stop::Usage(message),
             WordFault::Lacking(option, word, gap) => Stop::Lacking(option, word, gap),
             WordFault::Memory => Stop::from(AllocError),
         }

@@ -67,9 +67,9 @@ not_memory TooNested h = refl
 not_memory kind h = absurd cc
 
 -- any other kind is InvalidInput
-pub kind_replaced : (kind told : ErrorKind) (wanted : Result Datum ErrorKind) → nat_le (number_of kind) 17 ≡ false
-    → MatchBool (is_memory kind) ⊤ (wanted ≡ Err kind) → IsKindOrMemory InvalidInput told → Faulted told (of_host wanted)
-kind_replaced kind told wanted h m t = on (is_memory told) t
+pub kind_replaced : (kind reported : ErrorKind) (wanted : Result Datum ErrorKind) → nat_le (number_of kind) 17 ≡ false
+    → MatchBool (is_memory kind) ⊤ (wanted ≡ Err kind) → IsKindOrMemory InvalidInput reported → Faulted reported (of_host wanted)
+kind_replaced kind reported wanted h m t = on (is_memory reported) t
   where
     same : (b : Bool) → is_memory kind ≡ b → b ≡ false → MatchBool b ⊤ (wanted ≡ Err kind) → wanted ≡ Err kind
     same true e f n = absurd cc
@@ -78,17 +78,17 @@ kind_replaced kind told wanted h m t = on (is_memory told) t
     answered : of_host wanted ≡ Err InvalidInput
     answered = ap of_host (same (is_memory kind) refl (not_memory kind h) m) ∙ ap (λ b. Err (cond b kind InvalidInput)) h
 
-    on : (b : Bool) → MatchBool b ⊤ (InvalidInput ≡ told) → MatchBool b ⊤ ((of_host wanted ≡ Err told) × (is_refusal told ≡ false))
+    on : (b : Bool) → MatchBool b ⊤ (InvalidInput ≡ reported) → MatchBool b ⊤ ((of_host wanted ≡ Err reported) × (is_refusal reported ≡ false))
     on true n = n
     on false n = (answered ∙ ap Err n, ap is_refusal (sym n))
 
 -- ---- what is answered
 
-pub told_if : {X Y : Type 0} (within : Bool) (view : X → Y) (r : Result X Error) (wanted : Result Y ErrorKind) → AnswersIf within view r wanted → Tells view r wanted
-told_if true view (Ok x) wanted h = h
-told_if true view (Err e) wanted h = on (is_memory e.kind) h
+pub tells_if : {X Y : Type 0} (within : Bool) (view : X → Y) (r : Result X Error) (wanted : Result Y ErrorKind) → AnswersIf within view r wanted → Tells view r wanted
+tells_if true view (Ok x) wanted h = h
+tells_if true view (Err e) wanted h = on (is_memory e.kind) h
   where
     on : (b : Bool) → MatchBool b ⊤ ((wanted ≡ Err e.kind) × (is_refusal e.kind ≡ false)) → MatchBool b ⊤ (wanted ≡ Err e.kind)
     on true m = m
     on false m = m.0
-told_if false view r wanted h = h
+tells_if false view r wanted h = h

@@ -38,9 +38,9 @@ unless_memory : (b : Bool) {P : Type 0} → P → MatchBool b ⊤ P
 unless_memory true p = tt
 unless_memory false p = p
 
-pub told_front : (o : Option (List ℕ)) (m : String Global) (e : Error) → is_line 900 (string_bytes m) ≡ true → (IsTrue (is_message UnknownVariable (string_bytes m)) → e.message ≡ Some m)
+pub message_begins : (o : Option (List ℕ)) (m : String Global) (e : Error) → is_line 900 (string_bytes m) ≡ true → (IsTrue (is_message UnknownVariable (string_bytes m)) → e.message ≡ Some m)
     → IfSome o (λ form. (rest : List ℕ) × (string_bytes m ≡ without_value_front form ++ rest)) → IfSome o (λ form. BeginsUnlessMemory (without_value_front form) e)
-told_front None m e short told front = tt
-told_front (Some form) m e short told front =
-    let kept = told (line_is_message UnknownVariable (string_bytes m) (line_wider 900 1000 (string_bytes m) (omega arith) short)) in
+message_begins None m e short says front = tt
+message_begins (Some form) m e short says front =
+    let kept = says (line_is_message UnknownVariable (string_bytes m) (line_wider 900 1000 (string_bytes m) (omega arith) short)) in
     unless_memory (is_memory e.kind) (front.0, ap (option_map string_bytes) kept ∙ ap Some front.1)

@@ -141,7 +141,7 @@ impl Expression {
 
     /// The fault of an expression that has no value here.
     fn without_value(&self, alloc: Global, state: &State<'_>) -> Error
-        ensures told { IsKindOrMemory UnknownVariable result.kind }
+        ensures kind_or_memory { IsKindOrMemory UnknownVariable result.kind }
         ensures message { BeginsUnlessMemory
             (without_value_front (spelled (expression_view self.now))) result }
     {
@@ -207,7 +207,7 @@ impl Variable {
 
     /// The fault of a variable that has no value here.
     fn without_value(&self, alloc: Global, state: &State<'_>) -> Error
-        ensures told { IsKindOrMemory UnknownVariable result.kind }
+        ensures kind_or_memory { IsKindOrMemory UnknownVariable result.kind }
         ensures message { BeginsUnlessMemory
             (without_value_front (spelled (variable_view self.now))) result }
     {
@@ -229,7 +229,7 @@ impl Variable {
 
 /// The fault of an expression or a variable that has no value, by its spelling and further words.
 fn without_value<D: Display>(alloc: Global, spelled: &D, words: Words) -> Error
-    ensures told { IsKindOrMemory UnknownVariable result.kind }
+    ensures kind_or_memory { IsKindOrMemory UnknownVariable result.kind }
     ensures message { IfSome (D.output spelled.now)
         (λ form. BeginsUnlessMemory (without_value_front form) result) }
 {

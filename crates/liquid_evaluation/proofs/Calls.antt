@@ -35,12 +35,12 @@ faulted_then {A} {B} kind a f h = on (is_memory kind) h
 pub faulted_as : {A : Type 0} (kind : ErrorKind) (a b : Result A ErrorKind) → a ≡ b → Faulted kind b → Faulted kind a
 faulted_as kind a b e h = subst (λ r. Faulted kind r) (sym e) h
 
--- the same fault, told again
-pub faulted_told : {A : Type 0} (kind told : ErrorKind) (wanted : Result A ErrorKind) → IsKindOrMemory kind told → Faulted kind wanted → Faulted told wanted
-faulted_told kind told wanted h f = on (is_memory told) refl h
+-- the same fault, with more in its message
+pub faulted_again : {A : Type 0} (kind reported : ErrorKind) (wanted : Result A ErrorKind) → IsKindOrMemory kind reported → Faulted kind wanted → Faulted reported wanted
+faulted_again kind reported wanted h f = on (is_memory reported) refl h
   where
-    on : (b : Bool) → is_memory told ≡ b → MatchBool b ⊤ (kind ≡ told) → MatchBool (is_memory told) ⊤ ((wanted ≡ Err told) × (is_refusal told ≡ false))
-    on true is m = subst (λ b. MatchBool b ⊤ ((wanted ≡ Err told) × (is_refusal told ≡ false))) (sym is) tt
+    on : (b : Bool) → is_memory reported ≡ b → MatchBool b ⊤ (kind ≡ reported) → MatchBool (is_memory reported) ⊤ ((wanted ≡ Err reported) × (is_refusal reported ≡ false))
+    on true is m = subst (λ b. MatchBool b ⊤ ((wanted ≡ Err reported) × (is_refusal reported ≡ false))) (sym is) tt
     on false is m = subst (λ k. Faulted k wanted) m f
 
 -- ---- answers of filters whose kinds need not be the meaning's

@@ -38,7 +38,7 @@ item_past [] i h = refl
 item_past (v ∷ vs) zero h = absurd (omega arith)
 item_past (v ∷ vs) (suc i) h = item_past vs i (omega arith)
 
--- the items of a value are counted before it is told whether they are too many
+-- the items of a value are counted before they are checked against the bound
 by_parts : (v : Result (List Datum) ErrorKind) → ((v >>= (λ ds. not_too_long (length ds) ds)) >>= (λ ds. Ok (length ds))) ≡ ((v >>= (λ ds. Ok (length ds))) >>= checked_count)
 by_parts (Err kind) = refl
 by_parts (Ok ds) = on (nat_le (length ds) most_items)

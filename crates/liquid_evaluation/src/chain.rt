@@ -189,7 +189,7 @@ fn of_filter(alloc: Global, name: &str, fault: Error) -> Error
     };
     let quoted = Quoted { text: name };
     match format!(in alloc; "`{quoted}`: {message}") {
-        Ok(message) => fault.retold(message),
+        Ok(message) => fault.reworded(message),
         Err(refused) => Error::from(refused),
     }
 }

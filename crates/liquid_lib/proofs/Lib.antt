@@ -22,7 +22,7 @@ pub mod Pieces
 pub mod RenderEach
 pub mod RenderKinds
 pub mod Renderings
-pub mod Retold
+pub mod SameKindOrMemory
 pub mod Silent
 pub mod Sinks
 pub mod SourceRuns

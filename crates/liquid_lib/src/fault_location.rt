@@ -1,6 +1,6 @@
 //! Where the faults of a run stand. What is done for that is done only where a run ends by a fault.
 ghost use Rattle.liquid_model.specs.ErrorKinds.{IsKindOrMemory};
-ghost use Rattle.liquid_lib.specs.inside.Retold.{Retold};
+ghost use Rattle.liquid_lib.specs.inside.SameKindOrMemory.{SameKindOrMemory};
 
 use crate::context::{Places, RunContext};
 use crate::fault_item::{item_of_condition, item_of_node, with_missing_entry};
@@ -30,8 +30,8 @@ pub(crate) fn located<H: NamedFilters>(
     };
     match item_of_node(alloc, node, state, context.host, fault.kind) {
         Ok(item) => {
-            let told = with_missing_entry(alloc, node, item, state, fault);
-            at_item(alloc, context.places, at, item, told)
+            let fault_with_entry = with_missing_entry(alloc, node, item, state, fault);
+            at_item(alloc, context.places, at, item, fault_with_entry)
         }
         Err(_) => Error::from(AllocError),
     }
@@ -103,7 +103,7 @@ fn location_of(
 /// says its name.
 #[inline(never)]
 pub(crate) fn in_partial<T: Drop>(alloc: Global, name: &str, answer: Result<T>) -> Result<T>
-    ensures { Retold answer result }
+    ensures { SameKindOrMemory answer result }
 {
     match answer {
         Ok(value) => Ok(value),

@@ -52,8 +52,8 @@ borrowed_begun known wanted read t d ps old new ts ds pss is begun = left_begun 
 
 ended_by : (texts : PageTexts) (r : Result (Unit {0}) Error) (o : Outcome) (wanted : Result PageTexts Stop) (old new : Option (List ℕ))
     → wanted ≡ Ok texts → (is_refused r ≡ false → IsPageWritten texts r old new) → MatchResult r (λ u. o ≡ Done) (λ e. o ≡ Fault e) → EndsCall wanted o old new
-ended_by texts (Ok u) o wanted old new is written told = subst (λ x. EndsCall wanted x old new) (sym told) (texts, is, written refl)
-ended_by texts (Err e) o wanted old new is written told = subst (λ x. EndsCall wanted x old new) (sym told) (fault_of (is_refusal e.kind) refl)
+ended_by texts (Ok u) o wanted old new is written ends = subst (λ x. EndsCall wanted x old new) (sym ends) (texts, is, written refl)
+ended_by texts (Err e) o wanted old new is written ends = subst (λ x. EndsCall wanted x old new) (sym ends) (fault_of (is_refusal e.kind) refl)
   where
     fault_of : (b : Bool) → is_refusal e.kind ≡ b → MatchBool b ⊤ ((t : PageTexts) × (wanted ≡ Ok t) × IsPageWritten t (Err e) old new)
     fault_of true q = tt
@@ -61,15 +61,15 @@ ended_by texts (Err e) o wanted old new is written told = subst (λ x. EndsCall 
 
 left_ended : (known : Option ReadableFiles) (wanted : ReadableFiles → Result PageTexts Stop) (texts : PageTexts) (r : Result (Unit {0}) Error) (o : Outcome) (old new : Option (List ℕ))
     → IfSome known (λ files. wanted files ≡ Ok texts) → (is_refused r ≡ false → IsPageWritten texts r old new) → MatchResult r (λ u. o ≡ Done) (λ e. o ≡ Fault e) → IfSome known (λ files. EndsCall (wanted files) o old new)
-left_ended None wanted texts r o old new read written told = tt
-left_ended (Some files) wanted texts r o old new read written told = ended_by texts r o (wanted files) old new read written told
+left_ended None wanted texts r o old new read written ends = tt
+left_ended (Some files) wanted texts r o old new read written ends = ended_by texts r o (wanted files) old new read written ends
 
 -- the same of borrowed texts
 pub borrowed_ended : (known : Option ReadableFiles) (wanted : ReadableFiles → Result PageTexts Stop) (read : PageTexts) (t d : Text) (ps : Sources) (r : Result (Unit {0}) Error) (o : Outcome) (old new : Option (List ℕ))
     → t ≡ read.template → d ≡ read.«data» → ps ≡ read.partials
     → IfSome known (λ files. wanted files ≡ Ok read) → (is_refused r ≡ false → IsPageWritten (record { template = t; «data» = d; partials = ps }) r old new)
     → MatchResult r (λ u. o ≡ Done) (λ e. o ≡ Fault e) → IfSome known (λ files. EndsCall (wanted files) o old new)
-borrowed_ended known wanted read t d ps r o old new ts ds pss is written told = left_ended known wanted read r o old new is (λ q.
+borrowed_ended known wanted read t d ps r o old new ts ds pss is written ends = left_ended known wanted read r o old new is (λ q.
     (subst (λ x. IsPageWritten (record { template = x; «data» = read.«data»; partials = read.partials }) r old new) ts
     (subst (λ x. IsPageWritten (record { template = t; «data» = x; partials = read.partials }) r old new) ds
-    (subst (λ x. IsPageWritten (record { template = t; «data» = d; partials = x }) r old new) pss (written q))))) told
+    (subst (λ x. IsPageWritten (record { template = t; «data» = d; partials = x }) r old new) pss (written q))))) ends

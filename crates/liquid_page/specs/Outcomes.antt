@@ -12,11 +12,11 @@ outcome_status (Unreadable file) = 1
 outcome_status (Fault e) = 1
 outcome_status Usage = 2
 
-abbrev pub told : Outcome → List ℕ
-told Done = []
-told (Unreadable file) = codes "error: Read: " ++ shown_path (string_bytes file)
-told (Fault e) = codes "error: " ++ error_text e
-told Usage = codes "usage: liquid_page TEMPLATE DATA [NAME=FILE ..]"
+abbrev pub outcome_line : Outcome → List ℕ
+outcome_line Done = []
+outcome_line (Unreadable file) = codes "error: Read: " ++ shown_path (string_bytes file)
+outcome_line (Fault e) = codes "error: " ++ error_text e
+outcome_line Usage = codes "usage: liquid_page TEMPLATE DATA [NAME=FILE ..]"
 
 -- memory ran out
 abbrev pub IsOutOfMemory : Outcome → Type 0

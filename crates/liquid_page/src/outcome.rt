@@ -1,6 +1,6 @@
 //! How a call of the program ends.
 ghost use Rattle.std.specs.Prelude.{◌≡◌, Some, MatchResult};
-ghost use Rattle.liquid_page.specs.Outcomes.{IsOutOfMemory, outcome_status, told};
+ghost use Rattle.liquid_page.specs.Outcomes.{IsOutOfMemory, outcome_line, outcome_status};
 ghost use Rattle.liquid_page.specs.declared.outcome.Outcome.TheVariants.{Done, Fault};
 
 use liquid_core::{Error, Result};
@@ -36,7 +36,7 @@ impl Outcome {
 
 /// What goes to standard error: nothing where the page is written.
 impl fmt::Display for Outcome {
-    ghost output = { λ outcome. Some (told outcome) };
+    ghost output = { λ outcome. Some (outcome_line outcome) };
 
     fn fmt<W: fmt::Write>(&self, f: &mut fmt::Formatter<W>) -> fmt::Result {
         match self {

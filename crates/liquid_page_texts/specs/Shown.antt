@@ -83,5 +83,5 @@ ShowsStandard texts r old new = (l : Language) × IsStandard l × Shows l texts 
 
 -- before anything was written, memory ran out
 pub record RanOut (r : Result (Unit {0}) Error) (old new : Option (List ℕ)) : Type 0 where
-  pub told : IsErrAnd r (λ e. e.kind ≡ Memory)
+  pub memory : IsErrAnd r (λ e. e.kind ≡ Memory)
   pub kept : Keeps old new

@@ -59,8 +59,8 @@ IsRefusal l folder files changed (Some refusal) =
 
 -- what a round says of all changed files, one after another
 abbrev pub AreRefusals : Language → Folder → Files → List Changed → List RefusedFile → Type 0
-AreRefusals l folder files [] told = told ≡ []
-AreRefusals l folder files (changed ∷ rest) told =
+AreRefusals l folder files [] refused = refused ≡ []
+AreRefusals l folder files (changed ∷ rest) refused =
     (refusal : Option RefusedFile) × (later : List RefusedFile) ×
     IsRefusal l folder files changed refusal × AreRefusals l folder files rest later ×
-    (told ≡ option_to_list refusal ++ later)
+    (refused ≡ option_to_list refusal ++ later)

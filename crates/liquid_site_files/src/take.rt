@@ -173,7 +173,7 @@ fn apply(site: &mut Site, change: Change) -> Result<Option<RefusalReason>>
 /// A fault of a file's text is a refusal of this file. Without memory there is no answer.
 fn refused(error: Error) -> Result<Option<RefusalReason>>
     ensures fault { IfOk result (λ why. why ≡ Some (RefusalReason.Fault error)) }
-    ensures told { IfOk result (λ _. is_memory error.kind ≡ false) }
+    ensures not_memory { IfOk result (λ _. is_memory error.kind ≡ false) }
     ensures same { IfErr result (λ e. e ≡ error) }
     ensures memory { IfErr result (λ e. e.kind ≡ ErrorKind.Memory) }
 {

@@ -1,5 +1,5 @@
 -- The written grammar of blocks: which nodes a list of pieces is. What a single piece is, where it
--- stands, is told by `Is`.
+-- stands, `Is` says.
 use Rattle.std.specs.Prelude.{ℕ, suc, List, ◌∷◌}
 use Rattle.liquid_core.specs.Expression.{Expression}
 use Rattle.liquid_evaluation.specs.Tree.{Node, Nodes, no_nodes, node, Whens, no_whens, when}

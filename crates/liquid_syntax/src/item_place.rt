@@ -1,5 +1,5 @@
 //! Where an item of a piece stands in the source, which is asked for only where a fault of a run is
-//! told: the piece is read once more.
+//! reported: the piece is read once more.
 use crate::positions::{Position, rest_from};
 use crate::when_place::from_when;
 use liquid_lexer::{Item, PlacedItem, Symbol, is_word, placed_piece};

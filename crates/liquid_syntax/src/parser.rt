@@ -72,9 +72,9 @@ fn error_of(alloc: Global, source: &str, language: &Language, error: ParseError)
     match error {
         ParseError::Memory => Error::from(AllocError),
         ParseError::Fault(fault) => match explanation_of(alloc, source, language, fault) {
-            Ok(told) => Error::with_message(fault.kind.kind(), told.message).located(
+            Ok(explanation) => Error::with_message(fault.kind.kind(), explanation.message).located(
                 alloc,
-                location(source, told.remaining),
+                location(source, explanation.remaining),
             ),
             Err(refused) => Error::from(refused),
         },

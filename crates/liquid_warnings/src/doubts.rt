@@ -31,13 +31,13 @@ pub(crate) fn add_doubts(
 ) -> Result<()>
     ensures memory { IfErr result (λ e. e.kind ≡ ErrorKind.Memory) }
 {
-    let mut told = BTreeSet::new(alloc);
+    let mut seen = BTreeSet::new(alloc);
     for asked in asked_paths(alloc, template, names)? {
         if is_full(remarks) {
             break;
         }
         if let Some(doubt) = doubt_of(alloc, data, &asked.path, asked.want)? {
-            add_once(alloc, remark_of(alloc, &asked, doubt)?, &mut told, remarks)?;
+            add_once(alloc, remark_of(alloc, &asked, doubt)?, &mut seen, remarks)?;
         }
     }
     Ok(())
@@ -47,14 +47,14 @@ pub(crate) fn add_doubts(
 fn add_once(
     alloc: Global,
     remark: Option<Remark>,
-    told: &mut BTreeSet<String>,
+    seen: &mut BTreeSet<String>,
     remarks: &mut Vec<Remark>,
 ) -> Result<()>
     ensures memory { IfErr result (λ e. e.kind ≡ ErrorKind.Memory) }
 {
     if let Some(remark) = remark {
-        if !told.contains(remark.message.as_str()) {
-            add_name(alloc, told, remark.message.as_str())?;
+        if !seen.contains(remark.message.as_str()) {
+            add_name(alloc, seen, remark.message.as_str())?;
             remarks.push(remark)?;
         }
     }

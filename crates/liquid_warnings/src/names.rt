@@ -2,7 +2,7 @@
 ghost use Rattle.std.specs.Prelude.{◌≡◌, IfOk, codes, string_bytes};
 ghost use Rattle.liquid_warnings.specs.Messages.{unused_message};
 ghost use Rattle.liquid_warnings.specs.Remarks.{remark_view, warning};
-ghost use Rattle.liquid_warnings.specs.inside.Told.{nothing_told};
+ghost use Rattle.liquid_warnings.specs.inside.Tellings.{trivial_telling};
 
 use crate::messages::{lack_message, most_similar_key, most_similar_of_set, name_of};
 use crate::remark::Remark;
@@ -115,7 +115,7 @@ impl NameVisitor for Gather {
         add_place(self.alloc, &mut self.names, name, self.position).is_err()
     }
 
-    ghost laws = { nothing_told };
+    ghost laws = { trivial_telling };
 }
 
 /// Adds a name with its place, unless it is there.

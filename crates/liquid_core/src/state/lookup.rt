@@ -200,7 +200,7 @@ fn along<'a, 'd>(
 }
 
 fn unknown(alloc: Global, path: &[Value]) -> Error
-    ensures told { IsKindOrMemory UnknownVariable result.kind }
+    ensures kind_or_memory { IsKindOrMemory UnknownVariable result.kind }
     ensures message { HasMessageUnlessMemory (nowhere_message (map view path.now)) result }
 {
     match path.first() {
@@ -215,7 +215,7 @@ fn unknown(alloc: Global, path: &[Value]) -> Error
 
 /// Of a path that begins with this name.
 fn unknown_from(alloc: Global, name: &Value) -> Error
-    ensures told { IsKindOrMemory UnknownVariable result.kind }
+    ensures kind_or_memory { IsKindOrMemory UnknownVariable result.kind }
     ensures message { HasMessageUnlessMemory (nowhere_message (view name.now ∷ [])) result }
 {
     match name.text(alloc) {

@@ -69,7 +69,7 @@ abbrev pub entry_of : {S : Type 0} → (List (Text × Datum) → S) → Result N
 entry_of over look depth bindings e =
     bound_as over bindings e >>= (λ made. look >>= (λ partial. entry_at depth made partial))
 
--- before that the name is evaluated, and it is told with the rest
+-- before that the name is evaluated, and the rest comes with it
 abbrev pub named_entry : {S : Type 0} → (List (Text × Datum) → S) →
     (Text → Result Nodes ErrorKind) → ℕ → Expression → Bindings → Environment →
     Result (S × (Text × (Nodes × ℕ))) ErrorKind

@@ -237,7 +237,8 @@ abbrev pub IsMemory : Result (Unit {0}) ParseError → Type 0
 IsMemory (Ok _) = Unit {0}
 IsMemory (Err e) = e ≡ errors.Memory
 
--- the innermost block has ended with the nodes since, and whether an `elsif` opened it is told
+-- the innermost block has ended with the nodes since, and the answer says whether an `elsif` opened
+-- it
 abbrev pub Closes : List Level → Nodes → Builder → Option Bool → Type 0
 Closes [] cur b None = Unit {0}
 Closes [] cur b (Some k) = ⊥

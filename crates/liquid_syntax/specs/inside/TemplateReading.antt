@@ -36,7 +36,7 @@ template_at l source =
 abbrev pub whole_at : Language → State → Markup × Text → Option (Markup × Text)
 whole_at l s m = body_at (wanted_body (body_of l s) m.0.piece) m.0 m.1
 
--- The builder went on to the state after the piece, memory aside, and it is told whether the
+-- The builder went on to the state after the piece, memory aside, and the answer says whether the
 -- closer strips what is left, and what that is. No fault is answered where the piece is taken.
 abbrev pub AddsPiece : Language → Markup × Text → State → Builder →
     Result (Bool × Bor Text) ParseError → Type 0

@@ -48,7 +48,7 @@ use Rattle.liquid_lib.proofs.StateKept.{kept_same, kept_after, kept_assigned, ke
 use Rattle.liquid_lib.proofs.PartialRuns.{reserve, reserve_left, same_setting, include_found, include_refused, include_runs, item_refused, item_runs, jekyll_found, jekyll_refused, jekyll_runs, render_refused, render_runs, within_all, kept_around, partial_met}
 use Rattle.liquid_lib.proofs.ItemRuns.{items_left, item_on, item_breaks, item_faulted, items_end}
 use Rattle.liquid_lib.proofs.RenderEach.{item_run, name_refused, items_refused, items_met}
-use Rattle.liquid_lib.proofs.Retold.{fault_again, met_again}
+use Rattle.liquid_lib.proofs.SameKindOrMemory.{fault_again, met_again}
 use Rattle.liquid_lib.proofs.Silent.{leaf_loud, one_loud, two_loud, silent_done, silent_next}
 use Rattle.liquid_lib.proofs.Sinks.{Around}
 use Rattle.liquid_lib.proofs.Whole.{stood_in}

@@ -1,6 +1,6 @@
 //! The message about a record without a page.
 ghost use Rattle.std.specs.Prelude.{Some};
-ghost use Rattle.liquid_records.specs.Told.{failure_text, why_text};
+ghost use Rattle.liquid_records.specs.Messages.{failure_text, why_text};
 
 use crate::job::Why;
 use crate::merge::Failure;

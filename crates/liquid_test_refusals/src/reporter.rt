@@ -1,4 +1,4 @@
-//! How a call ends, and how that is told.
+//! How a call ends, and the report of it.
 ghost use Rattle.std.specs.Prelude.{◌≡◌, option_map};
 ghost use Rattle.liquid_model.specs.View.{view};
 ghost use Rattle.liquid_test_refusals.specs.Endings.{ending_of};
@@ -7,15 +7,15 @@ use crate::row::{WorkedRow, member, text_member, text_of};
 use liquid_core::{ErrorKind, Result, Value, ValueCow};
 use std::alloc::Global;
 
-/// Where answers are told, and whether each call stands between marks.
+/// Where answers are printed, and whether each call stands between marks.
 #[derive(Drop)]
-pub struct Told<'r, R> {
+pub struct Reporter<'r, R> {
     pub rt: &'r R,
     pub alloc: Global,
     pub marked: bool,
 }
 
-impl<R: Print> Told<'_, R> {
+impl<R: Print> Reporter<'_, R> {
     /// The first mark, after which requests for memory count.
     pub fn begin(&self) {
         if self.marked {
@@ -87,12 +87,14 @@ pub fn ending(answer: &Result<Value>, wanted: &Value, fault: Option<&str>) -> &'
             "another_answer"
         },
         (Ok(_), Some(_)) => "an_answer_in_place_of_a_fault",
-        (Err(told), Some(name)) => if told.kind.name() == name && told.kind != ErrorKind::Memory {
+        (Err(found), Some(name)) => if found.kind.name() == name
+            && found.kind != ErrorKind::Memory
+        {
             "done"
         } else {
-            told.kind.name()
+            found.kind.name()
         },
-        (Err(told), None) => told.kind.name(),
+        (Err(found), None) => found.kind.name(),
     }
 }
 

@@ -1,4 +1,4 @@
--- What is told of a record without a page, after its number.
+-- What a message says of a record without a page, after its number.
 use Rattle.std.specs.Prelude.{◌++◌, codes, string_bytes}
 use Rattle.std.specs.Fmt.{decimal}
 use Rattle.liquid_model.specs.Errors.{error_text}

@@ -1,4 +1,4 @@
--- Calls that are told one after another.
+-- Calls that the table lacks, listed one after another.
 use Rattle.std.proofs.Common.{◌≡◌, ℕ, suc, ◌+◌, ◌-◌, ◌<◌, ◌≤◌, List, [], ◌∷◌, ◌++◌, Some, None, Ordering, Less, length, refl, sym, ap, subst, arith}
 use Rattle.std.proofs.lemmas.List.{length-append}
 use Rattle.std.specs.Prelude.{slice_get}
@@ -10,7 +10,7 @@ use Rattle.liquid_model.specs.OrderLaws.{order_total}
 use Rattle.liquid_model.specs.View.{items_view, view}
 use Rattle.liquid_model.specs.declared.value.Value.{Value}
 use Rattle.liquid_jekyll_host_filters.specs.Json.{json_list}
-use Rattle.liquid_answers.specs.Lacking.{AreTold, all_but_last}
+use Rattle.liquid_answers.specs.Lacking.{AreLackingCalls, all_but_last}
 use Rattle.liquid_answers.specs.Tables.{answer_at}
 use Rattle.liquid_answers.specs.declared.answers.Answers.{Answers}
 
@@ -51,12 +51,12 @@ front_snoc [] c = refl
 front_snoc (x ∷ []) c = refl
 front_snoc (x ∷ y ∷ ys) c = ap (λ zs. x ∷ zs) (front_snoc (y ∷ ys) c)
 
--- one more is told
-pub told_more : (table : Answers) (cs : List Value) (c : Value) → AreTold table cs → length cs < 1000 → length (json_list (items_view cs)) ≤ 1048576
-    → ((last : Value) → slice_get cs (length cs - 1) ≡ Some last → by_view last c ≡ Less) → answer_at table (view c) ≡ None → AreTold table (cs ++ c ∷ [])
-told_more table cs c told few short after lacks = record {
-  lacking = all_snoc (λ call. answer_at table (view call) ≡ None) cs c told.lacking lacks;
-  once = sorted_snoc cs c told.once (λ last n e is. after last (subst (λ m. slice_get cs m ≡ Some last) (one_less (length cs) n e) is));
+-- one more is listed
+pub lacking_calls_more : (table : Answers) (cs : List Value) (c : Value) → AreLackingCalls table cs → length cs < 1000 → length (json_list (items_view cs)) ≤ 1048576
+    → ((last : Value) → slice_get cs (length cs - 1) ≡ Some last → by_view last c ≡ Less) → answer_at table (view c) ≡ None → AreLackingCalls table (cs ++ c ∷ [])
+lacking_calls_more table cs c are few short after lacks = record {
+  lacking = all_snoc (λ call. answer_at table (view call) ≡ None) cs c are.lacking lacks;
+  once = sorted_snoc cs c are.once (λ last n e is. after last (subst (λ m. slice_get cs m ≡ Some last) (one_less (length cs) n e) is));
   few = subst (λ n. n ≤ 1000) (sym (length-append cs (c ∷ []))) (less (length cs) few);
   short = subst (λ front. length (json_list (items_view front)) ≤ 1048576) (sym (front_snoc cs c)) short;
 }
@@ -64,7 +64,7 @@ told_more table cs c told few short after lacks = record {
 brackets : 2 ≤ 1048576
 brackets = omega arith
 
--- none is told
-pub told_none : (table : Answers) → AreTold table []
+-- none is listed
+pub lacking_calls_none : (table : Answers) → AreLackingCalls table []
 unfolding IsStrictlySortedBy
-told_none table = record { lacking = tt; once = tt; few = omega arith; short = brackets }
+lacking_calls_none table = record { lacking = tt; once = tt; few = omega arith; short = brackets }
