@@ -34,8 +34,8 @@ pub(crate) fn part_at<'s>(
 ) -> std::result::Result<Part<'s>, AllocError>
     ensures { IfOk result (λ p. source.now ≡ p.front.now ++ (p.piece.now ++ p.after.now)) }
 {
-    let left = left_at(source, location);
-    let extent = extent_at(alloc, source, language, left)?;
+    let remaining = remaining_at(source, location);
+    let extent = extent_at(alloc, source, language, remaining)?;
     Ok(cut_out(
         source,
         source.len().saturating_sub(extent.from),
@@ -68,7 +68,7 @@ fn cut<'s>(text: &'s str, count: usize) -> (&'s str, &'s str)
 
 /// How many bytes of a source are left from a place on. A mark of the byte order at its start is no
 /// column.
-fn left_at(source: &str, location: &Location) -> usize {
+fn remaining_at(source: &str, location: &Location) -> usize {
     let mut rest = source.strip_prefix('\u{feff}').unwrap_or(source);
     for _ in 1..location.line {
         rest = match rest.split_once('\n') {
@@ -88,7 +88,7 @@ fn extent_at(
     alloc: Global,
     source: &str,
     language: &Language,
-    left: usize,
+    remaining: usize,
 ) -> std::result::Result<Extent, AllocError> {
     let mut rest = source;
     // each piece takes a byte at least
@@ -98,7 +98,7 @@ fn extent_at(
             break;
         };
         let past = match past_piece(alloc, language, inside)? {
-            Some(after) if after.len() >= left => {
+            Some(after) if after.len() >= remaining => {
                 rest = after;
                 continue;
             }

@@ -59,8 +59,8 @@ fn no_object(text: &str) -> Flaw<'_> {
 }
 
 /// Where the place with so many bytes left is.
-fn location(text: &str, left: usize) -> Location {
-    let place = liquid_lexer::location(text, left);
+fn location(text: &str, remaining: usize) -> Location {
+    let place = liquid_lexer::location(text, remaining);
     Location {
         origin: Origin::Data,
         line: place.line,

@@ -39,7 +39,7 @@ pub fn explanation_of(
     language: &Language,
     fault: Fault,
 ) -> Result<Explanation, AllocError> {
-    let outline = outline_at(alloc, source, language, fault.left)?;
+    let outline = outline_at(alloc, source, language, fault.remaining)?;
     let piece = placed_piece(alloc, outline.at)?;
     let phrasing = phrasing_of(alloc, language, &fault, &outline, &piece)?;
     let message = message_of(alloc, source, &phrasing)?;
@@ -63,7 +63,7 @@ fn phrasing_of<'s>(
         FaultKind::FilterArguments => miscounted(alloc, &language.filters, piece, outline.at),
         FaultKind::MissingEnd => Ok(missing_end(fault, outline, piece.name)),
         FaultKind::TooNested => Ok(too_nested(outline.from)),
-        FaultKind::Expected if fault.left == outline.at.len() => {
+        FaultKind::Expected if fault.remaining == outline.at.len() => {
             Ok(misplaced(language, fault, piece))
         }
         FaultKind::Unclosed

@@ -44,10 +44,10 @@ abbrev pub IsOfKind : FaultKind → ParseError → Type 0
 IsOfKind kind errors.Memory = ⊥
 IsOfKind kind (errors.Fault f) = f.kind ≡ kind
 
--- a fault at the place with so many bytes of the source left, and no want of memory
+-- a fault at the place with so many bytes of the source remaining, and no want of memory
 abbrev pub IsAt : ℕ → ParseError → Type 0
-IsAt left errors.Memory = ⊥
-IsAt left (errors.Fault f) = f.left ≡ left
+IsAt remaining errors.Memory = ⊥
+IsAt remaining (errors.Fault f) = f.remaining ≡ remaining
 
 -- the name of the tag that is wanted as the end of a block, where one is
 abbrev pub end_of : Expectation → Text

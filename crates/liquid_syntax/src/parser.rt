@@ -140,13 +140,13 @@ impl Reader<'_> {
         &mut self,
         alloc: Global,
         text: &str,
-        left: usize,
+        remaining: usize,
     ) -> std::result::Result<(), ParseError>
         ensures { (ls : List Level) (cur : Nodes) → IsBuilding self.old.builder ls cur →
             AdvancesTo (Some (ls, text_added text.now cur)) self.new.builder result }
     {
         self.builder.text(alloc, text)?;
-        self.positions.mark(left, self.builder.nodes.len())?;
+        self.positions.mark(remaining, self.builder.nodes.len())?;
         Ok(())
     }
 

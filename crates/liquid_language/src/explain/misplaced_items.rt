@@ -26,7 +26,7 @@ pub fn misplaced<'s>(language: &Language, fault: &Fault, piece: &PlacedPiece<'s>
 
 /// Where the item stands, or the closer.
 fn site_of<'s>(fault: &Fault, piece: &PlacedPiece<'s>) -> ErrorSite<'s> {
-    let count = piece.items.len().saturating_sub(fault.items_left);
+    let count = piece.items.len().saturating_sub(fault.items_remaining);
     let (rest, found) = match piece.items.get(count) {
         Some(placed) => (placed.from, placed.spelling),
         None => (piece.rest, closer_of(piece.rest, piece.kind)),
