@@ -152,7 +152,7 @@ fn read_arguments(
     }
 }
 
-/// An `Expected` fault in the piece, at the item from which on `items_remaining` of its items are left.
+/// An `Expected` fault in the piece, at the item with `items_remaining` items of it from there on.
 pub fn expected(at: &str, items_remaining: usize, wanted: Expectation) -> ParseError
     ensures kind { IsOfKind FaultKind.Expected result }
     ensures place { IsAt (length at.now) result }
