@@ -2,7 +2,7 @@
 //! crate that grow with a page, with names or with calls. A call that was refused one answers
 //! `Memory`, and called again what it answered at first. When all is dropped, no memory is left.
 #![cfg(all(target_os = "linux", target_env = "gnu"))]
-use bikleinu::{Data, Kind, Language, Limits, LiquidError, Partials, Template, Value};
+use bikleinu::{Data, Language, Limits, LiquidError, Partials, Template, Value};
 use std::alloc::{GlobalAlloc, Layout};
 use std::cell::Cell;
 use std::ffi::c_void;
@@ -235,14 +235,4 @@ fn partials_of_a_folder() -> io::Result<()> {
         call()?;
     }
     fs::remove_dir_all(&room)
-}
-
-#[test]
-fn a_fault_has_its_kind_without_words() {
-    let call = || Language::new()?.parse("{{ a | nope }}").map(|_| ());
-    let (_, count) = refusing(0, call);
-    for at in places(count) {
-        let kind = refusing(at, call).0.map_err(|fault| fault.kind());
-        assert!(matches!(kind, Err(Kind::Memory | Kind::UnknownFilter)), "{kind:?}");
-    }
 }
