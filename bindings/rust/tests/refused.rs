@@ -100,13 +100,23 @@ fn places(count: usize) -> impl Iterator<Item = usize> {
 }
 
 fn each<T: PartialEq + Debug>(what: &str, call: impl Fn() -> Result<T, LiquidError>) {
+    each_by(what, false, call);
+}
+
+/// The same of a call that may get by without what it was refused: after a round that lists fewer
+/// calls of a filter comes another.
+fn each_by<T: PartialEq + Debug>(
+    what: &str,
+    gets_by: bool,
+    call: impl Fn() -> Result<T, LiquidError>,
+) {
     let (wanted, count) = refusing(0, &call);
     assert!(count > 0, "{what}: it makes no request");
     for at in places(count) {
         let (made, requests) = refusing(at, &call);
         let is_well = match &made {
-            Err(fault) if requests >= at => fault.is_memory(),
-            _ => requests < at && made == wanted,
+            Err(fault) if requests >= at && fault.is_memory() => true,
+            _ => (gets_by || requests < at) && made == wanted,
         };
         assert!(is_well, "{what}, request {at} of {count}: {made:?}");
         assert_eq!(call(), wanted, "{what}, after request {at} of {count}");
@@ -162,7 +172,7 @@ fn pages() -> Result<(), LiquidError> {
         let (template, partials) = (language.parse(SOURCE)?, partials(&language)?);
         let json = long_json();
         let data = Data::from_json(&json)?;
-        assert!(template.render(&data, &partials, 32)?.text.len() > 10 * LONG);
+        assert!(template.render(&data, &partials, 32)?.text.len() > 4 * LONG);
         each("a page", || template.render(&data, &partials, 32));
         let limits = Limits::default().max_bytes(3000).max_turns(90);
         let within = || template.render_within(&data, &partials, 32, limits);
@@ -208,12 +218,12 @@ fn with_filter() -> Result<Template, LiquidError> {
 fn pages_with_filters() -> Result<(), LiquidError> {
     without_rest(|| {
         let data = Data::from_json(&long_json())?;
-        // the answers of the filter itself are the program's own, so they stay below what is refused
-        each("a page with a filter", || with_filter()?.render_text(&data));
+        // the answers of the filter are the program's own, so they stay below what is refused
+        each_by("a page with a filter", true, || with_filter()?.render_text(&data));
         let kept = with_filter()?;
-        each("a page with kept answers", || kept.render_text(&data));
+        each_by("a page with kept answers", true, || kept.render_text(&data));
         let faulty = Data::from_json("{\"products\":[],\"shop\":7}")?;
-        each("a filter's error", || with_filter()?.render_text(&faulty));
+        each_by("a filter's error", true, || with_filter()?.render_text(&faulty));
         Ok(())
     })
 }
