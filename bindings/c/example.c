@@ -66,5 +66,5 @@ int main(void) {
     bikleinu_free(&partials);
     bikleinu_free(&template_);
     bikleinu_free(&language);
-    return 0;
+    return fflush(stdout) || ferror(stdout); /* what was printed has to be written */
 }

@@ -74,5 +74,5 @@ int main(void) {
     show(&language, &answers, "{{ 250 | money }}");
     show(&language, &answers, "at {{ -1 | money }}");
     bikleinu_free(&answers), bikleinu_free(&language);
-    return 0;
+    return fflush(stdout) || ferror(stdout); /* what was printed has to be written */
 }

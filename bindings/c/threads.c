@@ -105,5 +105,5 @@ int main(void) {
     }
     printf("%zu of %d mails\n", well, MAILS);
     bikleinu_free(&template_), bikleinu_free(&partials), bikleinu_free(&language);
-    return 0;
+    return fflush(stdout) || ferror(stdout); /* what was printed has to be written */
 }

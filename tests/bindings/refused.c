@@ -49,7 +49,7 @@ typedef struct {
     text source, data, name;
 } row;
 
-enum { LANGUAGE, TEMPLATE, PARTIAL, PARTIALS, DATA, PAGE, PATHS, COMPLETED, READ, SHARED, HANDLES };
+enum { LANGUAGE, TEMPLATE, PARTIAL, PARTIALS, DATA, PAGE, PATHS, COMPLETED, READ, SHARED, NAMES, WITHIN, HANDLES };
 
 static bikleinu_handle held[HANDLES];
 static size_t rows, calls, refused, wrong;
@@ -66,6 +66,14 @@ static uint32_t read_for(const row *it) { return bikleinu_data_for(it->data.at, 
 static uint32_t render_read(const row *it) { return (void)it, bikleinu_render(&held[TEMPLATE], &held[READ], &held[PARTIALS], 32, &held[PAGE]); }
 static uint32_t share(const row *it) { return (void)it, bikleinu_share(&held[TEMPLATE], &held[SHARED]); }
 static uint32_t render_shared(const row *it) { return (void)it, bikleinu_render(&held[SHARED], &held[DATA], &held[PARTIALS], 32, &held[PAGE]); }
+static uint32_t find_names(const row *it) {
+    return (void)it, bikleinu_names(&held[TEMPLATE], &held[PARTIALS], &held[NAMES]);
+}
+static uint32_t render_within(const row *it) {
+    static const bikleinu_limits few = {.bytes = 20, .turns = 5};
+    bikleinu_handle *partials = &held[PARTIALS], *made = &held[WITHIN];
+    return (void)it, bikleinu_render_within(&held[TEMPLATE], &held[DATA], partials, 32, &few, made);
+}
 static uint32_t render(const row *it) { return (void)it, bikleinu_render(&held[TEMPLATE], &held[DATA], &held[PARTIALS], 32, &held[PAGE]); }
 
 static void *need(void *made) {
@@ -178,6 +186,8 @@ int main(void) {
             uint32_t ended = each("render", render, &it, PAGE, false);
             text page = shown(PAGE);
             size_t length = bikleinu_length(&held[PAGE], BIKLEINU_TEXT);
+            each("render within limits", render_within, &it, WITHIN, false);
+            each("names", find_names, &it, NAMES, false);
             each("share", share, &it, SHARED, true);
             if (!is_same(PAGE, render_shared(&it), ended, page)) report("render of what is shared", 0, ended, "and another page");
             each("paths", find_paths, &it, PATHS, false);

@@ -1,7 +1,8 @@
 /* Pages with filters of the caller's: which calls a table is said to lack, what becomes of the answers that are put into it, and which
  * calls can't be. Each rendering is made once more for each of its requests for memory, of which that one is refused: it then has to
- * answer BIKLEINU_MEMORY, or that calls are lacking, and called again what it answered at first. When all is freed, no memory may be
- * left. A line tells each thing that isn't well, and the last one "tables: N". */
+ * answer BIKLEINU_MEMORY, or that calls are lacking, and called again what it answered at first. So are the calls that make a language
+ * and a table, and that put answers into it. When all is freed, no memory may be left. A line tells each thing that isn't well, and
+ * the last one "tables: N". */
 #define _GNU_SOURCE
 #include <stdio.h>
 #include <stdlib.h>
@@ -78,8 +79,9 @@ static void end(void) {
     bikleinu_free(&answers), bikleinu_free(&page), bikleinu_free(&answer);
 }
 
+static bikleinu_limits limits;
+
 static uint32_t render(void) {
-    bikleinu_limits limits = {0};
     return bikleinu_render_with(&template_, &data, &partials, 32, &limits, &answers, &page);
 }
 
@@ -138,6 +140,55 @@ static void of_faults(void) {
     end();
 }
 
+static uint32_t make_jekyll(void) { return bikleinu_jekyll_language(&language); }
+static uint32_t register_money(void) { return bikleinu_register(&language, bytes("money"), 5, 0, 1); }
+static uint32_t make_answers(void) { return bikleinu_answers(&answers); }
+static uint32_t add_money(void) { return bikleinu_answers_filter(&answers, bytes("money"), 5); }
+static uint32_t find_names(void) { return bikleinu_names(&template_, &partials, &answer); }
+static uint32_t put_answer(void) { return bikleinu_answer(&answers, &page, 0, &data); }
+static uint32_t put_fault(void) {
+    return bikleinu_refuse(&answers, &page, 0, BIKLEINU_NUMBER_RANGE, bytes("too dear"), 8);
+}
+static uint32_t read_names(void) {
+    return strcmp(read_part(&answer, BIKLEINU_TEXT), "[\"p\",\"q\"]") != 0;
+}
+
+/* A call with each of its requests refused, which changes nothing, and then as it is. */
+static void each(const char *what, uint32_t (*call)(void)) {
+    for (size_t at = 1;; at++) {
+        requests = 0, refused_at = at, counts = true;
+        uint32_t found = call();
+        counts = false;
+        is(what, found, requests < at ? BIKLEINU_DONE : BIKLEINU_MEMORY);
+        if (requests < at || found == BIKLEINU_DONE) break;
+    }
+}
+
+/* The calls before a page and between two rounds, with each of their requests refused. To read what a
+ * call made takes no memory. */
+static void of_memory(void) {
+    static const char source[] = "{{ p | money }}{{ q }}";
+    static const char json[] = "{\"p\":1,\"q\":2,\"answer\":\"x\"}";
+    each("jekyll's language", make_jekyll);
+    each("register", register_money), each("register again", register_money);
+    is("parse", bikleinu_parse(&language, bytes(source), strlen(source), &template_), BIKLEINU_DONE);
+    is("data", bikleinu_data(bytes(json), strlen(json), &data), BIKLEINU_DONE);
+    each("names", find_names), each("what is read", read_names);
+    is("requests of what is read", (uint32_t)requests, 0);
+    each("answers", make_answers), each("a filter", add_money);
+    renders(BIKLEINU_LACKING, BIKLEINU_TEXT, "[[\"money\",1]]");
+    bikleinu_handle calls = page;
+    page = (bikleinu_handle)BIKLEINU_NONE;
+    renders(BIKLEINU_LACKING, BIKLEINU_TEXT, "[[\"money\",1]]");
+    each("an answer", put_answer);
+    renders(BIKLEINU_DONE, BIKLEINU_TEXT, "x2");
+    bikleinu_free(&page);
+    page = calls;
+    each("a fault in its place", put_fault);
+    renders(BIKLEINU_NUMBER_RANGE, BIKLEINU_TEXT, "");
+    end();
+}
+
 /* Calls that can't be. */
 static void of_refusals(void) {
     begin("{{ p | money }}", "{\"p\":1}");
@@ -153,7 +204,6 @@ static void of_refusals(void) {
     is("to register in data", bikleinu_register(&data, bytes("a"), 1, 0, 0), BIKLEINU_OTHER_HANDLE);
     is("nothing came of it", render(), BIKLEINU_LACKING);
     bikleinu_handle none = BIKLEINU_NONE;
-    bikleinu_limits limits = {0};
     is("without a table", bikleinu_render_with(&template_, &data, &partials, 32, &limits, &none, &page), BIKLEINU_OTHER_HANDLE);
     is("a table without the filter", bikleinu_answers(&answers), BIKLEINU_DONE);
     renders(BIKLEINU_UNSUPPORTED, BIKLEINU_TEXT, "");
@@ -186,6 +236,19 @@ static void of_bounds(void) {
     end();
 }
 
+/* Limits beside a table: a page that one of them ended has its text up to there. */
+static void of_limits(void) {
+    begin("{% for i in (1..5) %}{{ 'a' | shout }}{% endfor %}", "{}");
+    is("lacking", render(), BIKLEINU_LACKING);
+    answers_by(0, "{\"answer\":\"A\"}");
+    limits = (bikleinu_limits){.turns = 4};
+    renders(BIKLEINU_TURNS_REACHED, BIKLEINU_TEXT, "AAA");
+    limits = (bikleinu_limits){.bytes = 2};
+    renders(BIKLEINU_BYTES_REACHED, BIKLEINU_TEXT, "AA");
+    limits = (bikleinu_limits){0};
+    end();
+}
+
 /* Jekyll's language, and the names of a template. */
 static void of_languages(void) {
     static const char source[] = "{% include p a=b %}{{ xs | sort: 'k', 'first' | join: ',' }}";
@@ -207,7 +270,7 @@ static void of_languages(void) {
 
 int main(void) {
     size_t before = blocks;
-    of_rounds(), of_faults(), of_refusals(), of_languages(), of_bounds();
+    of_rounds(), of_faults(), of_memory(), of_refusals(), of_languages(), of_bounds(), of_limits();
     if (blocks != before) wrong++, printf("%zu pieces of memory are left\n", blocks - before);
     printf("tables: %zu\n", tests);
     return wrong != 0;

@@ -5,7 +5,7 @@
 // The marks aren't written; in place of the second stands a line "requests: COUNT".
 //
 // For a program that calls refuse_begin(N) itself: the N-th request from there on is refused (0: none), until it calls refuse_end, which
-// answers how many there were.
+// answers how many there were. refuse_blocks answers how many pieces of memory are taken and not given back, of a single thread.
 //
 // For a program that knows no marks, and is called often by the same words. REFUSE_SERVE=FD: it is started once, and each call is a fork,
 // which costs less than a start and goes on from here into main. FD is a socket. A call is asked for by five numbers: the request to
@@ -17,6 +17,7 @@
 typedef unsigned long size_t;
 
 extern void *__libc_malloc(size_t), *__libc_realloc(void *, size_t), *__libc_calloc(size_t, size_t), *__libc_memalign(size_t, size_t);
+extern void __libc_free(void *);
 extern char *getenv(const char *);
 extern unsigned long strtoul(const char *, char **, int);
 extern int memcmp(const void *, const void *, size_t), snprintf(char *, size_t, const char *, ...), *__errno_location(void);
@@ -36,6 +37,7 @@ static struct {
     long made, writes, steps, status;
 } *shared;
 static unsigned long made, writes, steps;
+static long blocks;
 static int all, on;
 
 static unsigned long number(const char *name) {
@@ -85,10 +87,24 @@ static int refused(void) {
     return 1;
 }
 
-void *malloc(size_t size) { return refused() ? 0 : __libc_malloc(size); }
-void *realloc(void *old, size_t size) { return refused() ? 0 : __libc_realloc(old, size); }
-void *calloc(size_t count, size_t size) { return refused() ? 0 : __libc_calloc(count, size); }
-void *aligned_alloc(size_t alignment, size_t size) { return refused() ? 0 : __libc_memalign(alignment, size); }
+static void *counted(void *taken) {
+    blocks += taken != 0;
+    return taken;
+}
+
+void *malloc(size_t size) { return refused() ? 0 : counted(__libc_malloc(size)); }
+void *calloc(size_t count, size_t size) { return refused() ? 0 : counted(__libc_calloc(count, size)); }
+void *aligned_alloc(size_t alignment, size_t size) { return refused() ? 0 : counted(__libc_memalign(alignment, size)); }
+
+void *realloc(void *old, size_t size) {
+    void *taken = refused() ? 0 : __libc_realloc(old, size);
+    return old ? taken : counted(taken);
+}
+
+void free(void *old) {
+    blocks -= old != 0;
+    __libc_free(old);
+}
 
 void refuse_begin(unsigned long at) {
     refuse.at = at;
@@ -100,6 +116,8 @@ unsigned long refuse_end(void) {
     on = 0;
     return made;
 }
+
+long refuse_blocks(void) { return blocks; }
 
 static int is(const char *mark, size_t length, const void *bytes, size_t size) {
     return size == length && !memcmp(bytes, mark, length);

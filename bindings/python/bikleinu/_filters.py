@@ -126,6 +126,8 @@ class Run:
         for number, (name, value, *arguments) in enumerate(json.loads(calls._part(TEXT))):
             try:
                 answer = encoded({"answer": self.filters.functions[name](value, *arguments)}, self.how)
+            except MemoryError:
+                raise
             except Exception as error:
                 message = _message_of(error)
                 self.errors[message] = error

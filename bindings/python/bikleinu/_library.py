@@ -3,6 +3,9 @@ from __future__ import annotations
 
 import ctypes
 import os
+from collections.abc import Callable
+from types import SimpleNamespace
+from typing import Any
 
 _HERE = os.path.dirname(os.path.abspath(__file__))
 _PLACES = [os.path.join(_HERE, "libbikleinu.so"), os.path.join(_HERE, "..", "..", "out", "libbikleinu.so")]
@@ -34,7 +37,22 @@ def _path() -> str:
     )
 
 
-def _loaded() -> ctypes.CDLL:
+def _guarded(call: Any) -> Callable[..., int]:
+    """The call, which raises MemoryError where Python has no memory to pass what it is given: ctypes raises an ArgumentError then."""
+
+    def guarded(*arguments: Any) -> int:
+        try:
+            answer: int = call(*arguments)
+        except ctypes.ArgumentError as error:
+            if "MemoryError" in str(error):
+                raise MemoryError("no memory to pass what a call is given") from None
+            raise
+        return answer
+
+    return guarded
+
+
+def _loaded() -> Any:
     path = _path()
     try:
         library = ctypes.CDLL(path)
@@ -63,12 +81,15 @@ def _loaded() -> ctypes.CDLL:
         "length": ([handle, number], size),
         "copy": ([handle, number, text, size], size),
         "location": ([handle, ctypes.POINTER(size), ctypes.POINTER(size)], number),
-        "free": ([handle], None),
     }
+    made = SimpleNamespace(bikleinu_free=library.bikleinu_free)
+    # what byref makes is passed as it is: to look at it as at other arguments takes memory, which may be refused
+    made.bikleinu_free.restype = None
     for name, (takes, gives) in calls.items():
         call = getattr(library, f"bikleinu_{name}")
         call.argtypes, call.restype = takes, gives
-    return library
+        setattr(made, f"bikleinu_{name}", _guarded(call))
+    return made
 
 
 library = _loaded()

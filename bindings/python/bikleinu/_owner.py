@@ -14,7 +14,7 @@ TEXT, MESSAGE, NAME, PARTIAL = range(4)
 _ORIGINS = {1: "template", 2: "partial", 3: "data"}
 
 
-def part(handle: Handle, number: int) -> str:
+def part(handle: Any, number: int) -> str:
     """A part of what a handle holds."""
     length = library.bikleinu_length(handle, number)
     if not length:
@@ -24,12 +24,21 @@ def part(handle: Handle, number: int) -> str:
     return room.raw.decode()
 
 
+def new_lock() -> threading.Lock:
+    """A lock. Where Python has no memory for one, it says no more than that there is none."""
+    try:
+        return threading.Lock()
+    except RuntimeError:
+        raise MemoryError("no memory for a lock") from None
+
+
 class Owner:
     """What a handle holds, which is freed with this object. The lock is for a handle that several threads use."""
 
     def __init__(self) -> None:
-        self._handle = Handle()
-        self._lock = threading.Lock()
+        # as ctypes passes it: to pass a Handle itself takes memory, which may be refused also where it is freed
+        self._handle: Any = ctypes.byref(Handle())
+        self._lock = new_lock()
 
     def __del__(self, free: Any = library.bikleinu_free) -> None:
         if hasattr(self, "_handle"):
@@ -93,7 +102,7 @@ class lent:
         self._owners = owners
         self._taken: list[tuple[list[Owner], Owner]] = []
 
-    def __enter__(self) -> list[Handle]:
+    def __enter__(self) -> list[Any]:
         try:
             return [self._take(owner)._handle for owner in self._owners]
         except BaseException:

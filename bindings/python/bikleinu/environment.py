@@ -2,14 +2,13 @@
 from __future__ import annotations
 
 import os
-import threading
 from collections.abc import Callable, Mapping
 from dataclasses import replace
 from datetime import tzinfo
 from typing import Any, Union
 
 from ._filters import Function
-from ._owner import whole
+from ._owner import new_lock, whole
 from ._settings import Missing, Settings, missing_of
 from ._values import Conversions
 from .data import Data
@@ -63,7 +62,7 @@ class Environment:
         self._usual = Settings(None, whole("depth", depth), levels, max_bytes, max_turns, rounds, missing_of(missing), how)
         self._settings: Settings | None = None
         self._templates: dict[str, Template] = {}
-        self._lock = threading.Lock()
+        self._lock = new_lock()
 
     def _with_partials(self) -> Settings:
         """The settings of its templates, with the partials, which are parsed at first."""

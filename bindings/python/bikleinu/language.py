@@ -48,7 +48,8 @@ class Language(Owner):
 
         The function gets the input and then the arguments, as JSON has them, and answers what JSON has. It is to be a function of
         these alone: it is called before the page is rendered, possibly for a call that the page doesn't come to, and its answer is
-        kept for further pages. What it raises ends a page that makes the call, by a fault whose __cause__ is the error."""
+        kept for further pages. What it raises ends a page that makes the call, by a fault whose __cause__ is the error; but a
+        MemoryError is raised by render and page."""
         least, most = arity(function)
         text = utf8(name)
         with self._lock:

@@ -7,7 +7,7 @@ from dataclasses import dataclass
 from typing import Any, Optional
 
 from ._filters import Run, Table
-from ._library import Handle, Limits, library
+from ._library import Limits, library
 from ._owner import TEXT, Owner, Shared, checked, lent, made_by, part, whole
 from ._settings import Missing, Settings, missing_of
 from .data import Data, DataLike, data_of
@@ -197,7 +197,7 @@ class Template(Shared):
         return page.text
 
 
-def _texts(found: Handle) -> list[str]:
+def _texts(found: Any) -> list[str]:
     texts: list[str] = json.loads(part(found, TEXT))
     return texts
 

@@ -155,8 +155,8 @@ impl fmt::Display for Location {
     }
 }
 
-/// Why there is no page, or why it ended: the kind by number and name, and what it says. Without memory for more, the number
-/// alone.
+/// Why there is no page, or why it ended: the kind by number and name, and what it says. Where there
+/// is no memory for these, the number alone.
 #[derive(Clone, Debug)]
 pub struct LiquidError {
     /// The number of its kind.
@@ -236,14 +236,30 @@ impl Error for LiquidError {
     }
 }
 
+const NO_MEMORY: &str = "no memory was to be had";
+
+/// The error where this program has no memory for what it reads or writes.
+pub(crate) fn out_of_memory() -> LiquidError {
+    LiquidError::new(MEMORY, words("Memory"), words(NO_MEMORY), None)
+}
+
+/// The words of an error, or none where there is no memory for them.
+pub(crate) fn words(of: &str) -> String {
+    let mut made = String::new();
+    if made.try_reserve_exact(of.len()).is_ok() {
+        made.push_str(of);
+    }
+    made
+}
+
 /// The error of a call that can't be, which no fault tells of.
 pub(crate) fn call_refused(number: u32) -> Option<LiquidError> {
     let (name, message) = match number {
-        MEMORY => ("Memory", "no memory was to be had"),
+        MEMORY => return Some(out_of_memory()),
         NO_TEXT => ("NoText", "the bytes are no UTF-8"),
         OTHER_HANDLE => ("OtherHandle", "an object of another kind than the call needs"),
         TOO_MANY_LEVELS => ("TooManyLevels", "blocks and partials could stand in one another deeper than is allowed"),
         _ => return None,
     };
-    Some(LiquidError::new(number, name.to_owned(), message.to_owned(), None))
+    Some(LiquidError::new(number, words(name), words(message), None))
 }

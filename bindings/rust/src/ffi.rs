@@ -1,5 +1,6 @@
 //! The calls of the library for C, and what a handle holds.
-use crate::error::{call_refused, LiquidError, Location, Origin, BYTES_REACHED, TURNS_REACHED};
+use crate::error::{call_refused, out_of_memory, words, LiquidError, Location, Origin};
+use crate::error::{BYTES_REACHED, TURNS_REACHED};
 use std::cell::UnsafeCell;
 use std::ffi::c_void;
 
@@ -96,15 +97,23 @@ impl Owner {
         unsafe { !(*self.at()).there }
     }
 
-    pub(crate) fn part(&self, part: u32) -> String {
+    /// A part of what it holds, which may be long.
+    pub(crate) fn part(&self, part: u32) -> Result<String, LiquidError> {
+        // SAFETY: the handle is this owner's.
+        let length = unsafe { bikleinu_length(self.at(), part) };
+        let mut bytes = Vec::new();
+        bytes.try_reserve_exact(length).map_err(|_| out_of_memory())?;
+        bytes.resize(length, 0);
         // SAFETY: the handle is this owner's, and the bytes have the room that is passed.
-        let bytes = unsafe {
-            let mut bytes = vec![0; bikleinu_length(self.at(), part)];
-            let count = bikleinu_copy(self.at(), part, bytes.as_mut_ptr(), bytes.len());
-            bytes.truncate(count);
-            bytes
-        };
-        String::from_utf8_lossy(&bytes).into_owned()
+        let count = unsafe { bikleinu_copy(self.at(), part, bytes.as_mut_ptr(), length) };
+        bytes.truncate(count);
+        let text = String::from_utf8(bytes);
+        Ok(text.unwrap_or_else(|error| String::from_utf8_lossy(error.as_bytes()).into_owned()))
+    }
+
+    /// A part of a fault, which is short; none of it where there is no memory for it.
+    fn words(&self, part: u32) -> String {
+        self.part(part).unwrap_or_default()
     }
 
     fn location(&self) -> Option<Location> {
@@ -113,7 +122,7 @@ impl Owner {
         // SAFETY: the handle is this owner's, and the other two are places for a number.
         let origin = match unsafe { bikleinu_location(self.at(), at_line, at_column) } {
             1 => Origin::Template,
-            2 => Origin::Partial(self.part(PARTIAL)),
+            2 => Origin::Partial(self.part(PARTIAL).ok()?),
             3 => Origin::Data,
             _ => return None,
         };
@@ -122,16 +131,17 @@ impl Owner {
 
     fn name(&self, number: u32) -> String {
         match number {
-            BYTES_REACHED => "BytesReached".to_owned(),
-            TURNS_REACHED => "TurnsReached".to_owned(),
-            _ => self.part(NAME),
+            BYTES_REACHED => words("BytesReached"),
+            TURNS_REACHED => words("TurnsReached"),
+            _ => self.words(NAME),
         }
     }
 
     /// The fault of a call that answered the number and put it here.
     pub(crate) fn fault(&self, number: u32) -> LiquidError {
-        call_refused(number)
-            .unwrap_or_else(|| LiquidError::new(number, self.name(number), self.part(MESSAGE), self.location()))
+        call_refused(number).unwrap_or_else(|| {
+            LiquidError::new(number, self.name(number), self.words(MESSAGE), self.location())
+        })
     }
 
     /// The same, where the call that made it answered that all is well.

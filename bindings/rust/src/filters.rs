@@ -3,7 +3,7 @@ use crate::error::{call_refused, LiquidError, INVALID_INPUT, LACKING};
 use crate::ffi::{
     bikleinu_answer, bikleinu_answers, bikleinu_answers_filter, bikleinu_data, bikleinu_refuse, Owner, TEXT,
 };
-use crate::value::{Reader, Value};
+use crate::value::{Json, Reader, Value};
 use std::collections::BTreeMap;
 use std::error::Error;
 use std::sync::Arc;
@@ -21,11 +21,11 @@ const SHOWN: usize = 300;
 
 /// Functions by their names.
 #[derive(Clone, Default)]
-pub(crate) struct Filters(BTreeMap<String, Arc<Function>>);
+pub(crate) struct Filters(Arc<BTreeMap<String, Arc<Function>>>);
 
 impl Filters {
     pub(crate) fn add(&mut self, name: &str, function: Arc<Function>) {
-        self.0.insert(name.to_owned(), function);
+        Arc::make_mut(&mut self.0).insert(name.to_owned(), function);
     }
 
     pub(crate) fn is_empty(&self) -> bool {
@@ -60,13 +60,12 @@ impl Filters {
     }
 
     fn answer_all(&self, table: &mut Table, calls: &Owner, errors: &mut Errors) -> Result<(), LiquidError> {
-        let text = calls.part(TEXT);
-        let Some(Value::List(all)) = Reader::new(&text).value() else {
+        let Some(Value::List(all)) = Reader::read(&calls.part(TEXT)?)? else {
             return Err(LiquidError::new(LACKING, "Calls".to_owned(), "the calls can't be read".to_owned(), None));
         };
         for (number, call) in all.iter().enumerate() {
-            match self.answer(call) {
-                Ok(data) => table.put(calls, number, &data)?,
+            match self.answer(call).and_then(readable) {
+                Ok(data) => table.put(calls, number, &data?)?,
                 Err(error) => {
                     let message = one_line(&error.to_string());
                     table.refuse(calls, number, &message)?;
@@ -77,13 +76,13 @@ impl Filters {
         Ok(())
     }
 
-    /// The answer to a call, which is a list of the filter's name, the input and the arguments, as data.
-    fn answer(&self, call: &Value) -> Result<Owner, FilterError> {
+    /// The answer to a call, which is a list of the filter's name, the input and the arguments.
+    fn answer(&self, call: &Value) -> Result<Value, FilterError> {
         let Some([Value::Text(name), input, arguments @ ..]) = call.as_list() else {
             return Err("a call that can't be read".into());
         };
         let function = self.0.get(name).ok_or("no such filter")?;
-        Ok(answer_data(&function(input, arguments)?)?)
+        function(input, arguments)
     }
 }
 
@@ -136,11 +135,21 @@ impl Table {
     }
 }
 
+/// The answer as data. Refused memory ends the page, and any other fault is that of the answer.
+fn readable(answer: Value) -> Result<Result<Owner, LiquidError>, FilterError> {
+    match answer_data(&answer) {
+        Err(fault) if !fault.is_memory() => Err(fault.into()),
+        read => Ok(read),
+    }
+}
+
 /// Data whose member `answer` is the answer.
 fn answer_data(answer: &Value) -> Result<Owner, LiquidError> {
-    let mut json = String::from("{\"answer\":");
+    let mut json = Json::default();
+    json.push_str("{\"answer\":");
     answer.write_json(&mut json);
-    json.push('}');
+    json.push_str("}");
+    let json = json.into_text()?;
     let data = Owner::new();
     // SAFETY: the handle is an owner's, and the bytes are a text's.
     let read = unsafe { bikleinu_data(json.as_ptr(), json.len(), data.at()) };

@@ -1,5 +1,5 @@
 //! Partials of a folder.
-use crate::{Language, Partials};
+use crate::{Language, LiquidError, Partials};
 use std::collections::BTreeMap;
 use std::path::Path;
 use std::{fs, io};
@@ -11,16 +11,17 @@ impl Partials {
     ///
     /// # Errors
     ///
-    /// What can't be read; and, with the file's path, a name or a file that is no UTF-8, a fault of a source, or refused memory.
+    /// What can't be read; refused memory, as [`io::ErrorKind::OutOfMemory`]; and, with the file's
+    /// path, a name or a file that is no UTF-8, or a fault of a source.
     pub fn from_folder(folder: impl AsRef<Path>, language: &Language) -> io::Result<Partials> {
         let mut sources = BTreeMap::new();
         read_below(folder.as_ref(), "", &mut sources)?;
         let stems = sources.iter().filter_map(|(path, source)| Some((stem(path)?, source)));
         let stems = stems.filter(|(stem, _)| !sources.contains_key(*stem)).collect::<BTreeMap<_, _>>();
-        let mut partials = Partials::new().map_err(|fault| refused("", fault))?;
+        let mut partials = Partials::new().map_err(|fault| of_fault("", &fault))?;
         for (name, source) in stems.into_iter().chain(sources.iter().map(|(path, source)| (path.as_str(), source))) {
-            let template = language.parse(source).map_err(|fault| refused(name, fault))?;
-            partials.insert(name, template).map_err(|fault| refused(name, fault))?;
+            let template = language.parse(source).map_err(|fault| of_fault(name, &fault))?;
+            partials.insert(name, template).map_err(|fault| of_fault(name, &fault))?;
         }
         Ok(partials)
     }
@@ -51,6 +52,14 @@ fn stem(path: &str) -> Option<&str> {
     let last = path.rfind('/').map_or(0, |at| at + 1);
     let dot = path[last..].rfind('.').filter(|dot| *dot > 0)?;
     Some(&path[..last + dot])
+}
+
+/// The error of a fault, which is `OutOfMemory` where memory was refused.
+fn of_fault(path: &str, fault: &LiquidError) -> io::Error {
+    match fault.is_memory() {
+        true => io::ErrorKind::OutOfMemory.into(),
+        false => refused(path, fault),
+    }
 }
 
 fn refused(path: &str, why: impl std::fmt::Display) -> io::Error {

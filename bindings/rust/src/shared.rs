@@ -57,7 +57,11 @@ impl Lent<'_> {
 
 impl Drop for Lent<'_> {
     fn drop(&mut self) {
-        locked(&self.of.spare).extend(self.owner.take());
+        let mut spare = locked(&self.of.spare);
+        // where there is no memory to keep the handle, it is freed
+        if spare.try_reserve(1).is_ok() {
+            spare.extend(self.owner.take());
+        }
     }
 }
 

@@ -1,5 +1,5 @@
 //! Templates and their pages.
-use crate::error::{LiquidError, MEMORY, NO_TEXT, TOO_MANY_LEVELS};
+use crate::error::{out_of_memory, LiquidError, MEMORY, NO_TEXT, TOO_MANY_LEVELS};
 use crate::ffi::{
     bikleinu_complete, bikleinu_data_for, bikleinu_names, bikleinu_paths, bikleinu_render_with, bikleinu_render_within, Handle, Owner,
     RawLimits, TEXT,
@@ -89,7 +89,7 @@ impl Template {
         let (lent, others, made) = (self.owner.lend()?, partials.0.lend()?, Owner::new());
         // SAFETY: the handles are owners', three of them.
         let number = unsafe { bikleinu_names(lent.at(), others.at(), made.at()) };
-        Ok(texts(&made.settled(number)?))
+        texts(&made.settled(number)?)
     }
 
     /// What the template and these partials ask of data.
@@ -114,7 +114,7 @@ impl Template {
         // SAFETY: the handles are owners', three of them.
         let number = unsafe { bikleinu_paths(lent.at(), others.at(), made.at()) };
         let made = made.settled(number)?;
-        Ok(Paths { texts: texts(&made), owner: Shared::new(made) })
+        Ok(Paths { texts: texts(&made)?, owner: Shared::new(made) })
     }
 
     /// The page of the template over this data, with these partials, of which at most `depth` may be nested.
@@ -235,19 +235,21 @@ impl Data {
 }
 
 /// The texts of a list in JSON.
-fn texts(list: &Owner) -> Vec<String> {
-    let text = list.part(TEXT);
-    let all = Reader::new(&text).value();
-    let all = all.as_ref().and_then(Value::as_list).unwrap_or_default();
-    all.iter().filter_map(Value::as_text).map(str::to_owned).collect()
+fn texts(list: &Owner) -> Result<Vec<String>, LiquidError> {
+    let mut found = Vec::new();
+    if let Some(Value::List(all)) = Reader::read(&list.part(TEXT)?)? {
+        found.try_reserve_exact(all.len()).map_err(|_| out_of_memory())?;
+        found.extend(all.into_iter().filter_map(Value::into_text));
+    }
+    Ok(found)
 }
 
 /// The page that a run ended with, or the error where there is none.
 fn shown(number: u32, page: &Owner) -> Result<Page, LiquidError> {
     match number {
         MEMORY | NO_TEXT..=TOO_MANY_LEVELS => Err(page.fault(number)),
-        0 => Ok(Page { text: page.part(TEXT), fault: None }),
-        _ => Ok(Page { text: page.part(TEXT), fault: Some(page.fault(number)) }),
+        0 => Ok(Page { text: page.part(TEXT)?, fault: None }),
+        _ => Ok(Page { text: page.part(TEXT)?, fault: Some(page.fault(number)) }),
     }
 }
 

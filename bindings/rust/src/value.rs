@@ -1,5 +1,7 @@
 //! Values of filters: what JSON has, with whole numbers.
-use std::fmt::Write;
+use crate::error::{out_of_memory, LiquidError};
+use std::collections::TryReserveError;
+use std::fmt::{self, Write};
 
 /// What a filter gets and answers.
 #[derive(Clone, Debug, PartialEq, Eq)]
@@ -37,6 +39,14 @@ impl Value {
         }
     }
 
+    /// The same, without a copy.
+    pub(crate) fn into_text(self) -> Option<String> {
+        match self {
+            Value::Text(text) => Some(text),
+            _ => None,
+        }
+    }
+
     /// The members of the list that it is.
     #[must_use]
     pub fn as_list(&self) -> Option<&[Value]> {
@@ -56,45 +66,75 @@ impl Value {
     }
 
     /// Writes it as JSON.
-    pub(crate) fn write_json(&self, json: &mut String) {
+    pub(crate) fn write_json(&self, json: &mut Json) {
         match self {
             Value::Nil => json.push_str("null"),
             Value::Bool(is) => json.push_str(if *is { "true" } else { "false" }),
             Value::Integer(number) => drop(write!(json, "{number}")),
             Value::Text(text) => write_text(text, json),
             Value::List(values) => {
-                json.push('[');
+                json.push_str("[");
                 for (at, value) in values.iter().enumerate() {
                     json.push_str(if at > 0 { "," } else { "" });
                     value.write_json(json);
                 }
-                json.push(']');
+                json.push_str("]");
             }
             Value::Map(members) => {
-                json.push('{');
+                json.push_str("{");
                 for (at, (name, value)) in members.iter().enumerate() {
                     json.push_str(if at > 0 { "," } else { "" });
                     write_text(name, json);
-                    json.push(':');
+                    json.push_str(":");
                     value.write_json(json);
                 }
-                json.push('}');
+                json.push_str("}");
             }
         }
     }
 }
 
-fn write_text(text: &str, json: &mut String) {
-    json.push('"');
+fn write_text(text: &str, json: &mut Json) {
+    json.push_str("\"");
     for it in text.chars() {
         match it {
             '"' => json.push_str("\\\""),
             '\\' => json.push_str("\\\\"),
             it if it < ' ' => drop(write!(json, "\\u{:04x}", u32::from(it))),
-            it => json.push(it),
+            it => json.push_str(it.encode_utf8(&mut [0; 4])),
         }
     }
-    json.push('"');
+    json.push_str("\"");
+}
+
+/// A text of JSON in the making, up to the first piece for which there is no memory.
+#[derive(Default)]
+pub(crate) struct Json {
+    text: String,
+    is_starved: bool,
+}
+
+impl Json {
+    pub(crate) fn push_str(&mut self, piece: &str) {
+        self.is_starved = self.is_starved || self.text.try_reserve(piece.len()).is_err();
+        if !self.is_starved {
+            self.text.push_str(piece);
+        }
+    }
+
+    pub(crate) fn into_text(self) -> Result<String, LiquidError> {
+        if self.is_starved {
+            return Err(out_of_memory());
+        }
+        Ok(self.text)
+    }
+}
+
+impl Write for Json {
+    fn write_str(&mut self, piece: &str) -> fmt::Result {
+        self.push_str(piece);
+        Ok(())
+    }
 }
 
 impl From<bool> for Value {
@@ -136,15 +176,27 @@ impl<T: Into<Value>> From<Option<T>> for Value {
 /// Reads JSON that the library wrote.
 pub(crate) struct Reader<'t> {
     text: &'t str,
+    /// Whether there was no memory for a value.
+    is_starved: bool,
 }
 
 impl<'t> Reader<'t> {
-    pub(crate) fn new(text: &'t str) -> Reader<'t> {
-        Reader { text }
+    fn new(text: &'t str) -> Reader<'t> {
+        Reader { text, is_starved: false }
     }
 
-    /// The next value, or None where the text isn't as the library writes it.
-    pub(crate) fn value(&mut self) -> Option<Value> {
+    /// The value that a text begins with, or None where it isn't as the library writes it.
+    pub(crate) fn read(text: &'t str) -> Result<Option<Value>, LiquidError> {
+        let mut reader = Reader::new(text);
+        let value = reader.value();
+        if reader.is_starved {
+            return Err(out_of_memory());
+        }
+        Ok(value)
+    }
+
+    /// The next value, or None where the text isn't as the library writes it, or memory is refused.
+    fn value(&mut self) -> Option<Value> {
         match self.peek()? {
             '[' => self.items(Reader::value).map(Value::List),
             '{' => self.items(Reader::member).map(Value::Map),
@@ -183,7 +235,9 @@ impl<'t> Reader<'t> {
             return Some(found);
         }
         loop {
-            found.push(next(self)?);
+            let it = next(self)?;
+            self.has(found.try_reserve(1))?;
+            found.push(it);
             if self.takes(close) {
                 return Some(found);
             }
@@ -219,10 +273,22 @@ impl<'t> Reader<'t> {
                     self.text = chars.as_str();
                     return Some(made);
                 }
-                '\\' => made.push(escaped(&mut chars)?),
-                it => made.push(it),
+                '\\' => self.push(&mut made, escaped(&mut chars)?)?,
+                it => self.push(&mut made, it)?,
             }
         }
+    }
+
+    fn push(&mut self, made: &mut String, it: char) -> Option<()> {
+        self.has(made.try_reserve(it.len_utf8()))?;
+        made.push(it);
+        Some(())
+    }
+
+    /// Whether there is room. That there was none is remembered.
+    fn has(&mut self, room: Result<(), TryReserveError>) -> Option<()> {
+        self.is_starved |= room.is_err();
+        room.ok()
     }
 }
 
@@ -262,9 +328,9 @@ mod tests {
     fn json_is_read_as_it_is_written() {
         let json = r#"{"a":[1,-9223372036854775808,null,true,false,[],{}],"b\"":"\\ \u0001 é😀"}"#;
         let value = Reader::new(json).value().expect("it is JSON");
-        let mut written = String::new();
+        let mut written = Json::default();
         value.write_json(&mut written);
-        assert_eq!(written, json);
+        assert_eq!(written.into_text().as_deref(), Ok(json));
         assert_eq!(value.get("a").and_then(Value::as_list).map(<[Value]>::len), Some(7));
     }
 
