@@ -5,7 +5,7 @@ ghost use Rattle.liquid_model.specs.View.{pairs_view};
 ghost use Rattle.liquid_syntax.specs.Templates.{tree_of};
 ghost use Rattle.liquid_lib.specs.Pages.{page_view};
 ghost use Rattle.liquid_json.specs.Json.{data_of};
-ghost use Rattle.liquid_records.specs.Records.{checked_name, comes_to, made_by, made_page};
+ghost use Rattle.liquid_records.specs.Records.{checked_name, record_outcome, made_by, made_page};
 ghost use Rattle.liquid_records.specs.Records.{record_file_name};
 ghost use Rattle.liquid_records.specs.Records.{page_name, record_page};
 ghost use Rattle.liquid_records.specs.Views.{job_view, made_view, outcome_view, pattern_view};
@@ -64,7 +64,7 @@ impl Job {
         pattern: Option<&Template>,
     ) -> Result<(Job, RecordResult<Made>)>
         ensures made { IsValueOrMemory (λ p. outcome_view made_view p.1) result
-            (comes_to (job_view self) (pattern_view pattern.entry)
+            (record_outcome (job_view self) (pattern_view pattern.entry)
             (Ok (pairs_view «data».entries))) }
         ensures same { IfOk result (λ p. job_view p.0 ≡ job_view self) }
     {
@@ -106,7 +106,7 @@ impl Job {
         pattern: Option<&Template>,
     ) -> Result<(Job, RecordResult<Made>)>
         ensures made { IsValueOrMemory (λ p. outcome_view made_view p.1) result
-            (comes_to (job_view self) (pattern_view pattern.entry) (data_of text.now)) }
+            (record_outcome (job_view self) (pattern_view pattern.entry) (data_of text.now)) }
         ensures same { IfOk result (λ p. job_view p.0 ≡ job_view self) }
     {
         match data_from_json(alloc, text) {
