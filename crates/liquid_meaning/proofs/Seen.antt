@@ -345,7 +345,7 @@ module _ (u : Use) where
       turned xs ys false k = k
 
       at : (n m : ℕ) → n ≡ m → AlikeLists u (cond reversed (reverse (within limit offset n ds)) (within limit offset n ds)) (cond reversed (reverse (within limit offset m es)) (within limit offset m es))
-      at n m e = subst (λ m. AlikeLists u (cond reversed (reverse (within limit offset n ds)) (within limit offset n ds)) (cond reversed (reverse (within limit offset m es)) (within limit offset m es))) e (turned (within limit offset n ds) (within limit offset n es) reversed (items_at_alike ds es (skipped n offset) (wanted n (skipped n offset) limit) h))
+      at n m e = subst (λ m. AlikeLists u (cond reversed (reverse (within limit offset n ds)) (within limit offset n ds)) (cond reversed (reverse (within limit offset m es)) (within limit offset m es))) e (turned (within limit offset n ds) (within limit offset n es) reversed (items_at_alike ds es (skipped n offset) (selected_count n (skipped n offset) limit) h))
 
 module _ (U : Uses) (e f : Environment) (agree : AlikeIn U e f) where
   pub source_alike : (name : Text) (source : Source) → T (grants_source U name source) → Both (AlikeLists (U name)) (source_items source e) (source_items source f)

@@ -57,7 +57,7 @@ impl Job {
     /// The answer is `Memory` where a growth was refused, and no other kind; then the job is gone.
     /// Else it is as it was.
     #[tactic(auto, using(crate::proofs::Making::made_with, crate::proofs::Making::same_job))]
-    pub fn made(
+    pub fn make_page(
         self,
         alloc: Global,
         data: Object,
@@ -98,8 +98,8 @@ impl Job {
         Ok((job, outcome))
     }
 
-    /// As `made`, of a record that is a text of JSON.
-    pub fn made_of_json(
+    /// As `make_page`, of a record that is a text of JSON.
+    pub fn make_page_of_json(
         self,
         alloc: Global,
         text: &str,
@@ -110,7 +110,7 @@ impl Job {
         ensures same { IfOk result (λ p. job_view p.0 ≡ job_view self) }
     {
         match data_from_json(alloc, text) {
-            Ok(data) => self.made(alloc, data, pattern),
+            Ok(data) => self.make_page(alloc, data, pattern),
             Err(fault) => match fault.kind {
                 ErrorKind::Memory => Err(fault),
                 _ => Ok((self, Err(Why::NoData(fault)))),

@@ -84,7 +84,7 @@ impl Merge {
             pattern,
             names,
         } = self;
-        let (job, outcome) = job.made(alloc, data, Some(&pattern))?;
+        let (job, outcome) = job.make_page(alloc, data, Some(&pattern))?;
         let mut names = names;
         let fate = put_if_made(alloc, number, outcome, &mut names, disk)?;
         let merge = Merge {

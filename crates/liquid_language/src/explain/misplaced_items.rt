@@ -133,7 +133,7 @@ fn in_place_of_filter<'s>(
     Some(Phrasing::quoting(site.rest, words, filter, step))
 }
 
-/// What is meant by what stands where a filter or the closer is wanted.
+/// The intended meaning of what stands where a filter or the closer is expected.
 fn after_value<'s>(
     language: &Language,
     site: &ErrorSite<'s>,
