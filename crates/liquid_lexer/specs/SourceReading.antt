@@ -127,7 +127,8 @@ inside_of Tag x =
 
 -- after the `{` of an opener
 unfoldable pub markup_at : Reads Markup
-markup_at bs = option_and_then (λ k. inside_of k.0 (skip_dash k.1 (past_byte dash k.1))) (opener_at bs)
+markup_at bs =
+    option_and_then (λ k. inside_of k.0 (skip_dash k.1 (past_byte dash k.1))) (opener_at bs)
 
 abbrev pub tag_name : Piece → List ℕ
 tag_name (tag w is) = w

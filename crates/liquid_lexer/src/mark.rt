@@ -1,7 +1,8 @@
 //! Marks, and the bodies of `raw` and `comment`, which run up to one.
 ghost use Rattle.std.specs.Prelude.{◌≡◌, length, drop};
 ghost use Rattle.std.specs.Option.{option_map};
-ghost use Rattle.liquid_lexer.specs.SourceReading.{mark_at, mark_after, skip_dash, goes_on, in_body};
+ghost use Rattle.liquid_lexer.specs.SourceReading.{mark_at, mark_after, skip_dash};
+ghost use Rattle.liquid_lexer.specs.SourceReading.{goes_on, in_body};
 ghost use Rattle.liquid_lexer.specs.SourceReading.{in_comment, raw_at, comment_at};
 ghost use Rattle.liquid_lexer.specs.ValueReading.{past_byte, run_len};
 ghost use Rattle.liquid_lexer.specs.PieceView.{mark_view};
