@@ -7,7 +7,7 @@ use liquid_row_records::RecordData;
 use std::alloc::Global;
 
 /// Whether a record's page is there, or why not.
-pub type Taken = Result<(), Report>;
+pub type RecordOutcome = Result<(), Report>;
 
 /// Where the pages of a merge go.
 #[derive(Drop)]
@@ -37,22 +37,22 @@ impl<'r> Target<'r> {
         separator: &str,
         number: usize,
         data: RecordData<'_>,
-    ) -> Result<(Target<'r>, Taken), Stop> {
+    ) -> Result<(Target<'r>, RecordOutcome), Stop> {
         match self {
             Target::Files(merge, files) => {
                 let mut files = files;
                 let (merge, fate) = merged(rt.alloc(), merge, number, data, &mut files)?;
-                let taken = written(fate, &files);
+                let taken = file_outcome(fate, &files);
                 Ok((Target::Files(merge, files), taken))
             }
             Target::Names(merge) => {
                 let (merge, fate) = merged(rt.alloc(), merge, number, data, &mut Nowhere)?;
-                Ok((Target::Names(merge), named(rt, fate)?))
+                Ok((Target::Names(merge), print_name(rt, fate)?))
             }
             Target::Output(job) => {
                 let (job, outcome) = match data {
-                    RecordData::Text(text) => job.made_of_json(rt.alloc(), text, None)?,
-                    RecordData::Data(data) => job.made(rt.alloc(), data, None)?,
+                    RecordData::Text(text) => job.make_page_of_json(rt.alloc(), text, None)?,
+                    RecordData::Data(data) => job.make_page(rt.alloc(), data, None)?,
                 };
                 Ok((Target::Output(job), printed(rt, separator, outcome)?))
             }
@@ -75,7 +75,7 @@ fn merged<D: Disk>(
 }
 
 /// A record whose page was to go into a file.
-fn written(fate: Fate, files: &Files<'_>) -> Taken {
+fn file_outcome(fate: Fate, files: &Files<'_>) -> RecordOutcome {
     match fate {
         Ok(_) => Ok(()),
         Err(failure) => Err(Report::NoFile(failure, files.reason())),
@@ -83,7 +83,7 @@ fn written(fate: Fate, files: &Files<'_>) -> Taken {
 }
 
 /// A record whose file's name is printed.
-fn named(rt: &HostRuntime, fate: Fate) -> Result<Taken, Stop> {
+fn print_name(rt: &HostRuntime, fate: Fate) -> Result<RecordOutcome, Stop> {
     match fate {
         Ok(name) => {
             print_text(rt, name.as_str())?;
@@ -95,7 +95,11 @@ fn named(rt: &HostRuntime, fate: Fate) -> Result<Taken, Stop> {
 }
 
 /// A record whose page is printed.
-fn printed(rt: &HostRuntime, separator: &str, outcome: RecordResult<Made>) -> Result<Taken, Stop> {
+fn printed(
+    rt: &HostRuntime,
+    separator: &str,
+    outcome: RecordResult<Made>,
+) -> Result<RecordOutcome, Stop> {
     match outcome {
         Ok(Made { name: _, text }) => {
             print_text(rt, text.as_str())?;

@@ -11,7 +11,7 @@ ghost use Rattle.liquid_c.specs.Shared.{shared_content};
 
 use crate::content::Content;
 use crate::handle::Handle;
-use crate::handle_content::seen;
+use crate::handle_content::held_content;
 use crate::levels::TemplateLevels;
 use crate::refusal::{Refusal, store_result};
 use liquid_core::Object;
@@ -79,7 +79,7 @@ pub extern "C" fn bikleinu_render(
         bytes: 0,
         turns: 0,
     };
-    let answer = rendered(alloc, template, data, partials, allowed);
+    let answer = render_handles(alloc, template, data, partials, allowed);
     store_result(alloc, answer, made)
 }
 
@@ -105,7 +105,7 @@ pub extern "C" fn bikleinu_render_within(
     ensures partials { partials.new.held ≡ partials.old.held }
 {
     let allowed = allowed_by(depth, limits);
-    let answer = rendered(alloc, template, data, partials, allowed);
+    let answer = render_handles(alloc, template, data, partials, allowed);
     store_result(alloc, answer, made)
 }
 
@@ -130,8 +130,8 @@ fn bound_of(asked: u32) -> u32
     if asked == 0 { USUAL_LEVELS } else { asked }
 }
 
-/// What rendering comes to with what the handles hold, which hold it again.
-fn rendered(
+/// The result of rendering what the handles hold; afterwards they hold it again.
+fn render_handles(
     alloc: Global,
     template: &mut Handle,
     data: &mut Handle,
@@ -151,9 +151,9 @@ fn rendered(
     let held_partials = partials.take(alloc);
     let answer = page(
         alloc,
-        seen(&held_template),
-        seen(&held_data),
-        seen(&held_partials),
+        held_content(&held_template),
+        held_content(&held_data),
+        held_content(&held_partials),
         allowed,
     );
     template.put(alloc, held_template);
@@ -181,7 +181,7 @@ fn page(
     let no_data = empty_data(alloc);
     let no_partials = Partials::new(alloc);
     let is_deep = levels.pass(levels_held(partials), allowed.depth, allowed.levels);
-    shown(
+    page_within_levels(
         alloc,
         template,
         is_deep,
@@ -192,7 +192,7 @@ fn page(
 }
 
 /// The page of a template over data and with partials, where both are there and it isn't too deep.
-fn shown(
+fn page_within_levels(
     alloc: Global,
     template: &Template,
     is_deep: bool,
@@ -217,13 +217,13 @@ fn shown(
         return Err(Refusal::TooManyLevels);
     }
     if allowed.bytes == 0 && allowed.turns == 0 {
-        return Ok(whole(alloc, template, partials, allowed.depth, data));
+        return Ok(unlimited_page(alloc, template, partials, allowed.depth, data));
     }
     Ok(limited(alloc, template, partials, allowed, data))
 }
 
 /// The whole page.
-fn whole(
+fn unlimited_page(
     alloc: Global,
     template: &Template,
     partials: &Partials,

@@ -71,7 +71,7 @@ impl Stop {
 
     /// Prints that a path can't be read, so that a command can go on without it. What isn't that
     /// ends the command.
-    pub fn passed_over(self, rt: &HostRuntime) -> Result<(), Stop> {
+    pub fn print_and_skip(self, rt: &HostRuntime) -> Result<(), Stop> {
         if let Stop::Unreadable(_, _) | Stop::NoFolder(_) = &self {
             self.print(rt);
             return Ok(());

@@ -1,4 +1,4 @@
--- What data has other than is wanted.
+-- How data differs from what the template needs.
 --     doubt_of want path ps      the first doubt about the values at a path in data of these pairs:
 --     they aren't there, or one of them isn't as it is wanted
 use Rattle.std.specs.Prelude.{ℕ, ◌+◌, ◌==◌, ◌||◌, min, cond, nat_lt, is_some, ℤ, pos, negsuc}

@@ -1,4 +1,4 @@
-//! What data has other than is wanted.
+//! How data differs from what the template needs.
 ghost use Rattle.std.specs.Prelude.{◌≡◌, is_some, map, option_map};
 ghost use Rattle.liquid_model.specs.Answer.{IsValueOrMemory};
 ghost use Rattle.liquid_model.specs.View.{view, pairs_view};
@@ -36,7 +36,7 @@ pub struct Span {
     pub limit: Option<i64>,
 }
 
-/// What data has other than is wanted.
+/// How data differs from what the template needs.
 #[derive(Clone, Copy)]
 pub enum Doubt<'d> {
     /// A map on the way lacks a key.

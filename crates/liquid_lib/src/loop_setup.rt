@@ -7,7 +7,7 @@ ghost use Rattle.liquid_model.specs.View.{view};
 ghost use Rattle.liquid_core.specs.ExpressionView.{expression_view};
 ghost use Rattle.liquid_core.specs.States.{environment_of, layers_of, loops_of, with_interrupt};
 ghost use Rattle.liquid_core.specs.LoopFrames.{parent_of};
-ghost use Rattle.liquid_evaluation.specs.Evaluation.{asked_for};
+ghost use Rattle.liquid_evaluation.specs.Evaluation.{selected_items};
 ghost use Rattle.liquid_evaluation.specs.SourceView.{source_view};
 ghost use Rattle.liquid_syntax.specs.Flats.{window_view};
 ghost use Rattle.liquid_lib.specs.inside.LoopTurns.{AreRows, IsFor, cells_asked, cells_of};
@@ -94,7 +94,7 @@ fn evaluate_window(
 ) -> Result<Window>
     ensures items { (ds : List Datum) → length ds ≡ total →
         Answers (λ w. window_values ds w.from w.count asked.now.reversed) result
-        (asked_for (window_view asked.now) ds (environment_of state.now)) }
+        (selected_items (window_view asked.now) ds (environment_of state.now)) }
     ensures within { IfOk result (λ w. (w.from ≤ total) × (w.count ≤ total)) }
 {
     let limit = evaluate_amount(alloc, &asked.limit, state)?;

@@ -21,7 +21,7 @@ use Rattle.liquid_evaluation.specs.declared.comparison.ComparisonOperator.TheVar
 use Rattle.liquid_meaning.specs.Runs.{Nothing, Run, done, read_environment, evaluate, change, write, ◌>>=◌}
 use Rattle.liquid_meaning.specs.Effects.{assigned_to, counted_to, interrupted_by, counter_number, variable_or_nil, take_interrupt, if_none, unless_interrupted, is_last_text}
 use Rattle.liquid_meaning.specs.Loops.{if_empty, columns_of, needs_columns, cell_start, cell_end, loop, rows}
-use Rattle.liquid_meaning.specs.Meaning.{Setting, write_item, cycle_meaning, has_equal, within_i64, named, partial_name_text, found, pairs_scope, include_scope, render_apart, node_meaning, nodes_meaning, whens_meaning, deeper_meaning, meaning}
+use Rattle.liquid_meaning.specs.Meaning.{Setting, write_item, cycle_meaning, has_equal, within_i64, named, partial_name_text, found_partial, pairs_scope, include_scope, render_apart, node_meaning, nodes_meaning, whens_meaning, deeper_meaning, meaning}
 use Rattle.liquid_model.specs.Uses.{Use, nothing, everything, parts, there, shape_of, Pairwise, Alike, asks_whether, present}
 use Rattle.liquid_meaning.specs.Reading.{Uses, Needs, grants, grants_all, grants_optional, use_beside, grants_compared, grants_values, grants_condition, grants_source, grants_window, grants_bindings, grants_chain, bound_use, all_of, is_flat, grants_node, grants_nodes, grants_whens, grants_partials}
 use Rattle.liquid_meaning.specs.Reads.{AlikeMaps, AlikeIn, Both, Respects, ReadsAlone}
@@ -184,7 +184,7 @@ module _ (U : Uses) where
   tied_all_pairs bindings h = tied_evaluate _ _ _ (λ e f a. bound_alike U e f a all_of (λ name. tt) bindings h)
 
   -- on with a partial that is found
-  tied_found : {A : Type 0} {R : A → A → Type 0} (o : Option Nodes) (k l : Nodes → Run A) → ((nodes : Nodes) → o ≡ Some nodes → Tied U R (k nodes) (l nodes)) → Tied U R (evaluate (λ e. found o) >>= k) (evaluate (λ e. found o) >>= l)
+  tied_found : {A : Type 0} {R : A → A → Type 0} (o : Option Nodes) (k l : Nodes → Run A) → ((nodes : Nodes) → o ≡ Some nodes → Tied U R (k nodes) (l nodes)) → Tied U R (evaluate (λ e. found_partial o) >>= k) (evaluate (λ e. found_partial o) >>= l)
   unfolding ◌>>=◌ evaluate
   tied_found None k l g e f h = record { text = refl; end = refl; left = h }
   tied_found (Some nodes) k l g e f h =

@@ -18,7 +18,7 @@ use Rattle.liquid_core.specs.Expressions.{value_of, path_of, required, all_requi
 use Rattle.liquid_model.specs.Fallible.{◌>>=◌}
 use Rattle.liquid_evaluation.specs.Calls.{applied}
 use Rattle.liquid_evaluation.specs.Tree.{FilterCall, Chain, Atom, bare, compared, Condition, Source, each_of, counted, Window, Bindings}
-use Rattle.liquid_evaluation.specs.Evaluation.{FilterAnswers, entry_value, calls_by, chain_value, bare_truth, atom_truth, all_true, truth_of, value_items, most_items, not_too_long, source_items, amount, skipped, wanted, items_in_window, window_items, asked_for, bound_values}
+use Rattle.liquid_evaluation.specs.Evaluation.{FilterAnswers, entry_value, calls_by, chain_value, bare_truth, atom_truth, all_true, truth_of, value_items, most_items, not_too_long, source_items, amount, skipped, selected_count, items_in_window, window_items, selected_items, bound_values}
 use Rattle.liquid_model.specs.Uses.{Use, everything, parts, no_fields, every, there, shape_of, member, loop_items, Pairwise, Alike, use_at, is_everything, asks_whether}
 use Rattle.liquid_meaning.specs.Reading.{Uses, known_key, key, for_known_key, grants, grants_along, grants_all, grants_optional, grants_filters, Needs, use_before, grants_chain, use_beside, grants_compared, grants_atom, grants_atoms, grants_condition, grants_source, grants_window, grants_bindings}
 use Rattle.liquid_meaning.specs.Reads.{AlikeIn, Both, Respects}
@@ -335,7 +335,7 @@ module _ (u : Use) where
 
   -- the items of a list of n
   abbrev within : Option ℤ → Option ℤ → ℕ → List Datum → List Datum
-  within limit offset n ds = items_in_window ds (skipped n offset) (wanted n (skipped n offset) limit)
+  within limit offset n ds = items_in_window ds (skipped n offset) (selected_count n (skipped n offset) limit)
 
   window_alike : (ds es : List Datum) (limit offset : Option ℤ) (reversed : Bool) → AlikeLists u ds es → AlikeLists u (window_items ds limit offset reversed) (window_items es limit offset reversed)
   window_alike ds es limit offset reversed h = at (length ds) (length es) (pairwise_length _ ds es h)
@@ -345,7 +345,7 @@ module _ (u : Use) where
       turned xs ys false k = k
 
       at : (n m : ℕ) → n ≡ m → AlikeLists u (cond reversed (reverse (within limit offset n ds)) (within limit offset n ds)) (cond reversed (reverse (within limit offset m es)) (within limit offset m es))
-      at n m e = subst (λ m. AlikeLists u (cond reversed (reverse (within limit offset n ds)) (within limit offset n ds)) (cond reversed (reverse (within limit offset m es)) (within limit offset m es))) e (turned (within limit offset n ds) (within limit offset n es) reversed (items_at_alike ds es (skipped n offset) (wanted n (skipped n offset) limit) h))
+      at n m e = subst (λ m. AlikeLists u (cond reversed (reverse (within limit offset n ds)) (within limit offset n ds)) (cond reversed (reverse (within limit offset m es)) (within limit offset m es))) e (turned (within limit offset n ds) (within limit offset n es) reversed (items_at_alike ds es (skipped n offset) (selected_count n (skipped n offset) limit) h))
 
 module _ (U : Uses) (e f : Environment) (agree : AlikeIn U e f) where
   pub source_alike : (name : Text) (source : Source) → T (grants_source U name source) → Both (AlikeLists (U name)) (source_items source e) (source_items source f)
@@ -357,8 +357,8 @@ module _ (U : Uses) (e f : Environment) (agree : AlikeIn U e f) where
   source_alike name (counted x y) h = both_equal _ (λ ds. pairwise_same _ (λ d. alike_same (U name) (Some d)) ds) _ _
       (same_then (whole_equal U e f agree x (both_left (grants U x everything) _ h)) (λ a. same_then (whole_equal U e f agree y (both_right (grants U x everything) _ h)) (λ b. refl)))
 
-  pub asked_alike : (u : Use) (window : Window) (ds es : List Datum) → AlikeLists u ds es → T (grants_window U window) → Both (AlikeLists u) (asked_for window ds e) (asked_for window es f)
-  unfolding asked_for grants_window
+  pub asked_alike : (u : Use) (window : Window) (ds es : List Datum) → AlikeLists u ds es → T (grants_window U window) → Both (AlikeLists u) (selected_items window ds e) (selected_items window es f)
+  unfolding selected_items grants_window
   asked_alike u window ds es k h =
       then_both _ _ _ _ _ (amount_equal U e f agree window.limit (both_left (grants_optional U window.limit) _ h)) (λ limit.
       then_both _ _ _ _ _ (amount_equal U e f agree window.offset (both_right (grants_optional U window.limit) _ h)) (λ offset.

@@ -5,7 +5,7 @@ ghost use Rattle.liquid_model.specs.View.{pairs_view};
 ghost use Rattle.liquid_syntax.specs.Templates.{tree_of};
 ghost use Rattle.liquid_lib.specs.Pages.{page_view};
 ghost use Rattle.liquid_json.specs.Json.{data_of};
-ghost use Rattle.liquid_records.specs.Records.{checked_name, comes_to, made_by, made_page};
+ghost use Rattle.liquid_records.specs.Records.{checked_name, record_outcome, made_by, made_page};
 ghost use Rattle.liquid_records.specs.Records.{record_file_name};
 ghost use Rattle.liquid_records.specs.Records.{page_name, record_page};
 ghost use Rattle.liquid_records.specs.Views.{job_view, made_view, outcome_view, pattern_view};
@@ -57,14 +57,14 @@ impl Job {
     /// The answer is `Memory` where a growth was refused, and no other kind; then the job is gone.
     /// Else it is as it was.
     #[tactic(auto, using(crate::proofs::Making::made_with, crate::proofs::Making::same_job))]
-    pub fn made(
+    pub fn make_page(
         self,
         alloc: Global,
         data: Object,
         pattern: Option<&Template>,
     ) -> Result<(Job, RecordResult<Made>)>
         ensures made { IsValueOrMemory (λ p. outcome_view made_view p.1) result
-            (comes_to (job_view self) (pattern_view pattern.entry)
+            (record_outcome (job_view self) (pattern_view pattern.entry)
             (Ok (pairs_view «data».entries))) }
         ensures same { IfOk result (λ p. job_view p.0 ≡ job_view self) }
     {
@@ -98,19 +98,19 @@ impl Job {
         Ok((job, outcome))
     }
 
-    /// As `made`, of a record that is a text of JSON.
-    pub fn made_of_json(
+    /// As `make_page`, of a record that is a text of JSON.
+    pub fn make_page_of_json(
         self,
         alloc: Global,
         text: &str,
         pattern: Option<&Template>,
     ) -> Result<(Job, RecordResult<Made>)>
         ensures made { IsValueOrMemory (λ p. outcome_view made_view p.1) result
-            (comes_to (job_view self) (pattern_view pattern.entry) (data_of text.now)) }
+            (record_outcome (job_view self) (pattern_view pattern.entry) (data_of text.now)) }
         ensures same { IfOk result (λ p. job_view p.0 ≡ job_view self) }
     {
         match data_from_json(alloc, text) {
-            Ok(data) => self.made(alloc, data, pattern),
+            Ok(data) => self.make_page(alloc, data, pattern),
             Err(fault) => match fault.kind {
                 ErrorKind::Memory => Err(fault),
                 _ => Ok((self, Err(Why::NoData(fault)))),

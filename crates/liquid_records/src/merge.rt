@@ -4,7 +4,7 @@ ghost use Rattle.liquid_model.specs.Maps.{empty};
 ghost use Rattle.liquid_model.specs.View.{pairs_view};
 ghost use Rattle.liquid_json.specs.Json.{data_of};
 ghost use Rattle.liquid_syntax.specs.Templates.{tree_of};
-ghost use Rattle.liquid_records.specs.Records.{comes_to};
+ghost use Rattle.liquid_records.specs.Records.{record_outcome};
 ghost use Rattle.liquid_records.specs.Steps.{IsRecordStep, Leaves};
 ghost use Rattle.liquid_records.specs.Views.{fate_view, job_of, job_view, made_view, merge_names};
 ghost use Rattle.liquid_records.specs.Views.{outcome_view, pattern_of};
@@ -68,11 +68,11 @@ impl Merge {
         disk: &mut D,
     ) -> Result<(Merge, Fate)>
         ensures step { IfOk result
-            (λ p. IsRecordStep number (comes_to (job_of self) (Some (pattern_of self))
+            (λ p. IsRecordStep number (record_outcome (job_of self) (Some (pattern_of self))
             (Ok (pairs_view «data».entries)))
             (merge_names self) (fate_view p.1) (merge_names p.0)) }
         ensures files { IfSome (D.files disk.old) (λ f. IfOk result (λ p.
-            Leaves (comes_to (job_of self) (Some (pattern_of self))
+            Leaves (record_outcome (job_of self) (Some (pattern_of self))
             (Ok (pairs_view «data».entries))) (fate_view p.1) f (D.files disk.new))) }
         ensures job { IfOk result (λ p. job_of p.0 ≡ job_of self) }
         ensures pattern { IfOk result (λ p. pattern_of p.0 ≡ pattern_of self) }
@@ -84,7 +84,7 @@ impl Merge {
             pattern,
             names,
         } = self;
-        let (job, outcome) = job.made(alloc, data, Some(&pattern))?;
+        let (job, outcome) = job.make_page(alloc, data, Some(&pattern))?;
         let mut names = names;
         let fate = put_if_made(alloc, number, outcome, &mut names, disk)?;
         let merge = Merge {
@@ -104,11 +104,11 @@ impl Merge {
         disk: &mut D,
     ) -> Result<(Merge, Fate)>
         ensures step { IfOk result
-            (λ p. IsRecordStep number (comes_to (job_of self) (Some (pattern_of self))
+            (λ p. IsRecordStep number (record_outcome (job_of self) (Some (pattern_of self))
             (data_of text.now))
             (merge_names self) (fate_view p.1) (merge_names p.0)) }
         ensures files { IfSome (D.files disk.old) (λ f. IfOk result (λ p.
-            Leaves (comes_to (job_of self) (Some (pattern_of self)) (data_of text.now))
+            Leaves (record_outcome (job_of self) (Some (pattern_of self)) (data_of text.now))
             (fate_view p.1) f (D.files disk.new))) }
         ensures job { IfOk result (λ p. job_of p.0 ≡ job_of self) }
         ensures pattern { IfOk result (λ p. pattern_of p.0 ≡ pattern_of self) }

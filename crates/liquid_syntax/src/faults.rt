@@ -16,7 +16,7 @@ pub(crate) fn no_body(remaining: usize) -> Fault
     Fault {
         kind: FaultKind::UnknownTag,
         remaining,
-        wanted: Expectation::BlockStart,
+        expected: Expectation::BlockStart,
         items_remaining: 0,
     }
 }
@@ -29,7 +29,7 @@ pub(crate) fn too_nested(remaining: usize) -> ParseError
     ParseError::Fault(Fault {
         kind: FaultKind::TooNested,
         remaining,
-        wanted: Expectation::FewerBlocks,
+        expected: Expectation::FewerBlocks,
         items_remaining: 0,
     })
 }
@@ -38,12 +38,12 @@ pub(crate) fn too_nested(remaining: usize) -> ParseError
 pub(crate) fn missing_end(block: Block) -> Fault
     ensures kind { result.kind ≡ FaultKind.MissingEnd }
     ensures place { result.remaining ≡ 0 }
-    ensures wanted { end_of result.wanted ≡ end_word block }
+    ensures wanted { end_of result.expected ≡ end_word block }
 {
     Fault {
         kind: FaultKind::MissingEnd,
         remaining: 0,
-        wanted: Expectation::End(end_tag(block)),
+        expected: Expectation::End(end_tag(block)),
         items_remaining: 0,
     }
 }

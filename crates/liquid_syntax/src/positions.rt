@@ -25,8 +25,8 @@ impl Position {
         }
         let first = if lines == 0 { self.column } else { 1 };
         Position {
-            line: further(self.line, lines),
-            column: further(first, characters),
+            line: saturating_sum(self.line, lines),
+            column: saturating_sum(first, characters),
         }
     }
 }
@@ -47,8 +47,8 @@ pub(crate) fn rest_from<'s>(source: &'s str, place: Position) -> &'s str {
     characters.as_str()
 }
 
-/// So much more, up to the greatest value.
-fn further(from: u32, count: usize) -> u32 {
+/// The sum, capped at the greatest value.
+fn saturating_sum(from: u32, count: usize) -> u32 {
     from.saturating_add(u32::try_from(count).unwrap_or(u32::MAX))
 }
 

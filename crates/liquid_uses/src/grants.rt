@@ -24,7 +24,7 @@ use liquid_evaluation::ChainFilter;
 use liquid_syntax::{Atom, Binding, Condition, FilterChain, RangeExpression, WindowExpression};
 
 /// Everything is asked of the expression.
-pub(crate) fn whole(uses: &Uses, expression: &Expression) -> bool
+pub(crate) fn grants_whole_value(uses: &Uses, expression: &Expression) -> bool
     ensures { result ≡ true → grants (uses_view uses.now) (expression_view expression.now)
         everything ≡ true }
 {
@@ -65,7 +65,7 @@ pub(crate) fn all_whole(uses: &Uses, expressions: &[Expression]) -> bool
         expressions.now) ≡ true }
 {
     for expression in expressions {
-        if !whole(uses, expression) {
+        if !grants_whole_value(uses, expression) {
             return false;
         }
     }
@@ -79,7 +79,7 @@ pub(crate) fn optional_whole(uses: &Uses, expression: &Option<Expression>) -> bo
         expression.now) ≡ true }
 {
     match expression {
-        Some(expression) => whole(uses, expression),
+        Some(expression) => grants_whole_value(uses, expression),
         None => true,
     }
 }
@@ -109,7 +109,7 @@ fn chain_place<'u>(uses: &'u Uses, chain: &FilterChain) -> ChainPlace<'u>
 }
 
 /// A chain whose value is written.
-pub(crate) fn written(uses: &Uses, chain: &FilterChain) -> bool
+pub(crate) fn grants_output(uses: &Uses, chain: &FilterChain) -> bool
     ensures { result ≡ true → grants_chain known_needs (uses_view uses.now) everything
         (chain_view chain.now) ≡ true }
 {
@@ -168,7 +168,8 @@ pub(crate) fn source_granted(uses: &Uses, name: &str, source: &RangeExpression) 
 {
     match source {
         RangeExpression::Array(value) => each_as_named(uses, value, name),
-        RangeExpression::Counted(first, last) => whole(uses, first) && whole(uses, last),
+        RangeExpression::Counted(first, last) => grants_whole_value(uses, first)
+            && grants_whole_value(uses, last),
     }
 }
 
@@ -198,7 +199,7 @@ pub(crate) fn bindings_whole(uses: &Uses, pairs: &[Binding]) -> bool
         pairs.now) ≡ true }
 {
     for pair in pairs {
-        if !whole(uses, &pair.value) {
+        if !grants_whole_value(uses, &pair.value) {
             return false;
         }
     }

@@ -26,7 +26,7 @@ pub(crate) fn use_before(demands: &mut Demands<'_>, filters: &[ChainFilter], las
     let mut asked = last;
     let mut is_ordered = false;
     for filter in filters.iter().rev() {
-        asked = before(demands, filter, asked, is_ordered)?;
+        asked = input_need(demands, filter, asked, is_ordered)?;
         is_ordered = is_ordered || is_order(&filter.filter);
     }
     Ok(asked)
@@ -47,7 +47,12 @@ fn is_order(filter: &StoredFilter) -> bool {
 ///
 /// `is_ordered` says that a filter after this one takes a map as the list of itself: what one item
 /// of the list is asked is then asked of two values, and not kept apart any more.
-fn before(demands: &mut Demands<'_>, filter: &ChainFilter, asked: Use, is_ordered: bool) -> Needed {
+fn input_need(
+    demands: &mut Demands<'_>,
+    filter: &ChainFilter,
+    asked: Use,
+    is_ordered: bool,
+) -> Needed {
     match &filter.filter {
         StoredFilter::Kind(kind) => {
             before_kind(demands, *kind, &filter.arguments, asked, is_ordered)
@@ -68,13 +73,13 @@ fn before_kind(
         FilterKind::Size(_) => of_each(alloc, Use::Nothing),
         FilterKind::First(_) if !is_ordered => of_member(alloc, "first", asked),
         FilterKind::Last(_) if !is_ordered => of_member(alloc, "last", asked),
-        FilterKind::Reverse(_) | FilterKind::Concat(_) => of_each(alloc, wanted(alloc, asked)?),
-        FilterKind::Map(_) => before_map(alloc, arguments, wanted(alloc, asked)?),
+        FilterKind::Reverse(_) | FilterKind::Concat(_) => of_each(alloc, item_need(alloc, asked)?),
+        FilterKind::Map(_) => before_map(alloc, arguments, item_need(alloc, asked)?),
         FilterKind::Where(_) | FilterKind::Sort(_) | FilterKind::SortNatural(_) => {
-            let item = wanted(alloc, asked)?;
+            let item = item_need(alloc, asked)?;
             before_order(demands, arguments, item)
         }
-        FilterKind::Compact(_) => before_compact(alloc, arguments, wanted(alloc, asked)?),
+        FilterKind::Compact(_) => before_compact(alloc, arguments, item_need(alloc, asked)?),
         FilterKind::Default(_) => joined(alloc, of_each(alloc, Use::Nothing)?, asked),
         _ => Ok(Use::Everything),
     }
@@ -121,7 +126,7 @@ fn before_order(demands: &mut Demands<'_>, arguments: &[Expression], item: Use) 
 }
 
 /// All that this asks of an item of a list.
-fn wanted(alloc: Global, asked: Use) -> Needed {
+fn item_need(alloc: Global, asked: Use) -> Needed {
     match asked {
         Use::Nothing => Ok(Use::Nothing),
         Use::Everything => Ok(Use::Everything),

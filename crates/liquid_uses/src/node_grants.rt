@@ -10,8 +10,8 @@ ghost use Rattle.liquid_uses.specs.inside.OwnGrants.{own_grants, pairs_grants, r
 
 use crate::comparisons::arms_granted;
 use crate::grants::{
-    all_whole, assigned, bindings_granted, bindings_whole, condition_granted, optional_whole,
-    present, source_granted, whole, window_granted, written,
+    all_whole, assigned, bindings_granted, bindings_whole, condition_granted, grants_output,
+    grants_whole_value, optional_whole, present, source_granted, window_granted,
 };
 use liquid_core::{Expression, Use, Uses, member_of};
 use liquid_syntax::{Binding, Each, For, Node, TableRow};
@@ -35,7 +35,7 @@ fn node_granted(uses: &Uses, node: &Node) -> bool
     match node {
         Node::Text(_) | Node::Raw(_) | Node::Comment => true,
         Node::Break | Node::Continue | Node::IfChanged(_) | Node::Capture(_, _) => true,
-        Node::Output(chain) => written(uses, chain),
+        Node::Output(chain) => grants_output(uses, chain),
         Node::Assign(name, chain) => assigned(uses, name.as_str(), chain),
         Node::If(condition, _) => condition_granted(uses, condition),
         Node::Unless(condition, _) => condition_granted(uses, condition),
@@ -102,7 +102,7 @@ fn pairs_granted(uses: &Uses, name: &Expression, pairs: &[Binding]) -> bool
     ensures { result ≡ true → pairs_grants (uses_view uses.now) (expression_view name.now)
         (bindings_view pairs.now) ≡ true }
 {
-    whole(uses, name) && bindings_granted(uses, pairs)
+    grants_whole_value(uses, name) && bindings_granted(uses, pairs)
 }
 
 /// The name of a partial, the `for` of a `render`, and pairs.
@@ -111,7 +111,7 @@ fn each_granted(uses: &Uses, name: &Expression, each: &Each, pairs: &[Binding]) 
     ensures { result ≡ true → each_grants (uses_view uses.now) (expression_view name.now)
         (each_view each.now) (bindings_view pairs.now) ≡ true }
 {
-    whole(uses, name)
+    grants_whole_value(uses, name)
         && source_granted(uses, each.variable.as_str(), &each.source)
         && bindings_granted(uses, pairs)
 }

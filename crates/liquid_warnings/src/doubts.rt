@@ -11,7 +11,7 @@ use crate::path_texts::{
 };
 use crate::remark::Remark;
 use crate::warnings::is_full;
-use liquid_check::{Asked, asked_paths};
+use liquid_check::{UsedPath, asked_paths};
 use liquid_core::{ErrorKind, Object, Quoted, Result};
 use liquid_data_paths::{DataPath, Doubt, Lack, Want, doubt_of};
 use liquid_syntax::Template;
@@ -63,7 +63,7 @@ fn add_once(
 
 /// What is said of a doubt. Of a name that isn't there `UnknownName` is said, and of what has to be
 /// there nowhere, nothing, unless a similar key is.
-fn remark_of(alloc: Global, asked: &Asked, doubt: Doubt<'_>) -> Result<Option<Remark>>
+fn remark_of(alloc: Global, asked: &UsedPath, doubt: Doubt<'_>) -> Result<Option<Remark>>
     ensures memory { IfErr result (λ e. e.kind ≡ ErrorKind.Memory) }
 {
     if let Doubt::Lacks(lack) = doubt {
@@ -112,7 +112,7 @@ fn no_date(alloc: Global, path: &str, text: &str) -> Said
 /// `UnknownPath`: a map on the way hasn't the key.
 fn unknown_path(
     alloc: Global,
-    asked: &Asked,
+    asked: &UsedPath,
     lack: Lack<'_>,
 ) -> std::result::Result<Option<Remark>, AllocError> {
     let count = asked.path.steps.len().saturating_sub(lack.left);

@@ -1,7 +1,7 @@
 use Rattle.liquid_core.specs.Held.{held}
 use Rattle.liquid_language.specs.Entries.{seen}
 use Rattle.liquid_syntax.specs.Templates.{tree_of}
-use Rattle.liquid_site.proofs.parts.SiteParts.over.Goals as goal
+use Rattle.liquid_site.proofs.parts.SiteParts.with_data.Goals as goal
 
 pub returns-clause-parts : goal.returns-clause-parts
 returns-clause-parts g c = λ i. record {

@@ -8,8 +8,8 @@ use Rattle.liquid_core.specs.Expression.{Steps, no_steps, step}
 use Rattle.liquid_core.specs.Expressions.{value_of}
 
 -- what the steps lead to from d
-abbrev pub led : Datum → Steps → Environment → Option Datum
-led d no_steps e = Some d
-led d (step x more) e =
-    option_and_then (λ s. option_and_then (λ next. led next more e) (finding.step d s))
-    (value_of x e)
+abbrev pub value_along_steps : Datum → Steps → Environment → Option Datum
+value_along_steps d no_steps e = Some d
+value_along_steps d (step x more) e =
+    option_and_then (λ s. option_and_then (λ next. value_along_steps next more e)
+    (finding.step d s)) (value_of x e)

@@ -2,7 +2,7 @@ use Rattle.liquid_evaluation.specs.ChainView.{chain_view}
 use Rattle.liquid_model.specs.Uses.{everything}
 use Rattle.liquid_model.specs.UseViews.{uses_view}
 use Rattle.liquid_uses.proofs.Chains.{chain_granted}
-use Rattle.liquid_uses.proofs.grants.written.Goals as goal
+use Rattle.liquid_uses.proofs.grants.grants_output.Goals as goal
 
 pub returns-then-is_whole : goal.returns-then-is_whole
 returns-then-is_whole c = λ h.

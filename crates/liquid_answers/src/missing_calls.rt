@@ -12,15 +12,15 @@ pub(crate) const MOST_BYTES: usize = 1048576;
 
 /// Calls, each once, as far as there is room.
 #[derive(Drop)]
-pub(crate) struct Asked {
+pub(crate) struct MissingCalls {
     calls: BTreeMap<Value, ()>,
     bytes: u64,
 }
 
-impl Asked {
+impl MissingCalls {
     /// None yet.
-    pub(crate) fn new(alloc: Global) -> Asked {
-        Asked {
+    pub(crate) fn new(alloc: Global) -> MissingCalls {
+        MissingCalls {
             calls: BTreeMap::new(alloc),
             bytes: 0,
         }
@@ -28,7 +28,7 @@ impl Asked {
 
     /// The calls, in order.
     pub(crate) fn into_calls(self) -> BTreeMap<Value, ()> {
-        let Asked { calls, bytes: _ } = self;
+        let MissingCalls { calls, bytes: _ } = self;
         calls
     }
 
@@ -46,7 +46,7 @@ impl Asked {
 }
 
 /// Keeps a call in a cell that nobody else uses meanwhile.
-pub(crate) fn note(asked: &RefCell<Asked>, call: Value) {
+pub(crate) fn note(asked: &RefCell<MissingCalls>, call: Value) {
     match asked.try_borrow_mut() {
         Ok(mut asked) => asked.keep(call),
         Err(_) => drop(call),

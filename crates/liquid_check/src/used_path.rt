@@ -10,7 +10,7 @@ use std::collections::BTreeSet;
 
 /// A path in the data that a piece asks for.
 #[derive(Drop)]
-pub struct Asked {
+pub struct UsedPath {
     pub path: DataPath,
     /// Where the piece stands.
     pub position: Position,
@@ -27,7 +27,7 @@ pub fn asked_paths(
     alloc: Global,
     template: &Template,
     names: &BTreeSet<String>,
-) -> Result<Vec<Asked>>
+) -> Result<Vec<UsedPath>>
     ensures memory { IfErr result (λ e. e.kind ≡ ErrorKind.Memory) }
 {
     let mut asking = Asking {
@@ -71,7 +71,7 @@ struct Asking<'t> {
     /// The innermost is the last.
     loops: Vec<Around<'t>>,
     position: Position,
-    found: Vec<Asked>,
+    found: Vec<UsedPath>,
 }
 
 type Done = std::result::Result<(), AllocError>;
@@ -236,7 +236,7 @@ impl<'t> Asking<'t> {
             return Ok(());
         };
         let is_whole = literal_steps(variable) == variable.indexes.len();
-        self.found.push(Asked {
+        self.found.push(UsedPath {
             path,
             position: self.position,
             want: if is_whole { want } else { Want::Present },
@@ -249,7 +249,7 @@ impl<'t> Asking<'t> {
         for index in &variable.indexes {
             if let Expression::Variable(inner) = index {
                 if let Some(path) = self.path_of(inner)? {
-                    self.found.push(Asked {
+                    self.found.push(UsedPath {
                         path,
                         position: self.position,
                         want: Want::Present,
