@@ -1,0 +1,15 @@
+use Rattle.std.proofs.Common.{string_bytes, ◌∙◌}
+use Rattle.liquid_model.specs.View.{view}
+use Rattle.liquid_core.specs.Held.{held}
+use Rattle.liquid_records.proofs.Over.{one_covered, one_there, put_and_back, stands_there}
+use Rattle.liquid_records.proofs.data.cover.Goals as goal
+
+pub returns-in-Ok-clause-back : goal.returns-in-Ok-clause-back
+returns-in-Ok-clause-back c =
+    one_covered (held c.args.«data».now) (held c.exchange.new.«data») c.args.covered.now.items c.push.new.self.items c.in_ok-kept.kept c.in_ok-before.before (string_bytes c.args.name) (view c.args.value)
+    (c.in_ok-kept.ensures.ok ∙ c.as_str.ensures.value) c.in_ok-before.ensures.before c.in_ok-before.ensures.put c.in-Ok.ensures.items
+
+pub returns-in-Ok-clause-there : goal.returns-in-Ok-clause-there
+returns-in-Ok-clause-there c =
+    one_there (held c.args.«data».now) (held c.exchange.new.«data») c.args.covered.now.items c.push.new.self.items c.in_ok-kept.kept c.in_ok-before.before (string_bytes c.args.name) (view c.args.value)
+    (c.in_ok-kept.ensures.ok ∙ c.as_str.ensures.value) c.in_ok-before.ensures.before c.in_ok-before.ensures.put c.in-Ok.ensures.items
