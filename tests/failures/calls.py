@@ -9,6 +9,7 @@ PAGE = {"t": LINES + "{% include 'foot' %}", "d": DATA, "parts/foot": "yours, {{
 RECORDS = "".join(f'{{"id": {n}, "name": "Name {n}"}}\n' for n in (1, 2, 3, 3, 4))
 SITE = {"site/data": DATA, "site/partials/foot": "yours, {{ name }}", "out/a": "old", "out/notes": "no page"}
 SITE |= {f"site/pages/{name}": f"{name}: {LINES}{{% include 'foot' %}}" for name in "abc"}
+SOUND = {"site/a": "a {{ name }}", "site/b": "b", "site/sub/c": "c", "d": DATA}
 BROKEN = {"site/a": "{% fro %}{{ b | upcas }}", "site/b": "{{", "site/c": "{% else if %}"}
 
 
@@ -47,6 +48,8 @@ CALLS = [
     Call("pages of a table", "bikleinu merge t r.csv -d d -p parts -o '{{ id }}'", {**PAGE, "r.csv": "id,name\n1,Ada\n2\n3,Cy\n"}, prints=False, merges=True),
     Call("names of files", "bikleinu merge t r -d d -p parts -o 'm/{{ id }}' --dry-run", {**PAGE, "r": RECORDS}, merges=True),
     Call("faults of a folder", "bikleinu check site -d d", {**BROKEN, "d": DATA}, passes_over=True),
+    Call("a folder without a fault", "bikleinu check site -d d", SOUND, passes_over=True),
+    Call("a folder within another, twice", "bikleinu check site -p site/sub", SOUND, passes_over=True),
     Call("faults as JSON", "bikleinu check site -p site --format json", BROKEN, passes_over=True),
     Call("paths", "bikleinu paths t -p parts", PAGE),
     Call("a schema", "bikleinu paths t -p parts --format json-schema", PAGE),

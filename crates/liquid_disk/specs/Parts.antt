@@ -1,8 +1,8 @@
 -- A file that is written beside its place before it takes it.
 --     part_path path      where that is
---     IsWritten path text old result new      what writing a file leaves
---     IsRenamed from to old result new      what giving a file another path leaves
---     IsAt path file new      a file stands at a path
+--     IsFileWritten path text old result new      what writing a file leaves
+--     IsFileRenamed from to old result new      what giving a file another path leaves
+--     HasFile path file new      a file stands at a path
 --     KeepsAllBut path part old new      no file changed but the one at the path and its part
 use Rattle.std.specs.Prelude.{◌≡◌, ◌++◌, bytes_eq, codes, false, Option, Some, None, Result, Ok}
 use Rattle.std.specs.Prelude.{Err}
@@ -13,19 +13,20 @@ abbrev pub part_path : Text → Text
 part_path path = path ++ codes ".bikleinu-part"
 
 -- the text is at the path, or, where that failed, anything; and all other files are as they were
-abbrev pub IsWritten : {U E : Type 0} → Text → Text → Files → Result U E → Option Files → Type 0
-IsWritten path text old (Ok u) new = new ≡ Some (with_file old path (holds text))
-IsWritten path text old (Err e) new = ChangesAt path old new
+abbrev pub IsFileWritten : {U E : Type 0} → Text → Text → Files → Result U E → Option Files → Type 0
+IsFileWritten path text old (Ok u) new = new ≡ Some (with_file old path (holds text))
+IsFileWritten path text old (Err e) new = ChangesAt path old new
 
 -- what stood at one path is at the other, and nothing at the one; or, where that failed, nothing
 -- changed
-abbrev pub IsRenamed : {U E : Type 0} → Text → Text → Files → Result U E → Option Files → Type 0
-IsRenamed from to old (Ok u) new = new ≡ Some (with_file (with_file old to (old from)) from gone)
-IsRenamed from to old (Err e) new = new ≡ Some old
+abbrev pub IsFileRenamed : {U E : Type 0} → Text → Text → Files → Result U E → Option Files → Type 0
+IsFileRenamed from to old (Ok u) new =
+    new ≡ Some (with_file (with_file old to (old from)) from gone)
+IsFileRenamed from to old (Err e) new = new ≡ Some old
 
-abbrev pub IsAt : Text → File → Option Files → Type 0
-IsAt path file None = ⊥
-IsAt path file (Some new) = new path ≡ file
+abbrev pub HasFile : Text → File → Option Files → Type 0
+HasFile path file None = ⊥
+HasFile path file (Some new) = new path ≡ file
 
 abbrev pub KeepsAllBut : Text → Text → Files → Option Files → Type 0
 KeepsAllBut path part old None = ⊥

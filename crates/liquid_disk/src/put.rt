@@ -1,7 +1,7 @@
 //! A file that is put in its place whole.
 ghost use Rattle.std.specs.Prelude.{◌≡◌, bytes_eq, false, IfOk, IfSome, OnErr, OnOk, string_bytes};
 ghost use Rattle.liquid_disk.specs.Files.{holds};
-ghost use Rattle.liquid_disk.specs.Parts.{IsAt, KeepsAllBut, part_path};
+ghost use Rattle.liquid_disk.specs.Parts.{HasFile, KeepsAllBut, part_path};
 
 use crate::system::{FileSystem, SystemFiles};
 use std::alloc::Global;
@@ -21,7 +21,7 @@ pub fn put_whole<S: FileSystem>(
     path: &str,
     text: &str,
 ) -> io::Result<()>
-    ensures whole { IfSome (S.files system.old) (λ f. OnOk result (IsAt path.now (holds text.now)
+    ensures whole { IfSome (S.files system.old) (λ f. OnOk result (HasFile path.now (holds text.now)
         (S.files system.new))) }
     ensures others { IfSome (S.files system.old) (λ f. KeepsAllBut path.now (part_path path.now) f
         (S.files system.new)) }
@@ -49,9 +49,9 @@ pub fn replace_file<S: FileSystem>(
     text: &str,
 ) -> io::Result<()>
     requires { bytes_eq part.now path.now ≡ false }
-    ensures whole { IfSome (S.files system.old) (λ f. OnOk result (IsAt path.now (holds text.now)
+    ensures whole { IfSome (S.files system.old) (λ f. OnOk result (HasFile path.now (holds text.now)
         (S.files system.new))) }
-    ensures stays { IfSome (S.files system.old) (λ f. OnErr result (IsAt path.now (f path.now)
+    ensures stays { IfSome (S.files system.old) (λ f. OnErr result (HasFile path.now (f path.now)
         (S.files system.new))) }
     ensures others { IfSome (S.files system.old) (λ f. KeepsAllBut path.now part.now f
         (S.files system.new)) }

@@ -1,7 +1,7 @@
 //! The files of the system.
 ghost use Rattle.std.specs.Prelude.{None, Option, IfSome};
 ghost use Rattle.liquid_disk.specs.Files.{ChangesAt, Files};
-ghost use Rattle.liquid_disk.specs.Parts.{IsRenamed, IsWritten};
+ghost use Rattle.liquid_disk.specs.Parts.{IsFileRenamed, IsFileWritten};
 
 use std::{fs, io};
 
@@ -16,12 +16,12 @@ pub trait FileSystem {
     /// Writes a text into the file at a path, in place of what it held. Where that fails, the file
     /// may hold anything. No other file changes.
     fn write(&mut self, path: &str, text: &str) -> io::Result<()>
-        ensures { IfSome (files self.old) (λ f. IsWritten path.now text.now f result
+        ensures { IfSome (files self.old) (λ f. IsFileWritten path.now text.now f result
             (files self.new)) };
 
     /// Gives a file another path, in place of what stood there. Where that fails, nothing changes.
     fn rename(&mut self, from: &str, to: &str) -> io::Result<()>
-        ensures { IfSome (files self.old) (λ f. IsRenamed from.now to.now f result
+        ensures { IfSome (files self.old) (λ f. IsFileRenamed from.now to.now f result
             (files self.new)) };
 
     /// Takes away the file at a path, if it can. No other file changes.

@@ -6,8 +6,8 @@ use crate::unreadable::Reason;
 use std::io;
 
 /// What the system says of a call that fails, as other tools write it. A kind that has no words of
-/// its own is an `Input/output error`, and memory that ran out is `out of memory`, as of a fault. It
-/// takes no memory.
+/// its own is an `Input/output error`, and memory that ran out is `out of memory`, as of a fault.
+/// It takes no memory.
 pub fn system_words(kind: io::ErrorKind) -> &'static str
     ensures { result.now ≡ system_words kind }
 {

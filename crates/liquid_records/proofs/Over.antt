@@ -37,7 +37,7 @@ there_more (c ∷ cs) name d m s t = (there_more cs name d m s t.0, subst (λ x.
 -- and at the last of them first
 pub there_last : (cs : Covered) (name : Text) (d : Option Datum) (m : Map Datum) → AreThere (cs ++ (name, d) ∷ []) m → IsSome (m name) × AreThere cs (with_value m name d)
 there_last [] name d m t = (t.1, tt)
-there_last (c ∷ cs) name d m t = let r = there_last cs name d m t.0 in (r.0, r.1, subst (λ x. IsSome (x c.0)) (uncovered_last cs name d m) t.1)
+there_last (c ∷ cs) name d m t = let r = there_last cs name d m t.0 in (r.0, (r.1, subst (λ x. IsSome (x c.0)) (uncovered_last cs name d m) t.1))
 
 -- what was put at a name stands there
 stands : (m : Map Datum) (name : Text) (d : Datum) → with_value m name (Some d) name ≡ Some d

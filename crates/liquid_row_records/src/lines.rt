@@ -1,7 +1,7 @@
 //! Records that are a line of JSON each.
 ghost use Rattle.std.specs.Char.{is_ascii_whitespace};
-ghost use Rattle.std.specs.List.{list_all};
-ghost use Rattle.std.specs.Prelude.{◌≡◌, ◌==◌, IfOk, IfSome, OnOk, false, not, true};
+ghost use Rattle.std.specs.List.{list_all, list_any};
+ghost use Rattle.std.specs.Prelude.{◌≡◌, ◌==◌, IfOk, IfSome, OnOk, false, true};
 ghost use Rattle.std.specs.Io.BufRead.{DropsThrough, take_through};
 ghost use Rattle.liquid_row_records.specs.Lines.{lines_left};
 
@@ -73,12 +73,12 @@ impl<R: Read + Drop> Lines<R> {
     /// Leaves out a line whose beginning was read, where there was no room for more.
     fn leave_out(&mut self, refused: io::Error) -> io::Result<usize>
         ensures left_out { OnOk result (self.new.is_left_out ≡ true) }
-        ensures whole { OnOk result
-            (list_all (λ b. not (b == 10)) self.old.line.items ≡ true) }
+        ensures no_end { OnOk result (list_any (λ b. b == 10) self.old.line.items ≡ false) }
         ensures rest { OnOk result (DropsThrough (lines_left R.remaining self.old)
             (lines_left R.remaining self.new) 10) }
     {
-        if refused.kind() != io::ErrorKind::OutOfMemory || has_end(self.line.as_slice()) {
+        let has_end = self.line.as_slice().contains(&b'\n');
+        if refused.kind() != io::ErrorKind::OutOfMemory || has_end {
             return Err(refused);
         }
         self.is_left_out = true;
@@ -107,11 +107,4 @@ fn is_blank(line: &[u8]) -> bool
     ensures { result ≡ list_all is_ascii_whitespace line.now }
 {
     line.iter().all(|byte| byte.is_ascii_whitespace())
-}
-
-/// Whether a line has its end.
-fn has_end(line: &[u8]) -> bool
-    ensures { result ≡ not (list_all (λ b. not (b == 10)) line.now) }
-{
-    !line.iter().all(|byte| *byte != b'\n')
 }

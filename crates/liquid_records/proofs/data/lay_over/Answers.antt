@@ -27,8 +27,8 @@ loop-name-preserved c =
       c.in-Ok.ensures.there l.invariant.4,
     )
 
-pub take_off : goal.take_off
-take_off c = same_there (held c.loop-name.«data») (held c.cover.new.«data») c.loop-name.covered.items c.cover.new.covered.items c.in-Err.ensures.same c.in-Err.ensures.untouched c.loop-name.invariant.4
+pub take_off-requires : goal.take_off-requires
+take_off-requires c = same_there (held c.loop-name.«data») (held c.cover.new.«data») c.loop-name.covered.items c.cover.new.covered.items c.in-Err.ensures.same c.in-Err.ensures.untouched c.loop-name.invariant.4
 
 pub returns-in-Err-clause-untouched : goal.returns-in-Err-clause-untouched
 returns-in-Err-clause-untouched c =
