@@ -56,7 +56,6 @@ impl Job {
     ///
     /// The answer is `Memory` where a growth was refused, and no other kind. The job is as it was,
     /// on every answer.
-    #[tactic(auto, using(crate::proofs::Making::made_with, crate::proofs::Making::same_job))]
     pub fn made(
         &mut self,
         alloc: Global,

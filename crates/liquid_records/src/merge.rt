@@ -59,7 +59,6 @@ impl Merge {
     ///
     /// It is `Memory` where a growth was refused, and no other kind; then no file changed, and the
     /// merge is as it was, so that the next record can be taken.
-    #[tactic(auto, using(crate::proofs::Stepping::step_of, crate::proofs::Stepping::leaves_of))]
     pub fn take<D: Disk>(
         &mut self,
         alloc: Global,
@@ -138,6 +137,7 @@ fn put_if_made<D: Disk>(
 }
 
 /// Writes a page into the file of its name, unless the name came before.
+#[tactic(auto, using(crate::proofs::Named::same_names))]
 fn put<D: Disk>(
     alloc: Global,
     number: usize,

@@ -5,11 +5,12 @@ use Rattle.std.specs.String.{string_cmp}
 use Rattle.liquid_model.proofs.Views.{Entry, put_last}
 use Rattle.liquid_core.specs.Held.{held}
 use Rattle.liquid_core.proofs.DataChanges.{none_set}
+use Rattle.liquid_records.specs.inside.Covered.{AreThere, covered_view}
 use Rattle.liquid_records.proofs.Over.{one_over, same_back, same_there}
 use Rattle.liquid_records.proofs.data.lay_over.Goals as goal
 
 pub loop-name-init : goal.loop-name-init
-loop-name-init c = ([], search rules, sym (none_set (held c.args.«data».now)), search rules, tt)
+loop-name-init c = ([], search rules, sym (none_set (held c.args.«data».now)), search rules, subst (λ es. AreThere (covered_view es) (held c.args.«data».now)) (sym c.new-covered.ensures.items) tt)
 
 pub loop-name-preserved : goal.loop-name-preserved
 loop-name-preserved c =
