@@ -9,5 +9,8 @@ use std::io;
 pub fn is_disk_full(kind: io::ErrorKind) -> bool
     ensures { result ≡ is_disk_full kind }
 {
-    matches!(kind, io::ErrorKind::StorageFull | io::ErrorKind::QuotaExceeded)
+    matches!(
+        kind,
+        io::ErrorKind::StorageFull | io::ErrorKind::QuotaExceeded
+    )
 }

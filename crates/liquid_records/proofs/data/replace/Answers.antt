@@ -16,5 +16,5 @@ returns-in-Ok c =
 pub returns-in-Err : goal.returns-in-Err
 returns-in-Err c =
     let none : held c.args.«data».now (string_bytes c.args.name) ≡ None =
-        held_at c.args.«data».now (string_bytes c.args.name) ∙ sym (view-lookup (string_bytes c.args.name) c.args.«data».now.entries) ∙ ap (option_map view) c.in-Err.ensures.absent in
+    held_at c.args.«data».now (string_bytes c.args.name) ∙ sym (view-lookup (string_bytes c.args.name) c.args.«data».now.entries) ∙ ap (option_map view) c.in-Err.ensures.absent in
     ap (λ b. cond b (with_value (held c.args.«data».now) (string_bytes c.args.name) (Some (view c.args.value))) (held c.insert.new.self)) (subst (λ o. IsSome o) none c.requires)
