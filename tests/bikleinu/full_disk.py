@@ -1,5 +1,5 @@
 """Merges where files can't grow, and onto a disk that is full: a page that doesn't fit leaves no part. Each record whose file would be
-too large is told, a full disk ends the merge by one line, and `--from` goes on."""
+too large is reported, a full disk ends the merge by one line, and `--from` goes on."""
 import os
 import resource
 import subprocess

@@ -23,7 +23,7 @@ pub fn tell_round(
     let faultless = tell_faults(rt, site, folder)?;
     match written {
         Ok(written) => {
-            tell_counts(rt, rendered, written)?;
+            print_counts(rt, rendered, written)?;
             Ok(faultless && refusals.is_empty())
         }
         Err(fault) => match fault.kind {
@@ -37,7 +37,7 @@ pub fn tell_round(
 }
 
 /// Prints how many pages were rendered and written.
-fn tell_counts(rt: &HostRuntime, rendered: u64, written: u64) -> Result<(), FolderStop> {
+fn print_counts(rt: &HostRuntime, rendered: u64, written: u64) -> Result<(), FolderStop> {
     match println!(rt; "rendered {rendered}, written {written}") {
         Ok(()) => Ok(()),
         Err(refused) => Err(FolderStop::Output(refused.kind())),
