@@ -1,6 +1,6 @@
 -- What a page, or the page of a pattern, makes of a record.
 use Rattle.std.specs.Prelude.{◌≡◌, Option, Some, Result, Ok, Err}
-use mathlib.Core.Path.{sym, ap, subst, ◌∙◌}
+use mathlib.Core.Path.{ap, subst, ◌∙◌}
 use Rattle.liquid_model.specs.Data.{Datum, Pairs}
 use Rattle.liquid_model.specs.Maps.{Map, merged}
 use Rattle.liquid_model.specs.Texts.{Text}
