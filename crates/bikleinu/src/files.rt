@@ -1,5 +1,5 @@
 //! The files of pages.
-use liquid_command_files::put_file;
+use liquid_disk::put_file;
 use liquid_records::{Disk, DiskFault};
 use std::{fs, io};
 

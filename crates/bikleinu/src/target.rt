@@ -2,6 +2,7 @@
 use crate::files::{Files, Nowhere};
 use crate::report::Report;
 use liquid_command_files::{Stop, print_text};
+use liquid_core::Result as Answer;
 use liquid_records::{Disk, Fate, Job, Made, Merge, RecordResult};
 use liquid_row_records::RecordData;
 use std::alloc::Global;
@@ -30,32 +31,24 @@ impl<'r> Target<'r> {
         }
     }
 
-    /// Takes one record: whether its page is there, or why not.
+    /// Takes one record: whether its page is there, or why not. Standard output that can't be
+    /// written ends the merge.
     pub fn take(
-        self,
+        &mut self,
         rt: &HostRuntime,
         separator: &str,
         number: usize,
         data: RecordData<'_>,
-    ) -> Result<(Target<'r>, RecordOutcome), Stop> {
+    ) -> Result<RecordOutcome, Stop> {
         match self {
             Target::Files(merge, files) => {
-                let mut files = files;
-                let (merge, fate) = merged(rt.alloc(), merge, number, data, &mut files)?;
-                let taken = file_outcome(fate, &files);
-                Ok((Target::Files(merge, files), taken))
+                let fate = merged(rt.alloc(), merge, number, data, files);
+                Ok(file_outcome(fate, files))
             }
             Target::Names(merge) => {
-                let (merge, fate) = merged(rt.alloc(), merge, number, data, &mut Nowhere)?;
-                Ok((Target::Names(merge), print_name(rt, fate)?))
+                print_name(rt, merged(rt.alloc(), merge, number, data, &mut Nowhere))
             }
-            Target::Output(job) => {
-                let (job, outcome) = match data {
-                    RecordData::Text(text) => job.make_page_of_json(rt.alloc(), text, None)?,
-                    RecordData::Data(data) => job.make_page(rt.alloc(), data, None)?,
-                };
-                Ok((Target::Output(job), printed(rt, separator, outcome)?))
-            }
+            Target::Output(job) => printed(rt, separator, made(rt.alloc(), job, data)),
         }
     }
 }
@@ -63,34 +56,44 @@ impl<'r> Target<'r> {
 /// A record that a merge takes.
 fn merged<D: Disk>(
     alloc: Global,
-    merge: Merge,
+    merge: &mut Merge,
     number: usize,
     data: RecordData<'_>,
     disk: &mut D,
-) -> Result<(Merge, Fate), Stop> {
+) -> Answer<Fate> {
     match data {
-        RecordData::Text(text) => Ok(merge.take_json(alloc, number, text, disk)?),
-        RecordData::Data(data) => Ok(merge.take(alloc, number, data, disk)?),
+        RecordData::Text(text) => merge.take_json(alloc, number, text, disk),
+        RecordData::Data(data) => merge.take(alloc, number, data, disk),
+    }
+}
+
+/// A record whose page goes into no file.
+fn made(alloc: Global, job: &mut Job, data: RecordData<'_>) -> Answer<RecordResult<Made>> {
+    match data {
+        RecordData::Text(text) => job.make_page_of_json(alloc, text, None),
+        RecordData::Data(data) => job.make_page(alloc, data, None),
     }
 }
 
 /// A record whose page was to go into a file.
-fn file_outcome(fate: Fate, files: &Files<'_>) -> RecordOutcome {
+fn file_outcome(fate: Answer<Fate>, files: &Files<'_>) -> RecordOutcome {
     match fate {
-        Ok(_) => Ok(()),
-        Err(failure) => Err(Report::NoFile(failure, files.reason())),
+        Ok(Ok(_)) => Ok(()),
+        Ok(Err(failure)) => Err(Report::NoFile(failure, files.reason())),
+        Err(fault) => Err(Report::Fault(fault)),
     }
 }
 
 /// A record whose file's name is printed.
-fn print_name(rt: &HostRuntime, fate: Fate) -> Result<RecordOutcome, Stop> {
+fn print_name(rt: &HostRuntime, fate: Answer<Fate>) -> Result<RecordOutcome, Stop> {
     match fate {
-        Ok(name) => {
+        Ok(Ok(name)) => {
             print_text(rt, name.as_str())?;
             print_text(rt, "\n")?;
             Ok(Ok(()))
         }
-        Err(failure) => Ok(Err(Report::NoFile(failure, None))),
+        Ok(Err(failure)) => Ok(Err(Report::NoFile(failure, None))),
+        Err(fault) => Ok(Err(Report::Fault(fault))),
     }
 }
 
@@ -98,14 +101,15 @@ fn print_name(rt: &HostRuntime, fate: Fate) -> Result<RecordOutcome, Stop> {
 fn printed(
     rt: &HostRuntime,
     separator: &str,
-    outcome: RecordResult<Made>,
+    outcome: Answer<RecordResult<Made>>,
 ) -> Result<RecordOutcome, Stop> {
     match outcome {
-        Ok(Made { name: _, text }) => {
+        Ok(Ok(Made { name: _, text })) => {
             print_text(rt, text.as_str())?;
             print_text(rt, separator)?;
             Ok(Ok(()))
         }
-        Err(why) => Ok(Err(Report::NoPage(why))),
+        Ok(Err(why)) => Ok(Err(Report::NoPage(why))),
+        Err(fault) => Ok(Err(Report::Fault(fault))),
     }
 }

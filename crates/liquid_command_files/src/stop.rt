@@ -4,7 +4,7 @@ ghost use Rattle.liquid_command_files.specs.Stops.{status_of};
 
 use liquid_commands::{Gap, WordFault};
 use liquid_core::Error;
-use liquid_excerpts::{Reason, ShownPath, reason_words, system_words};
+use liquid_excerpts::{Reason, ShownFault, ShownPath, reason_words, system_words};
 use std::alloc::{AllocError, AllocFailed, Global};
 use std::{fmt, io};
 
@@ -120,7 +120,10 @@ impl fmt::Display for Stop {
         match self {
             Stop::Refused | Stop::Faulted => Ok(()),
             Stop::Usage(message) => f.write_str(message),
-            Stop::Fault(fault) => write!(f, "{fault}"),
+            Stop::Fault(fault) => {
+                let fault = ShownFault { fault };
+                write!(f, "{fault}")
+            }
             Stop::Lacking(option, word, gap) => {
                 let word = ShownWord {
                     word: word.as_str(),

@@ -1,3 +1,4 @@
 -- What the public contracts of this crate cite.
+pub mod Faults
 pub mod Paths
 pub mod SystemWords

@@ -2,7 +2,7 @@
 use Rattle.std.specs.Prelude.{ℕ}
 use Rattle.liquid_folder.specs.declared.stop.FolderStop.{FolderStop}
 use Rattle.liquid_folder.specs.declared.stop.FolderStop.TheVariants.{Usage, Missing, Inside}
-use Rattle.liquid_folder.specs.declared.stop.FolderStop.TheVariants.{Unreadable, Fault, Streams}
+use Rattle.liquid_folder.specs.declared.stop.FolderStop.TheVariants.{Unreadable, Fault, Input, Output}
 
 abbrev pub folder_stop_status : FolderStop → ℕ
 folder_stop_status Usage = 2
@@ -10,4 +10,5 @@ folder_stop_status (Missing path) = 1
 folder_stop_status (Unreadable path reason) = 1
 folder_stop_status (Inside path) = 1
 folder_stop_status (Fault e) = 1
-folder_stop_status (Streams e) = 1
+folder_stop_status (Input kind) = 1
+folder_stop_status (Output kind) = 1

@@ -57,7 +57,8 @@ impl<'r> Rounds<'r> {
 
     /// What a line of standard input asks for: a round where it is empty, or to look at the file of
     /// this path in the next one. Whether it names a file of the site, and what `one_round` answers
-    /// of a round. A file that is left out is passed over without a word.
+    /// of a round. A file that is left out is passed over without a word. What standard error
+    /// refuses is lost.
     pub fn take_line(&mut self, line: &str) -> Result<bool, FolderStop> {
         match line_of(self.rt.alloc(), self.folder, line)? {
             Line::Round => self.one_round(),
@@ -69,7 +70,7 @@ impl<'r> Rounds<'r> {
             Line::LeftOut => Ok(true),
             Line::NoFile => {
                 let text = line;
-                eprintln!(self.rt; "error: no file of the site: {}", Quoted { text })?;
+                let _ = eprintln!(self.rt; "error: no file of the site: {}", Quoted { text });
                 Ok(false)
             }
         }

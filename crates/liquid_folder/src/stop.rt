@@ -3,7 +3,7 @@ ghost use Rattle.std.specs.Prelude.{◌≡◌};
 ghost use Rattle.liquid_folder.specs.Stops.{folder_stop_status};
 
 use liquid_core::Error;
-use liquid_excerpts::{Reason, ShownPath};
+use liquid_excerpts::{Reason, ShownFault, ShownPath, system_words};
 use std::alloc::{AllocError, AllocFailed, Global};
 use std::{fmt, io};
 
@@ -20,8 +20,10 @@ pub enum FolderStop {
     Inside(String),
     /// The data has a fault, or memory ran out.
     Fault(Error),
-    /// Standard input, output or error failed.
-    Streams(io::Error),
+    /// Standard input can't be read.
+    Input(io::ErrorKind),
+    /// Standard output can't be written.
+    Output(io::ErrorKind),
 }
 
 impl FolderStop {
@@ -30,6 +32,22 @@ impl FolderStop {
         match String::from_str(alloc, path) {
             Ok(path) => FolderStop::Unreadable(path, reason),
             Err(refused) => FolderStop::from(refused),
+        }
+    }
+
+    /// A folder that the system refuses to read, for this kind of reason.
+    pub fn unreadable_by(alloc: Global, path: &str, kind: io::ErrorKind) -> FolderStop {
+        match kind {
+            io::ErrorKind::OutOfMemory => FolderStop::from(AllocError),
+            kind => FolderStop::unreadable(alloc, path, Some(Reason::from(kind))),
+        }
+    }
+
+    /// Standard input that can't be read, for this kind of reason.
+    pub fn input(kind: io::ErrorKind) -> FolderStop {
+        match kind {
+            io::ErrorKind::OutOfMemory => FolderStop::from(AllocError),
+            kind => FolderStop::Input(kind),
         }
     }
 
@@ -59,7 +77,8 @@ impl FolderStop {
             | FolderStop::Unreadable(_, _)
             | FolderStop::Inside(_)
             | FolderStop::Fault(_)
-            | FolderStop::Streams(_) => 1,
+            | FolderStop::Input(_)
+            | FolderStop::Output(_) => 1,
         }
     }
 }
@@ -94,8 +113,18 @@ impl fmt::Display for FolderStop {
                     "error: OUT lies in {path}, where templates are; name another folder"
                 )
             }
-            FolderStop::Fault(fault) => write!(f, "error: {fault}"),
-            FolderStop::Streams(fault) => write!(f, "error: {fault}"),
+            FolderStop::Fault(fault) => {
+                let fault = ShownFault { fault };
+                write!(f, "error: {fault}")
+            }
+            FolderStop::Input(kind) => {
+                let words = system_words(*kind);
+                write!(f, "error: standard input: {words}")
+            }
+            FolderStop::Output(kind) => {
+                let words = system_words(*kind);
+                write!(f, "error: standard output: {words}")
+            }
         }
     }
 }
@@ -103,12 +132,6 @@ impl fmt::Display for FolderStop {
 impl From<Error> for FolderStop {
     fn from(fault: Error) -> FolderStop {
         FolderStop::Fault(fault)
-    }
-}
-
-impl From<io::Error> for FolderStop {
-    fn from(fault: io::Error) -> FolderStop {
-        FolderStop::Streams(fault)
     }
 }
 
