@@ -67,7 +67,8 @@ impl Merge {
         disk: &mut D,
     ) -> Result<Fate>
         ensures step { IfOk result
-            (λ fate. IsRecordStep number (record_outcome (job_of self.old) (Some (pattern_of self.old))
+            (λ fate. IsRecordStep number
+            (record_outcome (job_of self.old) (Some (pattern_of self.old))
             (Ok (pairs_view «data».entries)))
             (merge_names self.old) (fate_view fate) (merge_names self.new)) }
         ensures files { IfSome (D.files disk.old) (λ f. IfOk result (λ fate.
@@ -92,11 +93,12 @@ impl Merge {
         disk: &mut D,
     ) -> Result<Fate>
         ensures step { IfOk result
-            (λ fate. IsRecordStep number (record_outcome (job_of self.old) (Some (pattern_of self.old))
-            (data_of text.now))
+            (λ fate. IsRecordStep number
+            (record_outcome (job_of self.old) (Some (pattern_of self.old)) (data_of text.now))
             (merge_names self.old) (fate_view fate) (merge_names self.new)) }
         ensures files { IfSome (D.files disk.old) (λ f. IfOk result (λ fate.
-            Leaves (record_outcome (job_of self.old) (Some (pattern_of self.old)) (data_of text.now))
+            Leaves
+            (record_outcome (job_of self.old) (Some (pattern_of self.old)) (data_of text.now))
             (fate_view fate) f (D.files disk.new))) }
         ensures job { job_of self.new ≡ job_of self.old }
         ensures pattern { pattern_of self.new ≡ pattern_of self.old }

@@ -4,7 +4,7 @@ use Rattle.liquid_model.specs.View.{pairs_view}
 use Rattle.liquid_core.specs.Held.{held}
 use Rattle.liquid_records.specs.Views.{job_view, made_view, outcome_view, pattern_view}
 use Rattle.liquid_records.proofs.Making.{made_with, same_job}
-use Rattle.liquid_records.proofs.job.Job.made.Goals as goal
+use Rattle.liquid_records.proofs.job.Job.make_page.Goals as goal
 
 pub returns-clause-made : goal.returns-clause-made
 returns-clause-made c =
