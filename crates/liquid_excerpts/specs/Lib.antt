@@ -1,3 +1,4 @@
 -- What the public contracts of this crate cite.
+pub mod Lines
 pub mod Paths
 pub mod SystemWords
