@@ -2,7 +2,8 @@
 use Rattle.std.specs.Prelude.{ℕ}
 use Rattle.liquid_folder.specs.declared.stop.FolderStop.{FolderStop}
 use Rattle.liquid_folder.specs.declared.stop.FolderStop.TheVariants.{Usage, Missing, Inside}
-use Rattle.liquid_folder.specs.declared.stop.FolderStop.TheVariants.{Unreadable, Fault, Input, Output}
+use Rattle.liquid_folder.specs.declared.stop.FolderStop.TheVariants.{Unreadable, Fault, Input}
+use Rattle.liquid_folder.specs.declared.stop.FolderStop.TheVariants.{Output}
 
 abbrev pub folder_stop_status : FolderStop → ℕ
 folder_stop_status Usage = 2
