@@ -1,5 +1,5 @@
 -- Values that are alike: with themselves, in what a use includes, member by member and item by item.
-use Rattle.std.specs.Prelude.{◌≡◌, ℕ, zero, suc, ◌≤◌, max, nat_le, take, Bool, true, false, cond, ◌&&◌, T, length, List, [], ◌∷◌, Option, Some, None}
+use Rattle.std.specs.Prelude.{◌≡◌, ℕ, zero, suc, ◌≤◌, nat_le, take, Bool, true, false, cond, ◌&&◌, T, length, List, [], ◌∷◌, Option, Some, None}
 use mathlib.Core.Path.{refl, ap, subst}
 use native.Mathlib.Omega.{arith}
 use Rattle.std.proofs.Math.Facts.{leb_yes, yes_leb}

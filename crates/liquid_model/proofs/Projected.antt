@@ -212,6 +212,11 @@ of_list members uncounted ds all = at (asks_of_list members) refl
     at true e = array_alike members uncounted ds _ (all (items_wanted (parts members uncounted)))
     at false e = (refl, (fields_unseen ds _ members e, tt))
 
+over_map : (ps : Pairs) (turns : ItemUse) (members : Fields) → ((n : Option ℕ) (u : Use) → AlikeLists u (pair_lists ps) (pair_lists (projected_pairs (pairs_wanted members (up_to n u)) true ps)))
+    → AlikeItems turns (Some (object ps)) (Some (object (projected_pairs (pairs_wanted members turns) (has_every turns || asks_length members) ps)))
+over_map ps uncounted members each = tt
+over_map ps (up_to n u) members each = up_to_all _ n (pair_lists ps) (pair_lists (projected_pairs (pairs_wanted members (up_to n u)) true ps)) (each n u)
+
 of_map : (members : Fields) (turns : ItemUse) (ps : Pairs) → ((key : Text) → Alike (pairs_wanted members turns key) (value_at key ps) (value_at key (projected_pairs (pairs_wanted members turns) (has_every turns || asks_length members) ps)))
     → AlikeItems turns (Some (object ps)) (Some (object (projected_pairs (pairs_wanted members turns) (has_every turns || asks_length members) ps)))
     → Alike (parts members turns) (Some (object ps)) (Some (object (projected_pairs (pairs_wanted members turns) (has_every turns || asks_length members) ps)))
@@ -246,7 +251,7 @@ mutual
   alike_projected (object ps) everything = refl
   alike_projected (object ps) (parts members turns) = of_map members turns ps
       (λ key. pairs_projected ps (pairs_wanted members turns) (has_every turns || asks_length members) key)
-      (over_projected ps turns members)
+      (over_map ps turns members (λ n u. each_projected ps n u members))
 
   list_projected : (ds : Items) (u : Use) → AlikeLists u (list_of ds) (list_of (projected_items u true ds))
   list_projected no_items u = tt
@@ -255,10 +260,6 @@ mutual
   pub pairs_projected : (ps : Pairs) (W : Text → Use) (keep : Bool) (key : Text) → Alike (W key) (value_at key ps) (value_at key (projected_pairs W keep ps))
   pairs_projected no_pairs W keep key = alike_same (W key) None
   pairs_projected (pair l d ps) W keep key = key_alike W keep l d ps key (alike_projected d (W l)) (pairs_projected ps W keep key)
-
-  over_projected : (ps : Pairs) (turns : ItemUse) (members : Fields) → AlikeItems turns (Some (object ps)) (Some (object (projected_pairs (pairs_wanted members turns) (has_every turns || asks_length members) ps)))
-  over_projected ps uncounted members = tt
-  over_projected ps (up_to n u) members = up_to_all _ n (pair_lists ps) (pair_lists (projected_pairs (pairs_wanted members (up_to n u)) true ps)) (each_projected ps n u members)
 
   each_projected : (ps : Pairs) (n : Option ℕ) (u : Use) (members : Fields) → AlikeLists u (pair_lists ps) (pair_lists (projected_pairs (pairs_wanted members (up_to n u)) true ps))
   each_projected no_pairs n u members = tt

@@ -1,7 +1,7 @@
 -- The uses that the types `Use` and `Uses` stand for.
 --     use_view u      the use;   members_view es      the uses of names as fields;   uses_view m
 --                     as a function of the name
-use Rattle.std.specs.Prelude.{List, [], ◌∷◌, map, Option, Some, None, Box, String, string_bytes}
+use Rattle.std.specs.Prelude.{List, [], ◌∷◌, map, Option, Some, None, String, string_bytes}
 use Rattle.std.specs.declared.alloc.Global.{Global}
 use Rattle.std.specs.BTreeMap.{BTreeMap}
 use Rattle.liquid_model.specs.Texts.{Text}
