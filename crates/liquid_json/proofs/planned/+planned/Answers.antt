@@ -168,8 +168,8 @@ first_items-items-init t c = (
   omega arith,
 )
 
-pub first_items-items-preserved-then-len-lt-limit : goal.first_items-items-preserved-then-len-lt-limit
-first_items-items-preserved-then-len-lt-limit t c =
+pub first_items-items-preserved-in-Continue-branch-2 : goal.first_items-items-preserved-in-Continue-branch-2
+first_items-items-preserved-in-Continue-branch-2 t c =
     let p = value c.args.depth in
     let l = c.items in
     let n = l.invariant.0 in
