@@ -5,7 +5,7 @@ use crate::demands::Demands;
 use crate::merge::joined;
 use crate::place_pairs::{is_place, is_plain};
 use crate::properties::property_name;
-use liquid_core::{Expression, Use, Uses};
+use liquid_core::{Expression, ItemUse, Use, Uses};
 use liquid_evaluation::{ChainFilter, StoredFilter};
 use liquid_filters::FilterKind;
 use std::alloc::{AllocError, Global};
@@ -119,7 +119,7 @@ fn before_order(demands: &mut Demands<'_>, arguments: &[Expression], item: Use) 
     match demands.handed_on(&each)? {
         Use::Parts { members, items: _ } => Ok(Use::Parts {
             members,
-            items: Some(Box::new(alloc, each)?),
+            items: Some(every(alloc, each)?),
         }),
         _ => Ok(Use::Everything),
     }
@@ -132,7 +132,7 @@ fn item_need(alloc: Global, asked: Use) -> Needed {
         Use::Everything => Ok(Use::Everything),
         Use::Parts { members, items } => {
             let mut item = match items {
-                Some(each) => Box::into_inner(each),
+                Some(item) => Box::into_inner(item.each),
                 None => Use::Nothing,
             };
             for (key, asked) in members {
@@ -160,7 +160,14 @@ fn present(alloc: Global, asked: Use) -> Use {
 fn of_each(alloc: Global, asked: Use) -> Needed {
     Ok(Use::Parts {
         members: BTreeMap::new(alloc),
-        items: Some(Box::new(alloc, asked)?),
+        items: Some(every(alloc, asked)?),
+    })
+}
+
+fn every(alloc: Global, asked: Use) -> Result<ItemUse, AllocError> {
+    Ok(ItemUse {
+        limit: None,
+        each: Box::new(alloc, asked)?,
     })
 }
 

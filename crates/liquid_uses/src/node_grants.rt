@@ -13,6 +13,7 @@ use crate::grants::{
     all_whole, assigned, bindings_granted, bindings_whole, condition_granted, grants_output,
     grants_whole_value, optional_whole, present, source_granted, window_granted,
 };
+use crate::windows::seen_limit;
 use liquid_core::{Expression, Use, Uses, member_of};
 use liquid_syntax::{Binding, Each, For, Node, TableRow};
 
@@ -83,7 +84,12 @@ fn for_granted(uses: &Uses, head: &For) -> bool
     ensures { result ≡ true → for_grants (uses_view uses.now) head.now ≡ true }
 {
     is_whole_or_unasked(uses, "forloop")
-        && source_granted(uses, head.variable.as_str(), &head.source)
+        && source_granted(
+            uses,
+            head.variable.as_str(),
+            seen_limit(&head.window),
+            &head.source,
+        )
         && window_granted(uses, &head.window)
 }
 
@@ -91,8 +97,12 @@ fn for_granted(uses: &Uses, head: &For) -> bool
 fn row_granted(uses: &Uses, head: &TableRow) -> bool
     ensures { result ≡ true → row_grants (uses_view uses.now) head.now ≡ true }
 {
-    source_granted(uses, head.variable.as_str(), &head.source)
-        && optional_whole(uses, &head.cols)
+    source_granted(
+        uses,
+        head.variable.as_str(),
+        seen_limit(&head.window),
+        &head.source,
+    ) && optional_whole(uses, &head.cols)
         && window_granted(uses, &head.window)
 }
 
@@ -112,6 +122,6 @@ fn each_granted(uses: &Uses, name: &Expression, each: &Each, pairs: &[Binding]) 
         (each_view each.now) (bindings_view pairs.now) ≡ true }
 {
     grants_whole_value(uses, name)
-        && source_granted(uses, each.variable.as_str(), &each.source)
+        && source_granted(uses, each.variable.as_str(), None, &each.source)
         && bindings_granted(uses, pairs)
 }
