@@ -6,7 +6,7 @@ ghost use Rattle.liquid_model.specs.UseViews.{use_view, members_view, turns_view
 ghost use Rattle.liquid_json.specs.Asked.{IsAlikeData};
 ghost use Rattle.liquid_json.specs.Json.{data_of};
 ghost use Rattle.liquid_json.specs.PlainUses.{is_plain_use, plain_fields, plain_turns};
-ghost use Rattle.liquid_json.specs.inside.Planned.{IsPlanned, AreFirst, ArePlanned, PairsPlanned};
+ghost use Rattle.liquid_json.specs.inside.Planned.{IsPlanned, AreFirstItems, ArePlanned, PairsPlanned};
 
 use crate::skip::{skip_items, skipped};
 use crate::tokens::{MAX_DEPTH, NoData, read, read_pairs};
@@ -191,7 +191,7 @@ fn asked_items(
     asked: &ItemUse,
 ) -> Result<Vec<Value>, NoData>
     requires plain { IsTrue (is_plain_use (use_view asked.now.each.value)) }
-    ensures ok { IfOk result (λ v. AreFirst asked.now.limit (use_view asked.now.each.value) depth
+    ensures ok { IfOk result (λ v. AreFirstItems asked.now.limit (use_view asked.now.each.value) depth
         reader.old (items_view v.items) reader.new) }
     ensures shorter { OnOk result (length reader.new < length reader.old) }
 {
@@ -243,7 +243,7 @@ fn first_items(
     asked: &Use,
 ) -> Result<Vec<Value>, NoData>
     requires plain { IsTrue (is_plain_use (use_view asked.now)) }
-    ensures ok { IfOk result (λ v. AreFirst (Some limit) (use_view asked.now) depth reader.old
+    ensures ok { IfOk result (λ v. AreFirstItems (Some limit) (use_view asked.now) depth reader.old
         (items_view v.items) reader.new) }
     ensures shorter { OnOk result (length reader.new < length reader.old) }
 {

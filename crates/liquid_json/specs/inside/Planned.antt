@@ -19,8 +19,8 @@ ArePlanned u depth ts ds rest = (cs : Items) × (list_items_at depth (length ts)
     Pairwise (λ c d. Alike u (Some c) (Some d)) (list_of cs) (list_of ds)
 
 -- the same of the first n items, or of all
-abbrev pub AreFirst : Option ℕ → Use → ℕ → List Token → Items → List Token → Type 0
-AreFirst n u depth ts ds rest = (cs : Items) × (list_items_at depth (length ts) ts ≡
+abbrev pub AreFirstItems : Option ℕ → Use → ℕ → List Token → Items → List Token → Type 0
+AreFirstItems n u depth ts ds rest = (cs : Items) × (list_items_at depth (length ts) ts ≡
     Some (cs, rest)) ×
     PairwiseUpTo n (λ c d. Alike u (Some c) (Some d)) (list_of cs) (list_of ds)
 

@@ -11,7 +11,7 @@ use Rattle.liquid_model.specs.View.{view, items_view, pairs_view}
 use Rattle.liquid_model.specs.declared.value.Value.{Text, Integer, Bool, Nil, Array, Object, the_lemmas}
 use Rattle.liquid_model.specs.Find.{value_at}
 use Rattle.liquid_model.specs.Skipping.{AlikeKeys}
-use Rattle.liquid_json.specs.inside.Planned.{IsPlanned, AreFirst}
+use Rattle.liquid_json.specs.inside.Planned.{IsPlanned, AreFirstItems}
 use Rattle.liquid_model.proofs.UseViews.{view-Parts}
 use Rattle.liquid_model.proofs.Views.{view-Array, view-Object, pairs_view-insert_entry}
 use Rattle.liquid_model.specs.Uses.{parts, uncounted, up_to, Alike}
@@ -94,15 +94,15 @@ pub asked_items-returns-in_ok-all-in-None-clause-ok : goal.asked_items-returns-i
 asked_items-returns-in_ok-all-in-None-clause-ok t c =
     let same : c.deref.result.now ≡ c.args.asked.now.each.value = search rules in
     let done = c.in_ok-all-in-None in
-    subst (λ n. AreFirst n (use_view c.args.asked.now.each.value) c.args.depth c.args.reader.now (items_view done.all.items) c.planned_items.new.reader) (sym c.in-None.is)
-    (subst (λ u. AreFirst None (use_view u) c.args.depth c.args.reader.now (items_view done.all.items) c.planned_items.new.reader) same done.ensures.ok)
+    subst (λ n. AreFirstItems n (use_view c.args.asked.now.each.value) c.args.depth c.args.reader.now (items_view done.all.items) c.planned_items.new.reader) (sym c.in-None.is)
+    (subst (λ u. AreFirstItems None (use_view u) c.args.depth c.args.reader.now (items_view done.all.items) c.planned_items.new.reader) same done.ensures.ok)
 
 pub asked_items-returns-in_ok-first-in-Some-clause-ok : goal.asked_items-returns-in_ok-first-in-Some-clause-ok
 asked_items-returns-in_ok-first-in-Some-clause-ok t c =
     let same : c.deref-in-Some.result.now ≡ c.args.asked.now.each.value = search rules in
     let done = c.in_ok-first-in-Some in
-    subst (λ n. AreFirst n (use_view c.args.asked.now.each.value) c.args.depth c.args.reader.now (items_view done.first.items) c.first_items.new.reader) (sym c.in-Some.is)
-    (subst (λ u. AreFirst (Some c.in-Some.limit) (use_view u) c.args.depth c.args.reader.now (items_view done.first.items) c.first_items.new.reader) same done.ensures.ok)
+    subst (λ n. AreFirstItems n (use_view c.args.asked.now.each.value) c.args.depth c.args.reader.now (items_view done.first.items) c.first_items.new.reader) (sym c.in-Some.is)
+    (subst (λ u. AreFirstItems (Some c.in-Some.limit) (use_view u) c.args.depth c.args.reader.now (items_view done.first.items) c.first_items.new.reader) same done.ensures.ok)
 
 pub read_parts-returns-in_ok-planned_pairs-in-None-items-2-clause-ok : goal.read_parts-returns-in_ok-planned_pairs-in-None-items-2-clause-ok
 read_parts-returns-in_ok-planned_pairs-in-None-items-2-clause-ok t c =
