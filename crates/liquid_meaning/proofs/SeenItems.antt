@@ -134,11 +134,11 @@ window_cut ds limit offset k l skips wants reversed = ap (λ xs. cond reversed (
         ∙ (window_within ds (k + l) (min k (length ds)) (min l (length ds)) (omega arith)
         ∙ sym (ap₂ (items_in_window ds) (skips (length ds)) (wants (length ds) (skipped (length ds) offset))))
 
-of_ok : {A : Type 0} → A → Result A ErrorKind → A
+abbrev of_ok : {A : Type 0} → A → Result A ErrorKind → A
 of_ok z (Ok a) = a
 of_ok z (Err kind) = z
 
-of_some : ℕ → Option ℕ → ℕ
+abbrev of_some : ℕ → Option ℕ → ℕ
 of_some z None = z
 of_some z (Some n) = n
 
