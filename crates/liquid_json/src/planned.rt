@@ -191,7 +191,8 @@ fn asked_items(
     asked: &ItemUse,
 ) -> Result<Vec<Value>, NoData>
     requires plain { IsTrue (is_plain_use (use_view asked.now.each.value)) }
-    ensures ok { IfOk result (λ v. AreFirstItems asked.now.limit (use_view asked.now.each.value) depth
+    ensures ok { IfOk result (λ v.
+        AreFirstItems asked.now.limit (use_view asked.now.each.value) depth
         reader.old (items_view v.items) reader.new) }
     ensures shorter { OnOk result (length reader.new < length reader.old) }
 {
