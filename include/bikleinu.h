@@ -7,7 +7,7 @@
  *   - bikleinu_free frees what a handle holds. Then the handle holds nothing again, and can be used again.
  *   - A handle isn't copied: two copies would both own what is behind them. Pass it by its address.
  *
- * Most calls answer a number: 0 where all is well, and else a kind below. Whatever is told besides is read behind the handle
+ * Most calls answer a number: 0 where all is well, and else a kind below. Whatever else it reports is read behind the handle
  * that the call made: after a kind of a template, of its source or of the data that handle holds the fault, with its message
  * and its place. A page that ends by a fault holds both, the text up to the fault and the fault. After BIKLEINU_MEMORY a handle
  * may hold nothing; all else is as it was, and the same call can be tried again.
@@ -181,7 +181,7 @@ uint32_t bikleinu_data_for(const uint8_t *json, size_t length, bikleinu_handle *
  *
  * No code of the caller's runs while a page is rendered. The answers of its filters stand in a table: each is the answer to one call,
  * which is the filter's name, the input and the arguments. Where a run needs an answer that the table lacks, there is no page; the
- * caller is told the calls, puts the answers into the table and renders again. A table is kept for further pages, which mostly need no
+ * caller reads the calls, puts the answers into the table and renders again. A table is kept for further pages, which mostly need no
  * second run. So a filter is to be a function of its input and arguments: it isn't asked again what the table has. */
 
 /* Makes a table without filters and answers. */
@@ -194,8 +194,8 @@ uint32_t bikleinu_answers_filter(bikleinu_handle *answers, const uint8_t *name, 
 /* Renders as bikleinu_render_within, with the filters of a table. Where the answer is BIKLEINU_LACKING, page holds calls that the table
  * lacks: at least one, at most BIKLEINU_CALLS, and each once. Each is to be answered (below), and then the same call made again.
  *
- * The run that finds them goes on after the first with nil in its place. So a call may be told that only this nil led to: it is
- * answered as any other. A filter over the answer of another is told a round later. As BIKLEINU_TEXT all the calls but the last have at
+ * The run that finds them goes on after the first with nil in its place. So a call may be there that only this nil led to: it is
+ * answered as any other. A filter over the answer of another comes a round later. As BIKLEINU_TEXT all the calls but the last have at
  * most BIKLEINU_CALLS_BYTES bytes. A caller bounds the rounds, as a template that takes its time may need many. */
 uint32_t bikleinu_render_with(bikleinu_handle *template_, bikleinu_handle *data, bikleinu_handle *partials, uint32_t depth,
                               const bikleinu_limits *limits, bikleinu_handle *answers, bikleinu_handle *page);

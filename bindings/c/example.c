@@ -16,7 +16,7 @@ static void show(bikleinu_handle *handle, uint32_t part) {
     free(text);
 }
 
-/* Ends the program by the fault behind the handle. */
+/* Ends the program by the fault in the handle. */
 static void need(uint32_t answer, bikleinu_handle *made) {
     if (answer == BIKLEINU_DONE) return;
     printf("fault %u: ", (unsigned)answer);

@@ -1,5 +1,5 @@
 /* Ten thousand mails by four threads over one template, with a filter of one's own: each thread has handles of its own on the template and
- * the partials, by bikleinu_share, and a table of answers of its own. A mail whose price is below 0 ends by a fault, which is told with
+ * the partials, by bikleinu_share, and a table of answers of its own. A mail whose price is below 0 ends by a fault, reported with
  * its number and its place. */
 #include <inttypes.h>
 #include <pthread.h>

@@ -22,7 +22,7 @@ MISTAKE = {"why", "wrong", "right", "page"}, {"data", "partials", "wrong_page", 
 KINDS = ["basics", "tag", "block", "filter"]
 # where a text may be a list of its lines
 LINES = {"form", "template", "page", "wrong", "wrong_page", "right"}
-TOLD = re.compile(r"error: (\w+)(?:: .*)?\n", re.S)
+PRINTED = re.compile(r"error: (\w+)(?:: .*)?\n", re.S)
 
 
 @dataclass
@@ -155,12 +155,12 @@ def called(template, data, partials, program):
 def rendered(template, data, partials, program=PROGRAM):
     """What the program writes, and the kind of the fault that it tells, if any."""
     ran = called(template, data, partials, program)
-    told = ran.stderr.decode(errors="replace")
+    printed = ran.stderr.decode(errors="replace")
     page = ran.stdout.decode(errors="replace")
-    if ran.returncode == 0 and not told:
+    if ran.returncode == 0 and not printed:
         return page, None
-    fault = TOLD.fullmatch(told)
-    return page, fault[1] if ran.returncode == 1 and fault else f"status {ran.returncode} and {told[:200]!r}"
+    fault = PRINTED.fullmatch(printed)
+    return page, fault[1] if ran.returncode == 1 and fault else f"status {ran.returncode} and {printed[:200]!r}"
 
 
 def read_template(name):
@@ -178,7 +178,7 @@ def for_templates(guide, program):
                 answer.update({name: answer.get(name, absent) for name, absent in (("page", ""), ("wrong_page", ""), ("fault", None))})
     for case, fault in zip(fault_cases(guide), [one for one in guide["faults"] if "template" in one]):
         fault["data_text"] = data_text(case.data) if case.data else None
-        fault["told"] = called(case.template, case.data, case.partials, program).stderr.decode(errors="replace")
+        fault["printed"] = called(case.template, case.data, case.partials, program).stderr.decode(errors="replace")
     return guide
 
 

@@ -17,8 +17,8 @@ from dataclasses import dataclass
 from bikleinu import Environment, LiquidError
 from dask.distributed import Client, LocalCluster, as_completed
 
-# how many faults of a partition are told; its file has all
-TOLD = 3
+# how many faults of a partition are shown; its file has all
+SHOWN = 3
 
 
 @dataclass(frozen=True)
@@ -71,7 +71,7 @@ def render(template, records, partition):
         file.writelines(json.dumps(it, ensure_ascii=False) + "\n" for it in answers)
     os.replace(part, partition.path)
     faults = [f"line {it['line']}: {it['fault']}" for it in answers if "fault" in it]
-    return len(answers), len(faults), faults[:TOLD]
+    return len(answers), len(faults), faults[:SHOWN]
 
 
 def merge(client, template, records, out, size, tell=print):

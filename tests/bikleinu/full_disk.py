@@ -1,4 +1,4 @@
-"""Merges onto a disk that fills up: a page that doesn't fit leaves no part, each record that fails is told, and `--from` goes on."""
+"""Merges onto a disk that fills up: a page that doesn't fit leaves no part, each record that fails is reported, and `--from` goes on."""
 import os
 import resource
 import subprocess
@@ -17,14 +17,14 @@ def filled_up(program):
         with open(f"{room}/r", "w", encoding="utf-8") as file:
             file.writelines(f'{{"id": {n}, "text": "{"x" * 10 * n}"}}\n' for n in range(1, RECORDS + 1))
         most = len(wanted[str(FIT)])
-        told, status = merged(program, room, preexec_fn=lambda: resource.setrlimit(resource.RLIMIT_FSIZE, (most, most)))
+        printed, status = merged(program, room, preexec_fn=lambda: resource.setrlimit(resource.RLIMIT_FSIZE, (most, most)))
         refused = [f"error: record {n}: the file `mails/{n}` can't be written: File too large" for n in range(FIT + 1, RECORDS + 1)]
-        if (told, status) != ([*refused, f"pages {FIT}, failed {RECORDS - FIT}"], 1):
-            return f"status {status}, and it prints {told}"
+        if (printed, status) != ([*refused, f"pages {FIT}, failed {RECORDS - FIT}"], 1):
+            return f"status {status}, and it prints {printed}"
         if (left := pages_in(room)) != {name: text for name, text in wanted.items() if int(name) <= FIT}:
             return f"it leaves {sorted(left)}, or a part"
-        told, status = merged(program, room, "--from", str(FIT + 1))
-        return None if status == 0 and pages_in(room) == wanted else f"gone on with: status {status}, and it prints {told}"
+        printed, status = merged(program, room, "--from", str(FIT + 1))
+        return None if status == 0 and pages_in(room) == wanted else f"gone on with: status {status}, and it prints {printed}"
 
 
 def merged(program, room, *words, **how):

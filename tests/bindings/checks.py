@@ -13,8 +13,8 @@ def fails(call, number):
     try:
         call()
     except Exception as fault:
-        told = getattr(fault, "number", None), getattr(fault, "message", None)
-        return None if told[0] == number and told[1] else f"{told[0]}: {told[1] or fault!r}, and {number} with a message is wanted"
+        report = getattr(fault, "number", None), getattr(fault, "message", None)
+        return None if report[0] == number and report[1] else f"{report[0]}: {report[1] or fault!r}, and {number} with a message is wanted"
     return f"no fault, and {number} is wanted"
 
 
@@ -39,7 +39,7 @@ def first(checks):
     return next(filter(None, checks), None)
 
 
-def told(checks):
+def report(checks):
     """Makes these named checks, tells what isn't well, and at the end how many are."""
     passed = failed = 0
     for name, check in checks:

@@ -24,7 +24,7 @@ except ImportError:
 
 import merge
 from bikleinu import Environment
-from checks import first, told
+from checks import first, report
 
 RECORDS, SIZE, WORKERS = 1200, 50, 4
 # each page takes long enough for a worker to be killed on its way
@@ -103,7 +103,7 @@ def whole():
             f"pages are lost or are none of a record: {sorted(wanted ^ set(found))[:9]}" if wanted != set(found) else None,
             *(wrong_answer(number, answer) for number, answer in found.items()),
             None if counts == (len(wanted), len(WRONG)) else f"the counts {counts}",
-            None if all(any(line.startswith(it) for line in lines) for it in starts) and len(lines) == len(WRONG) else f"told: {lines}",
+            None if all(any(line.startswith(it) for line in lines) for it in starts) and len(lines) == len(WRONG) else f"it prints {lines}",
             None if again else "no partition was begun again, so nothing was tried",
         ]
     )
@@ -112,4 +112,4 @@ def whole():
 if __name__ == "__main__" and "--there" not in sys.argv:
     # that a worker was killed is no news, and neither is what others write at their end
     os.dup2(os.open(os.devnull, os.O_WRONLY), 2)
-    told([("a worker that is killed", whole)])
+    report([("a worker that is killed", whole)])

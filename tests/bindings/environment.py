@@ -15,7 +15,7 @@ from datetime import date, datetime, time, timedelta, timezone
 
 sys.dont_write_bytecode = True
 
-from checks import TOP, first, raises, same, told
+from checks import TOP, first, raises, report, same
 
 import bikleinu
 from bikleinu import Data, DataError, Environment, LiquidError, Partials, Template
@@ -297,8 +297,8 @@ def folder():
         )
         with open(f"{room}/b.html.liquid", "wb") as file:
             file.write(b"one\ntwo\xff")
-        told = f"LiquidError: NoText: the file '{room}/b.html.liquid' is no UTF-8 in line 2"
-        return wrong or same(lambda: Partials.from_folder(room), told)
+        message = f"LiquidError: NoText: the file '{room}/b.html.liquid' is no UTF-8 in line 2"
+        return wrong or same(lambda: Partials.from_folder(room), message)
 
 
 def examples():
@@ -324,4 +324,4 @@ CHECKS = {
 }
 
 if __name__ == "__main__":
-    told(CHECKS.items())
+    report(CHECKS.items())

@@ -5,7 +5,7 @@ import threading
 
 sys.dont_write_bytecode = True
 
-from checks import first, raises, same, told
+from checks import first, raises, report, same
 
 from bikleinu import Environment, Language, LimitError, LiquidError, Partials, Template
 
@@ -46,12 +46,12 @@ def asked_once():
     asked = []
     made = Environment(filters={"twice": lambda number: asked.append(number) or number * 2})
     template = made.from_string("{% for i in (1..3) %}{{ i | twice }},{{ 2 | twice }};{% endfor %}{{ n | twice }}")
-    told = [template.render(n=4), template.render(n=5), sorted(asked)]
-    thread = threading.Thread(target=lambda: told.append(template.render(n=4)))
+    report = [template.render(n=4), template.render(n=5), sorted(asked)]
+    thread = threading.Thread(target=lambda: report.append(template.render(n=4)))
     thread.start()
     thread.join()
     wanted = ["2,4;4,4;6,4;8", "2,4;4,4;6,4;10", [1, 2, 3, 4, 5], "2,4;4,4;6,4;8"]
-    return None if told == wanted and len(asked) == 9 else f"{told}, {asked}"
+    return None if report == wanted and len(asked) == 9 else f"{report}, {asked}"
 
 
 class Lost(Exception):
@@ -145,7 +145,7 @@ def jekyll():
 
 
 def mails():
-    """Ten thousand mails on four threads, with a filter; each thousandth has a fault, which is told with its place."""
+    """Ten thousand mails on four threads, with a filter; each thousandth has a fault, which is reported with its place."""
     made = Environment(filters={"money": money}, partials={"end": "\n{{ from }}"})
     template = made.from_string("Dear {{ name }}: {{ cents | money }}{% include 'end' %}")
     faults, wrong = [], []
@@ -184,4 +184,4 @@ CHECKS = {
 }
 
 if __name__ == "__main__":
-    told(CHECKS.items())
+    report(CHECKS.items())

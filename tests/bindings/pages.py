@@ -7,7 +7,7 @@ import threading
 
 sys.dont_write_bytecode = True
 
-from checks import TOP, fails, first, raises, same, told
+from checks import TOP, fails, first, raises, report, same
 
 import bikleinu
 from bikleinu import Data, Kind, Language, LimitError, LiquidError, Partials, Template
@@ -37,9 +37,9 @@ def shown(row):
     except LiquidError as fault:
         return "", fault
     first, second = template.page(data, partials), template.page(data, partials)
-    told = [(page.text, page.fault and (page.fault.number, page.fault.message, page.fault.place)) for page in (first, second)]
-    if told[0] != told[1]:
-        raise AssertionError(f"{told[1]} where it was {told[0]} at first")
+    report = [(page.text, page.fault and (page.fault.number, page.fault.message, page.fault.place)) for page in (first, second)]
+    if report[0] != report[1]:
+        raise AssertionError(f"{report[1]} where it was {report[0]} at first")
     for limits in ({}, {"max_turns": 3}, {"missing": "nil"}):
         pages = [template.page(it, partials, **limits) for it in (data, seen)]
         ends = [(page.text, page.fault and (page.fault.number, page.fault.place)) for page in pages]
@@ -69,8 +69,8 @@ def places():
             call()
             return f"no fault, and one at {wanted} is wanted"
         except LiquidError as fault:
-            told = fault.place and (fault.place.origin, fault.place.line, fault.place.partial)
-            if told != wanted or not fault.message:
+            report = fault.place and (fault.place.origin, fault.place.line, fault.place.partial)
+            if report != wanted or not fault.message:
                 return f"{fault!r}, and one at {wanted} is wanted"
     return None
 
@@ -152,19 +152,19 @@ def levels():
 
 def deep_threads():
     """Partials that run themselves, in threads of a small stack."""
-    told = []
+    report = []
 
     def run():
         for source, depth in ((nested(100, "{% render 'a' %}"), 32), ("{% render 'a' %}", 2**32 - 1), ("{% include 'a' %}", 5000)):
             template, partials = Template(source), Partials({"a": source})
-            told.append(fails(lambda: template.page({}, partials, depth), bikleinu.TOO_MANY_LEVELS))
+            report.append(fails(lambda: template.page({}, partials, depth), bikleinu.TOO_MANY_LEVELS))
 
     before = threading.stack_size(1 << 20)
     thread = threading.Thread(target=run)
     thread.start()
     thread.join()
     threading.stack_size(before)
-    return first(told) if len(told) == 3 else f"{len(told)} calls, and 3 are wanted"
+    return first(report) if len(report) == 3 else f"{len(report)} calls, and 3 are wanted"
 
 
 # A template, its limits, the text up to where it ends, and the number that it ends by, 0 where it is whole. A list of nodes is a turn.
@@ -187,21 +187,21 @@ def limits():
     """What ends a page, and its text up to there; a page within its limits is whole."""
     for source, given, text, number in LIMITS:
         page = Template(source).page(None, **given)
-        told = page.text, page.fault.number if page.fault else 0
-        if told != (text, number) or isinstance(page.fault, LimitError) != (number > 100):
-            return f"{source[:60]!r}, {given}: {told}, and {(text, number)} is wanted"
+        report = page.text, page.fault.number if page.fault else 0
+        if report != (text, number) or isinstance(page.fault, LimitError) != (number > 100):
+            return f"{source[:60]!r}, {given}: {report}, and {(text, number)} is wanted"
     return None
 
 
 def kinds():
     """Each kind has its number in the header, and an error has its kind."""
     with open(f"{TOP}/include/bikleinu.h", encoding="utf-8") as file:
-        told = dict(re.findall(r"^    BIKLEINU_(\w+) = (\d+),?(?: |$)", file.read().partition("/* Makes the standard")[0], re.M))
+        report = dict(re.findall(r"^    BIKLEINU_(\w+) = (\d+),?(?: |$)", file.read().partition("/* Makes the standard")[0], re.M))
     named = {kind.name: str(kind.value) for kind in Kind}
     fault = Template("{{ a }}").page().fault
     if fault.kind is not Kind.UNKNOWN_VARIABLE or LiquidError(999, "New").kind is not None:
         return f"{fault.kind!r}"
-    return None if named.items() <= told.items() else f"{set(named.items()) - set(told.items())}"
+    return None if named.items() <= report.items() else f"{set(named.items()) - set(report.items())}"
 
 
 def copies():
@@ -251,4 +251,4 @@ CHECKS = {
 
 
 if __name__ == "__main__":
-    told([*((row["name"], lambda row=row: wrong_in(row)) for row in rows()), *CHECKS.items()])
+    report([*((row["name"], lambda row=row: wrong_in(row)) for row in rows()), *CHECKS.items()])

@@ -3,7 +3,7 @@
  * request has to answer BIKLEINU_MEMORY, and called again what it answered at first, and no other call may answer otherwise than at
  * first. A row is a line with the numbers of bytes of its source and its data and how many partials it has, those bytes, and for each
  * partial a line with the numbers of bytes of its name and its source, and those. When its handles are freed, a row must leave no memory
- * behind, which no proof speaks of. A line tells each thing that isn't well, and the last one "rows: N calls: N refused: N". */
+ * allocated, which no proof speaks of. A line tells each thing that isn't well, and the last one "rows: N calls: N refused: N". */
 #define _GNU_SOURCE
 #include <stdio.h>
 #include <stdlib.h>
@@ -73,7 +73,7 @@ static void *need(void *made) {
     return made;
 }
 
-/* What a call left to read behind its handle: the text of a page and the message of a fault. */
+/* What a call left to read in its handle: the text of a page and the message of a fault. */
 static text shown(int made) {
     size_t page = bikleinu_length(&held[made], BIKLEINU_TEXT), message = bikleinu_length(&held[made], BIKLEINU_MESSAGE);
     text all = {need(malloc(page + message + 1)), page + message};
@@ -82,7 +82,7 @@ static text shown(int made) {
     return all;
 }
 
-static void told(const char *name, size_t at, uint32_t answer, const char *what) {
+static void report(const char *name, size_t at, uint32_t answer, const char *what) {
     wrong++;
     printf("row %zu, %s, request %zu: %u, %s\n", rows, name, at, (unsigned)answer, what);
 }
@@ -123,16 +123,16 @@ static uint32_t each(const char *name, uint32_t (*call)(const row *), const row 
         counts = false;
         if (requests < at) {
             if (takes) first = answer;
-            else if (!is_same(made, answer, first, left)) told(name, at, answer, "and none was refused");
+            else if (!is_same(made, answer, first, left)) report(name, at, answer, "and none was refused");
             break;
         }
         refused++;
         if (answer != BIKLEINU_MEMORY) {
-            told(name, at, answer, "where one was refused");
+            report(name, at, answer, "where one was refused");
             break;
         }
         if (!takes && !is_same(made, call(it), first, left)) {
-            told(name, at, answer, "and another page or fault after it");
+            report(name, at, answer, "and another page or fault after it");
             break;
         }
     }
@@ -179,16 +179,16 @@ int main(void) {
             text page = shown(PAGE);
             size_t length = bikleinu_length(&held[PAGE], BIKLEINU_TEXT);
             each("share", share, &it, SHARED, true);
-            if (!is_same(PAGE, render_shared(&it), ended, page)) told("render of what is shared", 0, ended, "and another page");
+            if (!is_same(PAGE, render_shared(&it), ended, page)) report("render of what is shared", 0, ended, "and another page");
             each("paths", find_paths, &it, PATHS, false);
             each("data for the template", read_for, &it, READ, false);
-            if (!is_same_page(render_read(&it), ended, page, length)) told("render of what is read for it", 0, ended, "and another page");
+            if (!is_same_page(render_read(&it), ended, page, length)) report("render of what is read for it", 0, ended, "and another page");
             free(page.at);
             each("complete", complete, &it, COMPLETED, false);
         }
         free(it.source.at), free(it.data.at);
         for (int at = TEMPLATE; at < HANDLES; at++) bikleinu_free(&held[at]);
-        if (blocks != before) told("all its calls", 0, BIKLEINU_DONE, "and memory is left behind");
+        if (blocks != before) report("all its calls", 0, BIKLEINU_DONE, "and memory is left behind");
     }
     bikleinu_free(&held[LANGUAGE]);
     printf("rows: %zu calls: %zu refused: %zu\n", rows, calls, refused);

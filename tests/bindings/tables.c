@@ -1,4 +1,4 @@
-/* Pages with filters of the caller's: which calls a table is told to lack, what becomes of the answers that are put into it, and which
+/* Pages with filters of the caller's: which calls a table is said to lack, what becomes of the answers that are put into it, and which
  * calls can't be. Each rendering is made once more for each of its requests for memory, of which that one is refused: it then has to
  * answer BIKLEINU_MEMORY, or that calls are lacking, and called again what it answered at first. When all is freed, no memory may be
  * left. A line tells each thing that isn't well, and the last one "tables: N". */
@@ -161,16 +161,16 @@ static void of_refusals(void) {
     end();
 }
 
-/* The bounds: a page of 1,500 calls takes two rounds, and of long ones fewer are told at once. */
+/* The bounds: a page of 1,500 calls takes two rounds, and of long ones fewer are listed at once. */
 static void of_bounds(void) {
     begin("{% for i in (1..1500) %}{{ i | shout }}{% endfor %}", "{}");
     is("many", render(), BIKLEINU_LACKING);
-    is("told", (uint32_t)bikleinu_calls(&page), BIKLEINU_CALLS);
+    is("listed", (uint32_t)bikleinu_calls(&page), BIKLEINU_CALLS);
     is("the answer", bikleinu_data(bytes("{\"answer\":\"\"}"), 13, &answer), BIKLEINU_DONE);
     for (uint32_t at = 0; at < BIKLEINU_CALLS; at++)
         if (bikleinu_answer(&answers, &page, at, &answer)) is("answer", 1, 0);
     is("the rest", render(), BIKLEINU_LACKING);
-    is("told too", (uint32_t)bikleinu_calls(&page), 1500 - BIKLEINU_CALLS);
+    is("listed too", (uint32_t)bikleinu_calls(&page), 1500 - BIKLEINU_CALLS);
     for (uint32_t at = 0; at < 1500 - BIKLEINU_CALLS; at++)
         if (bikleinu_answer(&answers, &page, at, &answer)) is("answer", 1, 0);
     is("all", render(), BIKLEINU_DONE);

@@ -11,7 +11,7 @@ class Plain:
     """What a call comes to where nothing is refused."""
 
     page: bytes
-    told: list
+    printed: list
     status: int
     left: dict
 
@@ -63,13 +63,13 @@ class Room:
         left = files_in(self.at)
         return [path for path in {*left, *plain.left} if left.get(path) != plain.left.get(path)]
 
-    def wrong_end(self, plain, page, told, status, wanted):
+    def wrong_end(self, plain, page, printed, status, wanted):
         """What is wrong where something was refused, of which a line has to tell in these words, or None."""
         if status != 1:
-            return f"status {status}: {told[-2:]}"
+            return f"status {status}: {printed[-2:]}"
         if not plain.page.startswith(page) and not self.call.passes_over:
             return f"it writes {page[-80:]!r}"
-        if not any(wanted.fullmatch(line) for line in told if line not in plain.told):
-            return f"it prints {told[-3:]}"
+        if not any(wanted.fullmatch(line) for line in printed if line not in plain.printed):
+            return f"it prints {printed[-3:]}"
         strange = self.strange_files(plain)
         return f"it leaves {strange}" if strange else None

@@ -10,7 +10,7 @@
 // For a program that knows no marks, and is called often by the same words. REFUSE_SERVE=FD: it is started once, and each call is a fork,
 // which costs less than a start and goes on from here into main. FD is a socket. A call is asked for by five numbers: the request to
 // refuse (0: none); the write to standard output that fails, and each after it (0: none); how many bytes each write takes at most (0: all);
-// how many bytes all of them take together, behind which a write takes none, which is no failure (the greatest number: all); and the step
+// how many bytes all of them take together, after which a write takes none, which is no failure (the greatest number: all); and the step
 // in files that fails, and each after it (0: none), where a step is a write to a file or a file's new name. It is answered by four: its
 // requests from its start, its writes, its steps, and its status as waitpid gives it. Where it doesn't come to its end, the first three
 // are -1.

@@ -29,9 +29,9 @@ def given(rows, whole):
     lines = {line: row for row in rows if (line := call_of(row, whole))}
     ran = subprocess.run([PROGRAM], input="".join(f"{line}\n" for line in lines), capture_output=True, encoding="utf-8", timeout=600)
     wrong = [f"it ends by status {ran.returncode}: {ran.stderr[:200]}"] if ran.returncode else []
-    for told in ran.stdout.split("\n"):
-        unread = NO_ROW.fullmatch(told)
+    for printed in ran.stdout.split("\n"):
+        unread = NO_ROW.fullmatch(printed)
         row = lines.get(unread[2]) if unread else None
-        if told and not (row and (row.get("parse_fault") or row.get("kind"))):
-            wrong.append(told[:200])
+        if printed and not (row and (row.get("parse_fault") or row.get("kind"))):
+            wrong.append(printed[:200])
     return len(lines), wrong

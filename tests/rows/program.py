@@ -20,8 +20,8 @@ class Ended:
     """What a call of the program came to."""
 
     page: bytes
-    # the line that is told, and the lines that are shown behind it
-    told: str
+    # the line that is printed, and the lines that are shown after it
+    printed: str
     shown: str
     status: int
     # -1 where it didn't come to its end
@@ -36,12 +36,12 @@ class Program:
     while it runs."""
 
     def __init__(self, library, words, folder, path=PROGRAM, given=subprocess.DEVNULL):
-        self.page, self.told = (open(os.memfd_create(name), "w+b", buffering=0) for name in ("page", "told"))
+        self.page, self.printed = (open(os.memfd_create(name), "w+b", buffering=0) for name in ("page", "printed"))
         self.socket, served = socket.socketpair()
         with served:
             # all names are bound before the first call: each fork would bind them again
             env = {"LD_PRELOAD": library, "LD_BIND_NOW": "1", "REFUSE_SERVE": str(served.fileno())}
-            streams = {"stdin": given, "stdout": self.page, "stderr": self.told}
+            streams = {"stdin": given, "stdout": self.page, "stderr": self.printed}
             self.process = subprocess.Popen([path, *words], cwd=folder, env=env, **streams, pass_fds=[served.fileno()])
 
     def __enter__(self):
@@ -51,15 +51,15 @@ class Program:
         self.socket.close()
         self.process.wait()
         self.page.close()
-        self.told.close()
+        self.printed.close()
 
     def call(self, refuse_at=0, refuse_write=0, write_bytes=0, write_room=NO_END, refuse_step=0):
         """What a call comes to that is refused what is said."""
         requests, writes, steps, status = self.answer(ASKED.pack(refuse_at, refuse_write, write_bytes, write_room, refuse_step))
-        page, told = written(self.page), written(self.told).decode(errors="replace")
-        behind = SHOWN.search(told)
-        at = behind.start() if behind else len(told)
-        return Ended(page, told[:at], told[at:], status, requests, writes, steps)
+        page, printed = written(self.page), written(self.printed).decode(errors="replace")
+        after = SHOWN.search(printed)
+        at = after.start() if after else len(printed)
+        return Ended(page, printed[:at], printed[at:], status, requests, writes, steps)
 
     def answer(self, asked):
         """The requests, the writes, the steps in files and the status of a call, or -1 three times and the status of the program where it

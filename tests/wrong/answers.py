@@ -84,7 +84,7 @@ def own_of(function, answers):
 
 
 def of_function(path, function):
-    """The proof file of the function that a twin stands behind."""
+    """The proof file of the function that a twin stands after."""
     of = getattr(function, "of", None)
     return path.replace(f"/{function.name.split('::')[-1]}/", f"/{of.name.split('::')[-1]}/") if of else path
 

@@ -1,6 +1,6 @@
 """What an edit says, which function of the crate it changes, and what it makes of the crate's files.
 
-An edit is a file with a line "file: src/lib.rt", and behind it pairs of lines "old: TEXT" and "new: TEXT". Each TEXT is one
+An edit is a file with a line "file: src/lib.rt", and after it pairs of lines "old: TEXT" and "new: TEXT". Each TEXT is one
 line, and stands once in the file. A further pair applies to what the earlier ones made, and a further "file:" line names
 another file. A line "goal: TEXT" says what stands in the name of a goal that must be refused: edits of one function whose goals
 have different names are tried together. A line "by: NAME" in an edit of a constant or a definition says which function must be
@@ -41,21 +41,21 @@ def text_of(path):
 
 def read_edit(file):
     """The edit that the file holds."""
-    told, old, pairs = {"file": "", "goal": "", "by": ""}, None, []
+    named, old, pairs = {"file": "", "goal": "", "by": ""}, None, []
     for line in text_of(file).split("\n"):
         word, _, rest = line.partition(": ")
-        if word in told:
-            told[word] = rest.strip()
+        if word in named:
+            named[word] = rest.strip()
         elif line.startswith("old: "):
             old = line.removeprefix("old: ")
         elif line.startswith("new:"):
-            if not told["file"] or not old:
+            if not named["file"] or not old:
                 raise Unfit("a line new: before its lines file: and old:")
-            pairs.append((told["file"], old, line.removeprefix("new:").removeprefix(" ")))
+            pairs.append((named["file"], old, line.removeprefix("new:").removeprefix(" ")))
             old = None
     if not pairs:
         raise Unfit("it has no pair of lines old: and new:")
-    return Edit(file, tuple(pairs), told["goal"], told["by"])
+    return Edit(file, tuple(pairs), named["goal"], named["by"])
 
 
 def applied(edit, folder, texts, function=None):
@@ -151,7 +151,7 @@ def block(edit, function, folder):
 
 
 def changed(pairs, folder):
-    """The texts of the crate's files with all of the edits, each in its function, or in that one's twin behind it."""
+    """The texts of the crate's files with all of the edits, each in its function, or in that one's twin after it."""
     texts = {}
     for edit, function in pairs:
         if not isinstance(function, Twin):
@@ -160,8 +160,8 @@ def changed(pairs, folder):
         if isinstance(twin, Twin):
             name, own = twin.of.name.split("::")[-1], twin.name.split("::")[-1]
             lines = texts[twin.path].split("\n")
-            behind = stated_in(texts[twin.path], twin.of).closes + 1
-            lines[behind:behind] = ["", *(re.sub(rf"\bfn {name}\b", f"fn {own}", line) for line in block(edit, twin.of, folder))]
+            after = stated_in(texts[twin.path], twin.of).closes + 1
+            lines[after:after] = ["", *(re.sub(rf"\bfn {name}\b", f"fn {own}", line) for line in block(edit, twin.of, folder))]
             texts[twin.path] = "\n".join(lines)
     return texts
 

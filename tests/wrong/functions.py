@@ -21,7 +21,7 @@ class Function:
 
 @dataclass(frozen=True)
 class Twin(Function):
-    """A function that stands behind another one, which has its contract and a name of its own."""
+    """A function that stands after another one, which has its contract and a name of its own."""
 
     of: Function
 

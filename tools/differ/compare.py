@@ -8,9 +8,9 @@ from typing import Any, Callable
 
 from language.faults import TooLong
 
-# how liquid_page reports a fault, and how bikleinu does: behind the name of the file
-TOLD = re.compile(r"error: (\w+): .+\n", re.S)
-TOLD_OF_FILE = re.compile(r"error: [^:\n]+: (\w+): .+\n", re.S)
+# how liquid_page reports a fault, and how bikleinu does: after the name of the file
+PRINTED = re.compile(r"error: (\w+): .+\n", re.S)
+PRINTED_OF_FILE = re.compile(r"error: [^:\n]+: (\w+): .+\n", re.S)
 # a program that takes longer is killed
 MOST_SECONDS = 30
 
@@ -47,7 +47,7 @@ class Program:
         self.folder = folder
         # files in the place of pipes: a case costs a third less
         flags = os.O_WRONLY | os.O_CREAT | os.O_TRUNC
-        self.actions = [(os.POSIX_SPAWN_OPEN, number, f"{folder}/{name}", flags, 0o600) for number, name in ((1, "out"), (2, "told"))]
+        self.actions = [(os.POSIX_SPAWN_OPEN, number, f"{folder}/{name}", flags, 0o600) for number, name in ((1, "out"), (2, "printed"))]
 
     def put(self, name, text):
         with open(f"{self.folder}/{name}", "w", encoding="utf-8", newline="") as file:
@@ -65,7 +65,7 @@ class Program:
         signal.alarm(MOST_SECONDS)
         status = os.waitstatus_to_exitcode(os.waitpid(process, 0)[1])
         signal.alarm(0)
-        return status, self.written("out"), self.written("told")
+        return status, self.written("out"), self.written("printed")
 
     def written(self, name):
         with open(f"{self.folder}/{name}", encoding="utf-8", errors="replace", newline="") as file:
@@ -74,8 +74,8 @@ class Program:
 
 def run_page(program, case):
     """What liquid_page writes, and how it ends."""
-    status, page, told = program.call([program.put("page", case.source), program.put("data", case.data), *program.partials(case)])
-    return page, kind_of(TOLD, status, told)
+    status, page, printed = program.call([program.put("page", case.source), program.put("data", case.data), *program.partials(case)])
+    return page, kind_of(PRINTED, status, printed)
 
 
 def run_render(*options):
@@ -84,32 +84,32 @@ def run_render(*options):
     def run(program, case):
         words = ["render", program.put("page", case.source), program.put("data", case.data)]
         words += [word for partial in program.partials(case) for word in ("-p", partial)]
-        status, page, told = program.call([*words, *options])
-        return page, kind_of(TOLD_OF_FILE, status, told)
+        status, page, printed = program.call([*words, *options])
+        return page, kind_of(PRINTED_OF_FILE, status, printed)
 
     return run
 
 
 def run_paths(program, case):
     words = ["paths", program.put("page", case.source), *(word for partial in program.partials(case) for word in ("-p", partial))]
-    status, page, told = program.call(words)
-    return page, kind_of(TOLD_OF_FILE, status, told)
+    status, page, printed = program.call(words)
+    return page, kind_of(PRINTED_OF_FILE, status, printed)
 
 
 def run_check(program, case):
     """The faults of the source: line, column and kind of each."""
-    status, lines, told = program.call(["check", program.put("page", case.source), "--format", "json"])
+    status, lines, printed = program.call(["check", program.put("page", case.source), "--format", "json"])
     found = [json.loads(line) for line in lines.splitlines()]
     faults = [(fault["line"], fault["column"], fault["kind"]) for fault in found if fault["severity"] == "error"]
-    return faults, None if status == bool(faults) else f"status {status} and {told[:80]!r}"
+    return faults, None if status == bool(faults) else f"status {status} and {printed[:80]!r}"
 
 
-def kind_of(pattern, status, told):
-    """The kind that the program told, None where the page is done, or what is wrong with how it ended."""
-    if status == 0 and not told:
+def kind_of(pattern, status, printed):
+    """The kind that the program printed, None where the page is done, or what is wrong with how it ended."""
+    if status == 0 and not printed:
         return None
-    fault = pattern.fullmatch(told)
-    return fault[1] if status == 1 and fault else f"status {status} and {told[:80]!r}"
+    fault = pattern.fullmatch(printed)
+    return fault[1] if status == 1 and fault else f"status {status} and {printed[:80]!r}"
 
 
 def difference(kind, program, case):

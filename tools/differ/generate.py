@@ -137,7 +137,7 @@ def make_partials(rng, known, filters):
     named = [(name, rng.random() < 0.5) for name in names]
     made = []
     for at, (name, is_apart) in enumerate(named):
-        # most partials call those behind them, so that few call themselves without end
+        # most partials call those after them, so that few call themselves without end
         others = named[at + 1 :] if rng.random() < 0.9 else named
         made.append((name, is_apart, make_partial(rng, known, is_apart, others, filters)))
     return made

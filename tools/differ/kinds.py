@@ -17,19 +17,19 @@ def read_faults(case):
 
 
 def within_pieces(read, ran):
-    """Whether the same faults are told, each at a place in its piece."""
+    """Whether the same faults are reported, each at a place in its piece."""
     left = list(read[0])
-    for told in ran[0]:
-        found = next((fault for fault in left if is_there(fault, told)), None)
+    for printed in ran[0]:
+        found = next((fault for fault in left if is_there(fault, printed)), None)
         if found is None:
             return False
         left.remove(found)
     return not left and read[1] == ran[1]
 
 
-def is_there(expected, told):
-    (first, last, kind), (line, column, told_kind) = expected, told
-    return kind == told_kind and first <= (line, column) <= last
+def is_there(expected, printed):
+    (first, last, kind), (line, column, found_kind) = expected, printed
+    return kind == found_kind and first <= (line, column) <= last
 
 
 KINDS = {

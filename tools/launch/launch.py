@@ -121,12 +121,12 @@ def main():
     try:
         return launched(name, words)
     except Invalid as ended:
-        told, status = ended.args
+        message, status = ended.args
     except Refused as ended:
-        told, status = f"{ended}\n{name}: the compiler refuses the sources", 1
+        message, status = f"{ended}\n{name}: the compiler refuses the sources", 1
     except (Stopped, OSError) as ended:
-        told, status = f"{name}: {ended}", 1
-    print(told, file=sys.stderr)
+        message, status = f"{name}: {ended}", 1
+    print(message, file=sys.stderr)
     return status
 
 

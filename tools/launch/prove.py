@@ -22,7 +22,7 @@ class Progress:
     def __init__(self, program, log):
         self.name, self.log = program.name, log
         self.crates = [it.name for it in program.crates]
-        self.began, self.next, self.told = time.monotonic(), 0, None
+        self.began, self.next, self.last_shown = time.monotonic(), 0, None
         self.crate = self.count = None
 
     def take(self, line):
@@ -40,8 +40,8 @@ class Progress:
         self.next = now + 5
         for line in self.log:
             self.take(line.rstrip("\n"))
-        if self.crate in self.crates and self.count and self.told != (self.crate, self.count):
-            self.told = (self.crate, self.count)
+        if self.crate in self.crates and self.count and self.last_shown != (self.crate, self.count):
+            self.last_shown = (self.crate, self.count)
             at, minutes = self.crates.index(self.crate) + 1, int(now - self.began) // 60
             say(self.name, f"{minutes} min, {self.crate}, crate {at} of {len(self.crates)}, function {self.count}")
 

@@ -129,7 +129,7 @@ class Pages:
     def page(self, asked):
         """The answer to a request, both of them as bytes of JSON."""
         if len(asked) > SOURCE:
-            return self.told("Request", f"at most {SOURCE} bytes are taken")
+            return self.refusal("Request", f"at most {SOURCE} bytes are taken")
         worker = self.ready[0]
         until = time.monotonic() + self.seconds
         why = "Time", f"the page took more than {self.seconds} seconds"
@@ -147,7 +147,7 @@ class Pages:
         if self.ready.pop(0).end():
             why = "Memory", "no memory was to be had"
         self.ended += 1
-        return self.told(*why)
+        return self.refusal(*why)
 
     def refill(self):
         """Makes workers in the place of those that ended, for a server to call once it has answered: a fork takes milliseconds."""
@@ -155,7 +155,7 @@ class Pages:
             self.ready.append(Worker())
 
     @staticmethod
-    def told(fault, message):
+    def refusal(fault, message):
         return json.dumps({"text": "", "fault": fault, "message": message}).encode()
 
     def close(self):

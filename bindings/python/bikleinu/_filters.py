@@ -119,15 +119,15 @@ class Run:
                 return answer, page
             if asked < self.most:
                 self._answer_all(table, page)
-        told = f"the page still lacks answers of its filters after {self.most} rounds of calls; max_rounds= allows more"
-        raise LimitError(LACKING, "RoundsReached", told, text="")
+        message = f"the page still lacks answers of its filters after {self.most} rounds of calls; max_rounds= allows more"
+        raise LimitError(LACKING, "RoundsReached", message, text="")
 
     def _answer_all(self, table: Table, calls: Owner) -> None:
         for number, (name, value, *arguments) in enumerate(json.loads(calls._part(TEXT))):
             try:
                 answer = encoded({"answer": self.filters.functions[name](value, *arguments)}, self.how)
             except Exception as error:
-                message = _told(error)
+                message = _message_of(error)
                 self.errors[message] = error
                 table.refuse(calls, number, message)
             else:
@@ -145,7 +145,7 @@ class Run:
             fault.__cause__ = self.errors[max(found, key=len)]
 
 
-def _told(error: Exception) -> str:
+def _message_of(error: Exception) -> str:
     """What an error says, on one line."""
     said = " ".join(str(error).split())
     said = "".join(it if it.isprintable() else "?" for it in said[:_SHOWN])

@@ -9,7 +9,7 @@ _PLACES = [os.path.join(_HERE, "libbikleinu.so"), os.path.join(_HERE, "..", ".."
 
 
 class Handle(ctypes.Structure):
-    """A place that holds nothing, or owns what lies behind it."""
+    """A place that holds nothing, or owns what it points to."""
 
     _fields_ = [("there", ctypes.c_bool), ("at", ctypes.c_void_p)]
 

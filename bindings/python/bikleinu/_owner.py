@@ -1,4 +1,4 @@
-"""What lies behind a handle of the library's, and what is read there."""
+"""What a handle of the library holds, and what is read there."""
 from __future__ import annotations
 
 import ctypes
@@ -15,7 +15,7 @@ _ORIGINS = {1: "template", 2: "partial", 3: "data"}
 
 
 def part(handle: Handle, number: int) -> str:
-    """A part of what lies behind a handle."""
+    """A part of what a handle holds."""
     length = library.bikleinu_length(handle, number)
     if not length:
         return ""
@@ -25,7 +25,7 @@ def part(handle: Handle, number: int) -> str:
 
 
 class Owner:
-    """What lies behind a handle, which is freed with this object. The lock is for a handle that several threads use."""
+    """What a handle holds, which is freed with this object. The lock is for a handle that several threads use."""
 
     def __init__(self) -> None:
         self._handle = Handle()

@@ -1,4 +1,4 @@
-"""What is told where there is no page, or where a page ends early."""
+"""What is reported where there is no page, or where a page ends early."""
 from __future__ import annotations
 
 import enum

@@ -80,7 +80,7 @@ def standard() -> Language:
 
 
 def parse(source: str, language: Language | None, made: Owner, partial: str | None = None) -> None:
-    """Puts the template of a source, which is that of a partial of this name, behind a handle."""
+    """Puts the template of a source, which is that of a partial of this name, into a handle."""
     text = utf8(source)
     language = language or standard()
     with language._lock:

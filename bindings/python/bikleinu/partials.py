@@ -70,8 +70,8 @@ class Partials(Shared):
         try:
             return self._sources[name]
         except KeyError:
-            near = get_close_matches(name, self._sources, 1)
-            asked = f"; did you mean {near[0]!r}?" if near else ""
+            similar = get_close_matches(name, self._sources, 1)
+            asked = f"; did you mean {similar[0]!r}?" if similar else ""
             raise LookupError(f"no partial is named {name!r}{asked}") from None
 
     def __reduce__(self) -> Any:

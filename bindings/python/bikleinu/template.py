@@ -125,7 +125,7 @@ class Template(Shared):
 
     def names(self, partials: Others = None) -> list[str]:
         """The names that the template and its partials mention: a page depends on no other names of the data."""
-        return self._told("names", partials)
+        return self._texts_of("names", partials)
 
     def paths(self, partials: Others = None) -> list[str]:
         """What the template and its partials ask of their data, of which a page sees no more: "customer.name" a whole value, "customer?"
@@ -135,7 +135,7 @@ class Template(Shared):
             >>> bikleinu.Template("{% for p in products %}{{ p.title }}{% endfor %}").paths()
             ['p.title', 'products[].title']
         """
-        return self._told("paths", partials)
+        return self._texts_of("paths", partials)
 
     def data(self, data: Mapping[str, Any] | str, partials: Others = None) -> Data:
         """Data of which no more is built than this template and its partials, as they are now, can see (see paths). A page over them is
@@ -153,7 +153,7 @@ class Template(Shared):
     def _others(self, partials: Others) -> Owner:
         return partials_of(self._settings.partials if partials is None else partials)
 
-    def _told(self, what: str, partials: Others) -> list[str]:
+    def _texts_of(self, what: str, partials: Others) -> list[str]:
         with lent(self._found(what, self._others(partials))) as (found,):
             return _texts(found)
 

@@ -155,7 +155,7 @@ impl fmt::Display for Location {
     }
 }
 
-/// Why there is no page, or why it ended: the kind by number and name, and what is told of it. Without memory for more, the number
+/// Why there is no page, or why it ended: the kind by number and name, and what it says. Without memory for more, the number
 /// alone.
 #[derive(Clone, Debug)]
 pub struct LiquidError {
@@ -205,7 +205,7 @@ impl LiquidError {
     }
 }
 
-/// Two errors are the same where all that is told of them is, whatever they come of.
+/// Two errors are the same where all that they say is, whatever they come of.
 impl PartialEq for LiquidError {
     fn eq(&self, other: &LiquidError) -> bool {
         self.number == other.number && self.name == other.name && self.message == other.message && self.location == other.location

@@ -1,9 +1,9 @@
-//! The calls of the library for C, and what lies behind a handle.
+//! The calls of the library for C, and what a handle holds.
 use crate::error::{call_refused, LiquidError, Location, Origin, BYTES_REACHED, TURNS_REACHED};
 use std::cell::UnsafeCell;
 use std::ffi::c_void;
 
-/// A place that holds nothing, or owns what lies behind it.
+/// A place that holds nothing, or owns what it points to.
 #[repr(C)]
 pub(crate) struct Handle {
     there: bool,
@@ -71,7 +71,7 @@ const MESSAGE: u32 = 1;
 const NAME: u32 = 2;
 const PARTIAL: u32 = 3;
 
-/// What lies behind a handle, which is freed with it.
+/// What a handle holds, which is freed with it.
 ///
 /// A call may change a handle while it runs, also one that it only reads. So an owner isn't shared by threads ([`Shared`](crate::shared::Shared)
 /// is), and no call begins in one thread while another of the same handle runs there: none of them calls back.
@@ -97,7 +97,7 @@ impl Owner {
     }
 
     pub(crate) fn part(&self, part: u32) -> String {
-        // SAFETY: the handle is this owner's, and the bytes have the room that is told.
+        // SAFETY: the handle is this owner's, and the bytes have the room that is passed.
         let bytes = unsafe {
             let mut bytes = vec![0; bikleinu_length(self.at(), part)];
             let count = bikleinu_copy(self.at(), part, bytes.as_mut_ptr(), bytes.len());

@@ -60,8 +60,8 @@ impl Filters {
     }
 
     fn answer_all(&self, table: &mut Table, calls: &Owner, errors: &mut Errors) -> Result<(), LiquidError> {
-        let told = calls.part(TEXT);
-        let Some(Value::List(all)) = Reader::new(&told).value() else {
+        let text = calls.part(TEXT);
+        let Some(Value::List(all)) = Reader::new(&text).value() else {
             return Err(LiquidError::new(LACKING, "Calls".to_owned(), "the calls can't be read".to_owned(), None));
         };
         for (number, call) in all.iter().enumerate() {

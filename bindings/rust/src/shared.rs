@@ -3,7 +3,7 @@ use crate::error::LiquidError;
 use crate::ffi::{bikleinu_share, Handle, Owner};
 use std::sync::{Mutex, MutexGuard, PoisonError};
 
-/// What lies behind a handle, for calls in any number of threads at a time: each has a handle of its own on it.
+/// What a handle holds, for calls in any number of threads at a time: each has a handle of its own on it.
 pub(crate) struct Shared {
     first: Mutex<Owner>,
     /// Handles that no call has now.

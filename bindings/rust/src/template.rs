@@ -236,8 +236,8 @@ impl Data {
 
 /// The texts of a list in JSON.
 fn texts(list: &Owner) -> Vec<String> {
-    let told = list.part(TEXT);
-    let all = Reader::new(&told).value();
+    let text = list.part(TEXT);
+    let all = Reader::new(&text).value();
     let all = all.as_ref().and_then(Value::as_list).unwrap_or_default();
     all.iter().filter_map(Value::as_text).map(str::to_owned).collect()
 }

@@ -38,7 +38,7 @@ fn faults_tell_their_kind_and_place() {
     assert_eq!((fault.number, fault.name.as_str(), fault.is_memory()), (27, "UnknownFilter", false));
     assert!(matches!(fault.location, Some(Location { origin: Origin::Template, line: 2, .. })), "{fault:?}");
     let fault = Data::from_json("[1]").expect_err("a list is no data");
-    assert_eq!((fault.number, fault.location.map(|told| told.origin)), (2, Some(Origin::Data)));
+    assert_eq!((fault.number, fault.location.map(|it| it.origin)), (2, Some(Origin::Data)));
 }
 
 #[test]

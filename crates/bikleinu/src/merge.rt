@@ -41,7 +41,7 @@ pub fn merge(rt: &HostRuntime, call: &MergeCall<'_>) -> Result<(), Stop> {
     }
     match fs::open(rt, call.records) {
         Ok(file) => run.all(target, file),
-        Err(refused) => Err(run.unread(refused.kind())),
+        Err(refused) => Err(run.unreadable(refused.kind())),
     }
 }
 
@@ -77,7 +77,7 @@ impl Run<'_> {
         match Records::rows(self.rt.alloc(), reader) {
             Ok(records) => Ok(records),
             Err(HeadStop::Memory) => Err(Stop::from(AllocError)),
-            Err(HeadStop::Unread(kind)) => Err(self.unread(kind)),
+            Err(HeadStop::Unreadable(kind)) => Err(self.unreadable(kind)),
             Err(HeadStop::Faulted(fault)) => {
                 let path = ShownPath {
                     path: called(self.call.records),
@@ -95,7 +95,7 @@ impl Run<'_> {
             match records.advance() {
                 Ok(true) => {}
                 Ok(false) => return Ok(false),
-                Err(refused) => return Err(self.unread(refused.kind())),
+                Err(refused) => return Err(self.unreadable(refused.kind())),
             }
             if records.number() >= *from {
                 return Ok(is_selected(records.number(), *from, *count));
@@ -127,8 +127,8 @@ impl Run<'_> {
         Ok(target)
     }
 
-    fn unread(&self, kind: io::ErrorKind) -> Stop {
-        Stop::unread(
+    fn unreadable(&self, kind: io::ErrorKind) -> Stop {
+        Stop::unreadable(
             self.rt.alloc(),
             called(self.call.records),
             Reason::from(kind),

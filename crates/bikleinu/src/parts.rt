@@ -4,7 +4,7 @@ use liquid_command_files::{Source, Sources, Stop, print_fault, read_data};
 use liquid_commands::{Inputs, Missing};
 use liquid_completion::complete;
 use liquid_core::Object;
-use liquid_lib::{Language, Partials, Template, language, parse_kept};
+use liquid_lib::{Language, Partials, Template, language, parse_with_source};
 use liquid_uses::uses_of;
 use std::alloc::Global;
 
@@ -39,7 +39,7 @@ fn parts_in(rt: &HostRuntime, inputs: &Inputs<'_>, language: &Language) -> Resul
 
 /// The template of a source. Its fault is printed.
 fn parsed(rt: &HostRuntime, source: &Source, language: &Language) -> Result<Template, Stop> {
-    match parse_kept(rt.alloc(), source.text.as_str(), language) {
+    match parse_with_source(rt.alloc(), source.text.as_str(), language) {
         Ok(template) => Ok(template),
         Err(fault) => {
             print_fault(rt, source.path.as_str(), &fault, Some(source.text.as_str()));

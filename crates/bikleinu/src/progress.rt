@@ -11,7 +11,7 @@ pub struct Progress {
     failed: u64,
     /// When the merge began, where each second is to be printed; and the last second that was.
     began: Option<Instant>,
-    told: u64,
+    last_printed: u64,
 }
 
 impl Progress {
@@ -25,7 +25,7 @@ impl Progress {
             pages: 0,
             failed: 0,
             began,
-            told: 0,
+            last_printed: 0,
         }
     }
 
@@ -59,8 +59,8 @@ impl Progress {
             return;
         };
         let seconds = passed.as_secs();
-        if seconds > self.told {
-            self.told = seconds;
+        if seconds > self.last_printed {
+            self.last_printed = seconds;
             let pages = self.pages;
             let rate = pages.checked_div(seconds).unwrap_or(pages);
             let _ = eprintln!(rt; "{pages} pages, {rate} a second");

@@ -1,3 +1,3 @@
 pub mod Faults
 pub mod Listed
-pub mod Told
+pub mod LackingCalls

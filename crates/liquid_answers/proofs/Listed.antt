@@ -10,14 +10,14 @@ use Rattle.liquid_model.specs.View.{items_view, view}
 use Rattle.liquid_model.specs.declared.value.Value.{Value}
 use Rattle.liquid_jekyll_host_filters.specs.Json.{json_items, json_list, json_text}
 use Rattle.liquid_answers.specs.Answering.{IsShort}
-use Rattle.liquid_answers.specs.Lacking.{AreTold, IsLacking}
+use Rattle.liquid_answers.specs.Lacking.{AreLackingCalls, IsLacking}
 use Rattle.liquid_answers.specs.Tables.{answer_at}
 use Rattle.liquid_answers.specs.declared.answers.Answers.{Answers}
 use Rattle.liquid_answers.specs.declared.lacking.Lacking.{Lacking}
 use Rattle.liquid_answers.specs.declared.lacking.Listed.{Listed}
-use Rattle.liquid_answers.specs.declared.page.Answered.TheVariants as answered
+use Rattle.liquid_answers.specs.declared.answered_page.Answered.TheVariants as answered
 use Rattle.liquid_answers.specs.inside.Listed.{AreListed, IsAfter, IsNone, comma_after}
-use Rattle.liquid_answers.proofs.Told.{told_more, told_none}
+use Rattle.liquid_answers.proofs.LackingCalls.{lacking_calls_more, lacking_calls_none}
 
 -- there is a call
 pub not_none : (n : ℕ) (b : Bool) → b ≡ (n == 0) → b ≡ false → 0 < n
@@ -76,7 +76,7 @@ room cs text is h = subst (λ t. length t ≤ 1048576) (closed cs text is) (subs
 
 pub listed_none : (table : Answers) (listed : Listed) → IsNone listed → AreListed table listed
 listed_none table listed is = record {
-  told = subst (AreTold table) (sym is.0) (told_none table);
+  lacking_calls = subst (AreLackingCalls table) (sym is.0) (lacking_calls_none table);
   text = is.1 ∙ ap (λ cs. codes "[" ++ json_items [] (items_view cs)) (sym is.0);
 }
 
@@ -85,7 +85,7 @@ pub listed_more : (table : Answers) (old new : Listed) (c : Value) → AreListed
     → string_bytes new.text ≡ string_bytes old.text ++ (comma_after old.calls.items ++ json_text (view c)) → length old.calls.items < 1000 → length (string_bytes old.text) < 1048576
     → IsAfter old.calls.items c → answer_at table (view c) ≡ None → AreListed table new
 listed_more table old new c listed calls text few short after lacks = record {
-  told = subst (AreTold table) (sym calls) (told_more table old.calls.items c listed.told few (room old.calls.items (string_bytes old.text) listed.text short) after lacks);
+  lacking_calls = subst (AreLackingCalls table) (sym calls) (lacking_calls_more table old.calls.items c listed.lacking_calls few (room old.calls.items (string_bytes old.text) listed.text short) after lacks);
   text = text ∙ text_snoc old.calls.items c (string_bytes old.text) listed.text ∙ ap (λ cs. codes "[" ++ json_items [] (items_view cs)) (sym calls);
 }
 
@@ -93,7 +93,7 @@ listed_more table old new c listed calls text few short after lacks = record {
 pub lacking_listed : (table : Answers) (listed : Listed) (it : Lacking) → AreListed table listed → 0 < length listed.calls.items
     → it.calls.items ≡ listed.calls.items → string_bytes it.text ≡ string_bytes listed.text ++ codes "]" → IsLacking table it
 lacking_listed table listed it are some calls text = (
-  subst (AreTold table) (sym calls) are.told,
+  subst (AreLackingCalls table) (sym calls) are.lacking_calls,
   subst (λ cs. 0 < length cs) (sym calls) some,
   text ∙ closed listed.calls.items (string_bytes listed.text) are.text ∙ ap (λ cs. json_list (items_view cs)) (sym calls),
 )

@@ -9,8 +9,8 @@ use Rattle.liquid_lib.specs.LimitedPages.{PageWithin}
 use Rattle.liquid_answers.specs.Lacking.{AreShort, IsLacking, calls_in}
 use Rattle.liquid_answers.specs.Tables.{answers_by}
 use Rattle.liquid_answers.specs.declared.answers.Answers.{Answers}
-use Rattle.liquid_answers.specs.declared.page.Answered.{Answered}
-use Rattle.liquid_answers.specs.declared.page.Answered.TheVariants as answered
+use Rattle.liquid_answers.specs.declared.answered_page.Answered.{Answered}
+use Rattle.liquid_answers.specs.declared.answered_page.Answered.TheVariants as answered
 
 -- The page over the table's answers. It doesn't end by `Memory`, as it would at a call that the
 -- table lacks, so the run met none. Or calls that the table lacks.

@@ -22,7 +22,7 @@ abbrev pub AreShort : List Value → Type 0
 AreShort calls = length (json_list (items_view (all_but_last calls))) ≤ 1048576
 
 -- the table lacks each, none is there twice, they are at most 1,000, and short
-pub record AreTold (table : Answers) (calls : List Value) : Type 0 where
+pub record AreLackingCalls (table : Answers) (calls : List Value) : Type 0 where
   pub lacking : AllByRecursion (λ call. answer_at table (view call) ≡ None) calls
   pub once : IsStrictlySortedBy (on view order) calls
   pub few : length calls ≤ 1000
@@ -33,5 +33,5 @@ calls_in it = it.calls.items
 
 -- there is such a call, and the text has them in JSON
 abbrev pub IsLacking : Answers → Lacking → Type 0
-IsLacking table it = AreTold table (calls_in it) × (0 < length (calls_in it))
+IsLacking table it = AreLackingCalls table (calls_in it) × (0 < length (calls_in it))
     × (string_bytes it.text ≡ json_text (array (items_view (calls_in it))))

@@ -35,7 +35,7 @@ impl Answer {
 }
 
 /// The fault by which a filter refuses.
-#[tactic(auto, using(crate::proofs::Faults::told_as))]
+#[tactic(auto, using(crate::proofs::Faults::faulted_as))]
 fn fault_of(alloc: Global, kind: ErrorKind, message: &str) -> Error
     ensures { Faulted {Y = Datum} result.kind (Err (as_fault kind)) }
 {

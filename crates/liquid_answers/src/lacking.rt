@@ -136,10 +136,10 @@ fn list_call(alloc: Global, listed: &mut Listed, table: &Answers, call: Value) -
 }
 
 /// Whether a call comes after the last of these.
-fn is_after(told: &[Value], call: &Value) -> bool
-    ensures { IsTrue result → IsAfter told.now call.now }
+fn is_after(calls: &[Value], call: &Value) -> bool
+    ensures { IsTrue result → IsAfter calls.now call.now }
 {
-    match told.last() {
+    match calls.last() {
         Some(last) => *last < *call,
         None => true,
     }

@@ -2,14 +2,14 @@
 //! one that the table lacks, there is no page, and the missing calls are listed.
 #![tactic(auto)]
 
+mod answered_page;
 mod answers;
 mod asked;
 mod filter;
 mod json;
 mod lacking;
-mod page;
 
+pub use answered_page::{Answered, render_page_answered};
 pub use answers::{Answer, Answers};
 pub use json::json_of;
 pub use lacking::Lacking;
-pub use page::{Answered, render_page_answered};

@@ -19,7 +19,7 @@ use Rattle.liquid_syntax.specs.Templates.{partials_of, tree_of}
 use Rattle.liquid_syntax.specs.declared.partials.Partials.{Partials}
 use Rattle.liquid_uses.specs.Covered.{SeesAlone}
 use Rattle.liquid_uses.specs.Paths.{paths_in}
-use Rattle.liquid_c.specs.Calls.{partials_behind}
+use Rattle.liquid_c.specs.Calls.{partials_of_handle}
 use Rattle.liquid_c.specs.declared.content.Content.{Content}
 use Rattle.liquid_c.specs.declared.content.Content.TheVariants as content
 use Rattle.liquid_c.specs.declared.refusal.Refusal.{Refusal}
@@ -54,16 +54,16 @@ PathsOver None nodes answer = answer ≡ Err OtherHandle
 
 abbrev pub IsAsking : Option Content → Option Content → Result Content Refusal → Type 0
 IsAsking (Some (content.Template t levels)) partials answer =
-    PathsOver (partials_behind partials) (tree_of t) answer
+    PathsOver (partials_of_handle partials) (tree_of t) answer
 IsAsking _ partials answer = answer ≡ Err OtherHandle
 
 -- ---- data with what is asked of them
 
--- the data behind a handle, which is empty where the handle holds nothing
-abbrev pub pairs_behind : Option Content → Option Pairs
-pairs_behind None = Some no_pairs
-pairs_behind (Some (content.Data d)) = Some (pairs_view d.entries)
-pairs_behind (Some _) = None
+-- the data in a handle, which is empty where the handle holds nothing
+abbrev pub pairs_of_handle : Option Content → Option Pairs
+pairs_of_handle None = Some no_pairs
+pairs_of_handle (Some (content.Data d)) = Some (pairs_view d.entries)
+pairs_of_handle (Some _) = None
 
 -- a copy of the data, completed;  or memory ran out
 abbrev pub Completes : UsesByName → Pairs → Result Content Refusal → Type 0
@@ -78,5 +78,5 @@ CompletesAny uses None answer = answer ≡ Err OtherHandle
 
 abbrev pub IsCompletion : Option Content → Option Content → Result Content Refusal → Type 0
 IsCompletion «data» (Some (content.Paths uses it)) answer =
-    CompletesAny uses (pairs_behind «data») answer
+    CompletesAny uses (pairs_of_handle «data») answer
 IsCompletion «data» _ answer = answer ≡ Err OtherHandle

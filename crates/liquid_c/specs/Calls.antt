@@ -1,4 +1,4 @@
--- What calls make of what lies behind their handles.
+-- What calls make of what their handles hold.
 use Rattle.std.specs.Prelude.{◌≡◌, ◌⊎◌, ℕ, List, [], Option, Some, None, Result, Ok, Err}
 use Rattle.std.specs.Prelude.{Bool, not, ◌&&◌, MatchBool, ⊤, if◌then◌else◌, nat_eq, nat_lt}
 use Rattle.std.specs.Str.{IsUtf8}
@@ -26,8 +26,8 @@ use Rattle.liquid_c.specs.Numbers.{number_of_refusal}
 use Rattle.liquid_c.specs.declared.content.Content.{Content}
 use Rattle.liquid_c.specs.declared.content.Content.TheVariants as content
 use Rattle.liquid_c.specs.declared.levels.TemplateLevels.{TemplateLevels}
-use Rattle.liquid_c.specs.declared.held.Held.{Held}
-use Rattle.liquid_c.specs.declared.held.Held.TheVariants.{Own, Shared}
+use Rattle.liquid_c.specs.declared.handle_content.HandleContent.{HandleContent}
+use Rattle.liquid_c.specs.declared.handle_content.HandleContent.TheVariants.{Own, Shared}
 use Rattle.liquid_c.specs.declared.refusal.Refusal.{Refusal}
 use Rattle.liquid_c.specs.declared.refusal.Refusal.TheVariants.{SharedHandle, NoText, OtherHandle}
 use Rattle.liquid_c.specs.declared.refusal.Refusal.TheVariants.{TooManyLevels}
@@ -71,22 +71,22 @@ ReadsData source _ = ⊥
 abbrev pub IsData : List ℕ → Result Content Refusal → Type 0
 IsData source answer = ForUtf8Text source (ReadsData source) answer
 
--- the data behind a handle, which is empty where the handle holds nothing
-abbrev pub data_behind : Option Content → Option (Map Datum)
-data_behind None = Some empty
-data_behind (Some (content.Data d)) = Some (map_held d)
-data_behind (Some _) = None
+-- the data in a handle, which is empty where the handle holds nothing
+abbrev pub data_of_handle : Option Content → Option (Map Datum)
+data_of_handle None = Some empty
+data_of_handle (Some (content.Data d)) = Some (map_held d)
+data_of_handle (Some _) = None
 
 -- likewise the partials
-abbrev pub partials_behind : Option Content → Option (List (Text × Nodes))
-partials_behind None = Some []
-partials_behind (Some (content.Partials p levels)) = Some (partials_of p)
-partials_behind (Some _) = None
+abbrev pub partials_of_handle : Option Content → Option (List (Text × Nodes))
+partials_of_handle None = Some []
+partials_of_handle (Some (content.Partials p levels)) = Some (partials_of p)
+partials_of_handle (Some _) = None
 
 -- the most levels that one of them reaches by itself
-abbrev pub levels_behind : Option Content → TemplateLevels
-levels_behind (Some (content.Partials p levels)) = levels
-levels_behind _ = no_levels
+abbrev pub levels_of_handle : Option Content → TemplateLevels
+levels_of_handle (Some (content.Partials p levels)) = levels
+levels_of_handle _ = no_levels
 
 -- the page of these nodes, unless memory ran out
 abbrev pub ShowsNodes : Nodes → ℕ → Map Datum → List (Text × Nodes)
@@ -128,8 +128,8 @@ has_limit bytes turns = not (nat_eq bytes 0 && nat_eq turns 0)
 abbrev pub IsRendering : ℕ → Bool → Option Content → Option Content → Option Content → ℕ
     → Result Content Refusal → Type 0
 IsRendering bound is_limited (Some (content.Template t levels)) «data» partials depth answer =
-    OfBoth (data_behind «data») (partials_behind partials)
-    (ShowsUnless (nat_lt bound (most_levels depth levels (levels_behind partials)))
+    OfBoth (data_of_handle «data») (partials_of_handle partials)
+    (ShowsUnless (nat_lt bound (most_levels depth levels (levels_of_handle partials)))
     is_limited (tree_of t) depth)
     answer
 IsRendering bound is_limited _ «data» partials depth answer = answer ≡ Err OtherHandle
@@ -144,7 +144,7 @@ bound_of asked = if nat_eq asked 0 then usual_levels else asked
 -- ---- a partial put in
 
 -- the handle holds these partials, of which one reaches so many levels
-abbrev pub Holds : Option Held → List (Text × Nodes) → TemplateLevels → Type 0
+abbrev pub Holds : Option HandleContent → List (Text × Nodes) → TemplateLevels → Type 0
 Holds (Some (Own (content.Partials p most))) trees levels =
     (partials_of p ≡ trees) × (most ≡ levels)
 Holds _ trees levels = ⊥
@@ -153,7 +153,7 @@ Holds _ trees levels = ⊥
 -- nothing changed;  the name is no text
 pub data InsertsPartial (old : Partials) (most : TemplateLevels) (name : List ℕ) (t : Template)
     (levels : TemplateLevels)
-    (number : ℕ) (partials template was : Option Held) : Type 0 where
+    (number : ℕ) (partials template was : Option HandleContent) : Type 0 where
   done : IsUtf8 name → number ≡ 0 → Holds partials (put_entry name (tree_of t) (partials_of old))
       (greater_of most levels) → template ≡ None →
       InsertsPartial old most name t levels number partials template was
@@ -164,7 +164,8 @@ pub data InsertsPartial (old : Partials) (most : TemplateLevels) (name : List �
       InsertsPartial old most name t levels number partials template was
 
 -- what is shared isn't changed, and doesn't move
-abbrev pub IsInsertion : Option Held → List ℕ → Option Held → ℕ → Option Held → Option Held → Type 0
+abbrev pub IsInsertion : Option HandleContent → List ℕ → Option HandleContent → ℕ
+    → Option HandleContent → Option HandleContent → Type 0
 IsInsertion (Some (Own (content.Partials p most))) name (Some (Own (content.Template t levels)))
     number
     partials template =

@@ -13,7 +13,7 @@ use Rattle.liquid_lib.specs.Pages.{page_view}
 use Rattle.liquid_answers.specs.Lacking.{IsLacking}
 use Rattle.liquid_answers.specs.Tables.{answers_by}
 use Rattle.liquid_answers.specs.declared.answers.Answers.{Answers}
-use Rattle.liquid_c.specs.Calls.{OfBoth, data_behind, levels_behind, partials_behind}
+use Rattle.liquid_c.specs.Calls.{OfBoth, data_of_handle, levels_of_handle, partials_of_handle}
 use Rattle.liquid_c.specs.Levels.{most_levels}
 use Rattle.liquid_c.specs.declared.content.Content.{Content}
 use Rattle.liquid_c.specs.declared.content.Content.TheVariants as content
@@ -43,7 +43,8 @@ ShowsUnlessDeep is_deep table nodes depth «data» partials answer =
 abbrev pub IsHosted : ℕ → Option Content → Option Content → Option Content → ℕ → Option Content
     → Result Content Refusal → Type 0
 IsHosted bound (Some (content.Template t levels)) «data» partials depth
-    (Some (content.Answers table)) answer = OfBoth (data_behind «data») (partials_behind partials)
-    (ShowsUnlessDeep (nat_lt bound (most_levels depth levels (levels_behind partials)))
+    (Some (content.Answers table)) answer =
+    OfBoth (data_of_handle «data») (partials_of_handle partials)
+    (ShowsUnlessDeep (nat_lt bound (most_levels depth levels (levels_of_handle partials)))
     table (tree_of t) depth) answer
 IsHosted bound template «data» partials depth table answer = answer ≡ Err OtherHandle

@@ -18,8 +18,8 @@ use Rattle.liquid_lib.specs.Standard.{with_filters}
 use Rattle.liquid_c.specs.Numbers.{number_of_refusal}
 use Rattle.liquid_c.specs.declared.content.Content.{Content}
 use Rattle.liquid_c.specs.declared.content.Content.TheVariants as content
-use Rattle.liquid_c.specs.declared.held.Held.{Held}
-use Rattle.liquid_c.specs.declared.held.Held.TheVariants.{Own, Shared}
+use Rattle.liquid_c.specs.declared.handle_content.HandleContent.{HandleContent}
+use Rattle.liquid_c.specs.declared.handle_content.HandleContent.TheVariants.{Own, Shared}
 use Rattle.liquid_c.specs.declared.refusal.Refusal.{Refusal}
 use Rattle.liquid_c.specs.declared.refusal.Refusal.TheVariants.{SharedHandle, NoText, OtherHandle}
 
@@ -51,13 +51,13 @@ abbrev pub IsSameLanguage : Language → Language → Type 0
 IsSameLanguage old new = (new.tags ≡ old.tags) × (new.blocks ≡ old.blocks)
     × (registered_in new.filters ≡ registered_in old.filters)
 
-abbrev pub HoldsLanguage : (Language → Type 0) → Option Held → Type 0
+abbrev pub HoldsLanguage : (Language → Type 0) → Option HandleContent → Type 0
 HoldsLanguage P (Some (Own (content.Language l))) = P l
 HoldsLanguage P _ = ⊥
 
 -- the filter stands in the language;  memory ran out, and nothing changed;  the name is no text
 pub data RegistersFilter (old : Language) (name : List ℕ) (least most number : ℕ)
-    (left : Option Held) : Type 0 where
+    (left : Option HandleContent) : Type 0 where
   done : IsUtf8 name → number ≡ 0 → HoldsLanguage (IsWith name least most old) left →
       RegistersFilter old name least most number left
   refused : IsUtf8 name → number ≡ number_of Memory → HoldsLanguage (IsSameLanguage old) left →
@@ -65,7 +65,8 @@ pub data RegistersFilter (old : Language) (name : List ℕ) (least most number :
   no_text : (IsUtf8 name → ⊥) → number ≡ number_of_refusal NoText →
       HoldsLanguage (IsSameLanguage old) left → RegistersFilter old name least most number left
 
-abbrev pub IsRegistration : Option Held → List ℕ → ℕ → ℕ → ℕ → Option Held → Type 0
+abbrev pub IsRegistration : Option HandleContent → List ℕ → ℕ → ℕ → ℕ
+    → Option HandleContent → Type 0
 IsRegistration (Some (Own (content.Language l))) name least most number left =
     RegistersFilter l name least most number left
 IsRegistration (Some (Shared c)) name least most number left =

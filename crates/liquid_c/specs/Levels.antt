@@ -13,7 +13,7 @@ use Rattle.liquid_syntax.specs.declared.node.Node.TheVariants.{If, Unless, Captu
 use Rattle.liquid_syntax.specs.declared.node.Node.TheVariants.{TableRow, IfChanged}
 use Rattle.liquid_syntax.specs.declared.node.Node.TheVariants.{Include, JekyllInclude, Render}
 use Rattle.liquid_syntax.specs.declared.node.Node.TheVariants.{RenderEach}
-use Rattle.liquid_syntax.specs.declared.node.TwoBodies.{TwoBodies}
+use Rattle.liquid_syntax.specs.declared.node.BodyEnds.{BodyEnds}
 use Rattle.liquid_c.specs.declared.levels.TemplateLevels.{TemplateLevels}
 use Rattle.liquid_c.specs.declared.levels.Open.{Open}
 
@@ -37,7 +37,7 @@ abbrev pub left_by_elsif : ℕ → ℕ → List Open → List Open
 left_by_elsif at end [] = []
 left_by_elsif at end (o ∷ os) = cond (has_else o at end) os (o ∷ os)
 
--- those that are open behind the node there
+-- those that are open after the node there
 abbrev pub opened : ℕ → Node → List Open → List Open
 opened at (If condition bodies) os =
     block bodies.first_end bodies.last_end (left_by_elsif at bodies.last_end os)

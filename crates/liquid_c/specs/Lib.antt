@@ -8,6 +8,6 @@ pub mod Named
 pub mod Numbers
 pub mod Owned
 pub mod Parts
-pub mod Settled
+pub mod ResultStored
 pub mod Shared
 pub mod Tables

@@ -12,7 +12,7 @@ use Rattle.liquid_evaluation.specs.Names.{mentioned, run_names}
 use Rattle.liquid_evaluation.specs.Tree.{Nodes}
 use Rattle.liquid_syntax.specs.NameSets.{mentioned_in_set as held_names}
 use Rattle.liquid_syntax.specs.Templates.{tree_of}
-use Rattle.liquid_c.specs.Calls.{partials_behind}
+use Rattle.liquid_c.specs.Calls.{partials_of_handle}
 use Rattle.liquid_c.specs.declared.content.Content.{Content}
 use Rattle.liquid_c.specs.declared.content.Content.TheVariants as content
 use Rattle.liquid_c.specs.declared.refusal.Refusal.{Refusal}
@@ -36,5 +36,5 @@ OfPartials None nodes answer = answer ≡ Err OtherHandle
 
 abbrev pub IsNames : Option Content → Option Content → Result Content Refusal → Type 0
 IsNames (Some (content.Template t levels)) partials answer =
-    OfPartials (partials_behind partials) (tree_of t) answer
+    OfPartials (partials_of_handle partials) (tree_of t) answer
 IsNames _ partials answer = answer ≡ Err OtherHandle

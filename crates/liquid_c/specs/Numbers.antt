@@ -1,4 +1,4 @@
--- The numbers that calls answer, and what a caller reads behind a handle.
+-- The numbers that calls answer, and what a caller reads from a handle.
 use Rattle.std.specs.Prelude.{ℕ, Option, Some, None, [], string_bytes}
 use Rattle.liquid_model.specs.Texts.{Text}
 use Rattle.liquid_model.specs.ErrorKinds.{number_of}
@@ -33,13 +33,13 @@ number_of_content (content.Lacking calls) = 106
 number_of_content c = number_of_fault (content_fault c)
 
 -- the text of a page, or of calls, names or paths in JSON
-abbrev pub text_behind : Content → Text
-text_behind (content.Page p) = string_bytes p.text
-text_behind (content.Ended p limit) = string_bytes p.text
-text_behind (content.Lacking calls) = string_bytes calls.text
-text_behind (content.Names names) = string_bytes names
-text_behind (content.Paths uses paths) = string_bytes paths
-text_behind _ = []
+abbrev pub text_of_handle : Content → Text
+text_of_handle (content.Page p) = string_bytes p.text
+text_of_handle (content.Ended p limit) = string_bytes p.text
+text_of_handle (content.Lacking calls) = string_bytes calls.text
+text_of_handle (content.Names names) = string_bytes names
+text_of_handle (content.Paths uses paths) = string_bytes paths
+text_of_handle _ = []
 
 -- a call that can't be: bytes that are no UTF-8, a handle of another kind, a run that could reach
 -- too many levels, no call of the number, and a change of what is shared

@@ -1,4 +1,4 @@
--- What a caller reads behind a handle, part by part.
+-- What a caller reads from a handle, part by part.
 --     part_in part held      the part of this number; empty where there is none
 use Rattle.std.specs.Prelude.{ℕ, Option, Some, None, [], String, nat_eq, if◌then◌else◌, option_map}
 use Rattle.std.specs.Prelude.{string_bytes}
@@ -9,7 +9,7 @@ use Rattle.liquid_model.specs.declared.error.Error.{Error}
 use Rattle.liquid_model.specs.declared.location.Location.{Location}
 use Rattle.liquid_model.specs.declared.location.Origin.{Origin}
 use Rattle.liquid_model.specs.declared.location.Origin.TheVariants.{Template, Partial, Data}
-use Rattle.liquid_c.specs.Numbers.{content_fault, text_behind}
+use Rattle.liquid_c.specs.Numbers.{content_fault, text_of_handle}
 use Rattle.liquid_c.specs.declared.content.Content.{Content}
 
 abbrev pub message_bytes : Option (String Global) → Text
@@ -36,12 +36,13 @@ abbrev pub part_of_faults : ℕ → Option Error → Text
 part_of_faults part None = []
 part_of_faults part (Some e) = part_of_fault part e
 
-abbrev pub part_behind : ℕ → Content → Text
-part_behind part h = if nat_eq part 0 then text_behind h else part_of_faults part (content_fault h)
+abbrev pub part_of_handle : ℕ → Content → Text
+part_of_handle part h =
+    if nat_eq part 0 then text_of_handle h else part_of_faults part (content_fault h)
 
 abbrev pub part_in : ℕ → Option Content → Text
 part_in part None = []
-part_in part (Some h) = part_behind part h
+part_in part (Some h) = part_of_handle part h
 
 -- ---- where a fault stands
 

@@ -20,8 +20,8 @@ use Rattle.liquid_answers.specs.declared.answers.Answers.{Answers}
 use Rattle.liquid_c.specs.Numbers.{number_of_refusal}
 use Rattle.liquid_c.specs.declared.content.Content.{Content}
 use Rattle.liquid_c.specs.declared.content.Content.TheVariants as content
-use Rattle.liquid_c.specs.declared.held.Held.{Held}
-use Rattle.liquid_c.specs.declared.held.Held.TheVariants.{Own, Shared}
+use Rattle.liquid_c.specs.declared.handle_content.HandleContent.{HandleContent}
+use Rattle.liquid_c.specs.declared.handle_content.HandleContent.TheVariants.{Own, Shared}
 use Rattle.liquid_c.specs.declared.refusal.Refusal.{Refusal}
 use Rattle.liquid_c.specs.declared.refusal.Refusal.TheVariants.{NoSuchCall}
 use Rattle.liquid_c.specs.declared.refusal.Refusal.TheVariants.{SharedHandle, NoText, OtherHandle}
@@ -32,8 +32,8 @@ IsNewTable (Ok (content.Answers table)) = (filter_names table ≡ []) ×
     ((call : Datum) → answer_at table call ≡ None)
 IsNewTable _ = ⊥
 
--- the table behind the handle is such a one
-abbrev pub HoldsTable : (Answers → Type 0) → Option Held → Type 0
+-- the table in the handle is such a one
+abbrev pub HoldsTable : (Answers → Type 0) → Option HandleContent → Type 0
 HoldsTable P (Some (Own (content.Answers table))) = P table
 HoldsTable P _ = ⊥
 
@@ -44,7 +44,7 @@ IsSameTable old new = (filter_names new ≡ filter_names old)
 
 -- the table changed as R says;  or memory ran out, and nothing changed
 pub data ChangesTable (R : Answers → Answers → Type 0) (old : Answers) (number : ℕ)
-    (left : Option Held) : Type 0 where
+    (left : Option HandleContent) : Type 0 where
   done : number ≡ 0 → HoldsTable (R old) left → ChangesTable R old number left
   refused : number ≡ number_of Memory → HoldsTable (IsSameTable old) left →
       ChangesTable R old number left
@@ -56,7 +56,7 @@ abbrev pub HasName : Text → Answers → Answers → Type 0
 HasName name old new = (filter_names new ≡ with_name name (filter_names old))
     × ((call : Datum) → answer_at new call ≡ answer_at old call)
 
-abbrev pub IsNaming : Option Held → List ℕ → ℕ → Option Held → Type 0
+abbrev pub IsNaming : Option HandleContent → List ℕ → ℕ → Option HandleContent → Type 0
 IsNaming (Some (Own (content.Answers table))) name number left =
     (IsUtf8 name × ChangesTable (HasName name) table number left)
     ⊎ ((IsUtf8 name → ⊥) × (number ≡ number_of_refusal NoText)
@@ -68,15 +68,15 @@ IsNaming old name number left = (number ≡ number_of_refusal OtherHandle) × (l
 -- ---- answers
 
 -- how many calls a handle holds
-abbrev pub calls_behind : Option Content → ℕ
-calls_behind (Some (content.Lacking it)) = length (calls_in it)
-calls_behind _ = 0
+abbrev pub calls_of_handle : Option Content → ℕ
+calls_of_handle (Some (content.Lacking it)) = length (calls_in it)
+calls_of_handle _ = 0
 
 -- the call of this number, or why there is none
-abbrev pub call_behind : ℕ → Option Content → Result Datum Refusal
-call_behind number (Some (content.Lacking it)) =
+abbrev pub call_of_handle : ℕ → Option Content → Result Datum Refusal
+call_of_handle number (Some (content.Lacking it)) =
     ok_or (option_map view (slice_get (calls_in it) number)) NoSuchCall
-call_behind number _ = Err OtherHandle
+call_of_handle number _ = Err OtherHandle
 
 abbrev pub answer_or_nil : Option Datum → Datum
 answer_or_nil None = nil
@@ -87,9 +87,9 @@ abbrev pub answer_among : Outer → Datum
 answer_among «data» = answer_or_nil (value_at (codes "answer") (pairs_view «data».entries))
 
 -- the answer that data hold
-abbrev pub answer_behind : Option Content → Result (Result Datum ErrorKind) Refusal
-answer_behind (Some (content.Data d)) = Ok (Ok (answer_among d))
-answer_behind _ = Err OtherHandle
+abbrev pub answer_of_handle : Option Content → Result (Result Datum ErrorKind) Refusal
+answer_of_handle (Some (content.Data d)) = Ok (Ok (answer_among d))
+answer_of_handle _ = Err OtherHandle
 
 -- the kind of this number among these, or `InvalidInput`
 abbrev pub kind_among : List ErrorKind → ℕ → ErrorKind
@@ -109,8 +109,8 @@ StoresAnswer call said old new = (answer : Answer) × (said_by answer ≡ said) 
     IsAnswerStored old call answer new
     × (filter_names new ≡ filter_names old)
 
-abbrev pub IsAnswering : Option Held → Result Datum Refusal
-    → Result (Result Datum ErrorKind) Refusal → ℕ → Option Held → Type 0
+abbrev pub IsAnswering : Option HandleContent → Result Datum Refusal
+    → Result (Result Datum ErrorKind) Refusal → ℕ → Option HandleContent → Type 0
 IsAnswering old (Err r) answer number left = (number ≡ number_of_refusal r) × (left ≡ old)
 IsAnswering old (Ok call) (Err r) number left = (number ≡ number_of_refusal r) × (left ≡ old)
 IsAnswering (Some (Own (content.Answers table))) (Ok call) (Ok said) number left =
@@ -121,7 +121,8 @@ IsAnswering old (Ok call) (Ok said) number left =
     (number ≡ number_of_refusal OtherHandle) × (left ≡ old)
 
 -- an answer of a kind, where the message is a text
-abbrev pub IsRefusing : Option Held → Result Datum Refusal → ℕ → List ℕ → ℕ → Option Held → Type 0
+abbrev pub IsRefusing : Option HandleContent → Result Datum Refusal → ℕ → List ℕ → ℕ
+    → Option HandleContent → Type 0
 IsRefusing old call kind message number left =
     (IsUtf8 message
     × IsAnswering old call (Ok (Err (kind_among kinds_of_runs kind))) number left)

@@ -7,16 +7,16 @@ ghost use Rattle.liquid_model.specs.View.{view};
 ghost use Rattle.liquid_model.specs.declared.error.ErrorKind.{ErrorKind};
 ghost use Rattle.liquid_answers.specs.Tables.{said_by};
 ghost use Rattle.liquid_c.specs.Tables.{ChangesTable, Given, IsAnswering, IsRefusing, StoresAnswer};
-ghost use Rattle.liquid_c.specs.Tables.{answer_among, answer_behind, call_behind, calls_behind};
-ghost use Rattle.liquid_c.specs.Tables.{kind_among, kinds_of_runs};
+ghost use Rattle.liquid_c.specs.Tables.{answer_among, answer_of_handle, call_of_handle};
+ghost use Rattle.liquid_c.specs.Tables.{calls_of_handle, kind_among, kinds_of_runs};
 ghost use Rattle.liquid_c.specs.Shared.{Regaining, shared_content};
 ghost use Rattle.liquid_c.specs.declared.content.Content.TheVariants as content;
-ghost use Rattle.liquid_c.specs.declared.held.Held.TheVariants.{Own};
+ghost use Rattle.liquid_c.specs.declared.handle_content.HandleContent.TheVariants.{Own};
 ghost use Rattle.liquid_c.specs.declared.refusal.Refusal.{Refusal};
 
 use crate::content::Content;
 use crate::handle::Handle;
-use crate::held::{Held, seen};
+use crate::handle_content::{HandleContent, seen};
 use crate::refusal::Refusal;
 use liquid_answers::{Answer, Answers};
 use liquid_core::{ErrorKind, Object, Value, look_up};
@@ -45,7 +45,7 @@ const KINDS: [ErrorKind; 16] = [
 /// How many calls a handle holds; 0 where it holds something else.
 #[unsafe(no_mangle)]
 pub extern "C" fn bikleinu_calls(alloc: Global, calls: &mut Handle) -> usize
-    ensures count { result ≡ calls_behind (shared_content calls.old.held) }
+    ensures count { result ≡ calls_of_handle (shared_content calls.old.held) }
     ensures same { calls.new.held ≡ calls.old.held }
 {
     let held = calls.take(alloc);
@@ -55,7 +55,7 @@ pub extern "C" fn bikleinu_calls(alloc: Global, calls: &mut Handle) -> usize
 }
 
 fn count_seen(held: Option<&Content>) -> usize
-    ensures { result ≡ calls_behind (option_map (λ h. h.now) held.entry) }
+    ensures { result ≡ calls_of_handle (option_map (λ h. h.now) held.entry) }
 {
     match held {
         Some(Content::Lacking(calls)) => calls.len(),
@@ -74,8 +74,8 @@ pub extern "C" fn bikleinu_answer(
     data: &mut Handle,
 ) -> u32
     ensures answered { Regaining (λ was. IsAnswering was
-        (call_behind number (shared_content calls.old.held))
-        (answer_behind (shared_content «data».old.held))
+        (call_of_handle number (shared_content calls.old.held))
+        (answer_of_handle (shared_content «data».old.held))
         result answers.new.held) answers.old.held }
     ensures calls { calls.new.held ≡ calls.old.held }
     ensures data { «data».new.held ≡ «data».old.held }
@@ -105,7 +105,7 @@ pub extern "C" fn bikleinu_refuse(
     message: &[u8],
 ) -> u32
     ensures answered { Regaining (λ was. IsRefusing was
-        (call_behind number (shared_content calls.old.held)) kind message.now
+        (call_of_handle number (shared_content calls.old.held)) kind message.now
         result answers.new.held) answers.old.held }
     ensures calls { calls.new.held ≡ calls.old.held }
 {
@@ -118,11 +118,11 @@ pub extern "C" fn bikleinu_refuse(
     status
 }
 
-/// Puts a fault as the answer to a call into the table behind a handle, where its message is a
+/// Puts a fault as the answer to a call into the table that a handle holds, where its message is a
 /// text.
 fn refuse(
     alloc: Global,
-    held: &mut Option<Box<Held>>,
+    held: &mut Option<Box<HandleContent>>,
     call: Result<&Value, Refusal>,
     kind: u32,
     message: &[u8],
@@ -137,10 +137,10 @@ fn refuse(
     }
 }
 
-/// The call of a number behind a handle.
+/// The call of a number in a handle.
 fn call_seen(held: Option<&Content>, number: usize) -> Result<&Value, Refusal>
     ensures { result_map_both (λ c. view c.now) (λ r. r) result ≡
-        call_behind number (option_map (λ h. h.now) held.entry) }
+        call_of_handle number (option_map (λ h. h.now) held.entry) }
 {
     match held {
         Some(Content::Lacking(calls)) => match calls.get(number) {
@@ -151,9 +151,9 @@ fn call_seen(held: Option<&Content>, number: usize) -> Result<&Value, Refusal>
     }
 }
 
-/// The answer that the data behind a handle have, or none where there is no room for it.
+/// The answer that the data in a handle have, or none where there is no room for it.
 fn answer_seen(alloc: Global, held: Option<&Content>) -> Result<Option<Answer>, Refusal>
-    ensures { Given result (answer_behind (option_map (λ h. h.now) held.entry)) }
+    ensures { Given result (answer_of_handle (option_map (λ h. h.now) held.entry)) }
 {
     match held {
         Some(Content::Data(data)) => Ok(answer_in(alloc, data)),
@@ -195,10 +195,10 @@ fn kind_of(kinds: &[ErrorKind], number: u32) -> ErrorKind
     ErrorKind::InvalidInput
 }
 
-/// Puts an answer to a call into the table behind a handle.
+/// Puts an answer to a call into the table that a handle holds.
 fn put(
     alloc: Global,
-    held: &mut Option<Box<Held>>,
+    held: &mut Option<Box<HandleContent>>,
     call: Result<&Value, Refusal>,
     answer: Result<Option<Answer>, Refusal>,
 ) -> u32
@@ -217,8 +217,8 @@ fn put(
     };
     match held {
         Some(held) => match &mut **held {
-            Held::Own(Content::Answers(table)) => put_answer(alloc, table, call, answer),
-            Held::Shared(_) => Refusal::SharedHandle.number(),
+            HandleContent::Own(Content::Answers(table)) => put_answer(alloc, table, call, answer),
+            HandleContent::Shared(_) => Refusal::SharedHandle.number(),
             _ => Refusal::OtherHandle.number(),
         },
         None => Refusal::OtherHandle.number(),

@@ -4,14 +4,14 @@ ghost use Rattle.liquid_model.specs.Texts.{Text};
 ghost use Rattle.liquid_evaluation.specs.Tree.{Nodes};
 ghost use Rattle.liquid_syntax.specs.Templates.{partials_of, tree_of};
 ghost use Rattle.liquid_c.specs.Asked.{ArePaths, Covers, IsAsking, PathsOver, TellsPaths};
-ghost use Rattle.liquid_c.specs.Settled.{Settled};
+ghost use Rattle.liquid_c.specs.ResultStored.{ResultStored};
 ghost use Rattle.liquid_c.specs.Shared.{shared_content};
 
 use crate::content::Content;
 use crate::handle::Handle;
-use crate::held::seen;
+use crate::handle_content::seen;
 use crate::named::list_of;
-use crate::refusal::{Refusal, settle};
+use crate::refusal::{Refusal, store_result};
 use crate::render::partials_held;
 use liquid_answers::json_of;
 use liquid_core::{ErrorKind, Result as Answer, Uses};
@@ -28,7 +28,7 @@ pub extern "C" fn bikleinu_paths(
     partials: &mut Handle,
     made: &mut Handle,
 ) -> u32
-    ensures asked { Settled (IsAsking (shared_content template.old.held)
+    ensures asked { ResultStored (IsAsking (shared_content template.old.held)
         (shared_content partials.old.held)) result
         made.new.held }
     ensures template { template.new.held ≡ template.old.held }
@@ -39,7 +39,7 @@ pub extern "C" fn bikleinu_paths(
     let answer = asked(alloc, seen(&held_template), seen(&held_partials));
     template.put(alloc, held_template);
     partials.put(alloc, held_partials);
-    settle(alloc, answer, made)
+    store_result(alloc, answer, made)
 }
 
 fn asked(
@@ -69,7 +69,7 @@ fn asked_over(
         return Err(Refusal::OtherHandle);
     };
     match covering(alloc, template, partials) {
-        Ok(uses) => Ok(told(alloc, uses)),
+        Ok(uses) => Ok(paths_content(alloc, uses)),
         Err(fault) => Ok(Content::Fault(fault)),
     }
 }
@@ -82,7 +82,7 @@ fn covering(alloc: Global, template: &Template, partials: &Partials) -> Answer<U
 }
 
 /// The uses with their paths.
-fn told(alloc: Global, uses: Uses) -> Content
+fn paths_content(alloc: Global, uses: Uses) -> Content
     ensures { (partials : List (Text × Nodes)) (nodes : Nodes) → Covers partials nodes uses →
         TellsPaths partials nodes (Ok result) }
 {

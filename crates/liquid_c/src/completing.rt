@@ -6,13 +6,13 @@ ghost use Rattle.liquid_model.specs.Data.{no_pairs};
 ghost use Rattle.liquid_model.specs.UseViews.{members_view};
 ghost use Rattle.liquid_model.specs.View.{pairs_view};
 ghost use Rattle.liquid_c.specs.Asked.{Completes, CompletesAny, IsCompletion};
-ghost use Rattle.liquid_c.specs.Settled.{Settled};
+ghost use Rattle.liquid_c.specs.ResultStored.{ResultStored};
 ghost use Rattle.liquid_c.specs.Shared.{shared_content};
 
 use crate::content::Content;
 use crate::handle::Handle;
-use crate::held::seen;
-use crate::refusal::{Refusal, settle};
+use crate::handle_content::seen;
+use crate::refusal::{Refusal, store_result};
 use liquid_completion::complete;
 use liquid_core::{Object, Result as Answer, Uses};
 use std::alloc::Global;
@@ -28,7 +28,7 @@ pub extern "C" fn bikleinu_complete(
     paths: &mut Handle,
     made: &mut Handle,
 ) -> u32
-    ensures completed { Settled (IsCompletion (shared_content «data».old.held)
+    ensures completed { ResultStored (IsCompletion (shared_content «data».old.held)
         (shared_content paths.old.held))
         result made.new.held }
     ensures data { «data».new.held ≡ «data».old.held }
@@ -39,7 +39,7 @@ pub extern "C" fn bikleinu_complete(
     let answer = completion(alloc, seen(&held_data), seen(&held_paths));
     data.put(alloc, held_data);
     paths.put(alloc, held_paths);
-    settle(alloc, answer, made)
+    store_result(alloc, answer, made)
 }
 
 fn completion(

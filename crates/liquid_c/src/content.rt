@@ -1,6 +1,6 @@
 //! What calls make.
 ghost use Rattle.std.specs.Prelude.{◌≡◌, option_map};
-ghost use Rattle.liquid_c.specs.Numbers.{content_fault, text_behind};
+ghost use Rattle.liquid_c.specs.Numbers.{content_fault, text_of_handle};
 ghost use Rattle.liquid_c.specs.Numbers.{number_of_fault, number_of_content, number_of_limit};
 
 use crate::levels::TemplateLevels;
@@ -46,7 +46,7 @@ impl Content {
 
     /// The text of a page, or of calls, names or paths in JSON.
     pub(crate) fn text(&self) -> &str
-        ensures { result.now ≡ text_behind self.now }
+        ensures { result.now ≡ text_of_handle self.now }
     {
         match self {
             Content::Page(page) => page.text.as_str(),

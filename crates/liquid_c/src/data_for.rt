@@ -1,13 +1,13 @@
 //! Data that are read as far as a template asks for them.
 ghost use Rattle.std.specs.Prelude.{◌≡◌, Ok, option_map};
 ghost use Rattle.liquid_c.specs.DataFor.{IsDataFor, ReadsFor};
-ghost use Rattle.liquid_c.specs.Settled.{Settled};
+ghost use Rattle.liquid_c.specs.ResultStored.{ResultStored};
 ghost use Rattle.liquid_c.specs.Shared.{shared_content};
 
 use crate::content::Content;
 use crate::handle::Handle;
-use crate::held::seen;
-use crate::refusal::{Refusal, settle};
+use crate::handle_content::seen;
+use crate::refusal::{Refusal, store_result};
 use liquid_core::Uses;
 use liquid_json::data_for;
 use std::alloc::Global;
@@ -23,14 +23,14 @@ pub extern "C" fn bikleinu_data_for(
     paths: &mut Handle,
     made: &mut Handle,
 ) -> u32
-    ensures read { Settled (IsDataFor source.now (shared_content paths.old.held)) result
+    ensures read { ResultStored (IsDataFor source.now (shared_content paths.old.held)) result
         made.new.held }
     ensures paths { paths.new.held ≡ paths.old.held }
 {
     let held = paths.take(alloc);
     let answer = data_asked(alloc, source, seen(&held));
     paths.put(alloc, held);
-    settle(alloc, answer, made)
+    store_result(alloc, answer, made)
 }
 
 fn data_asked(alloc: Global, source: &[u8], paths: Option<&Content>) -> Result<Content, Refusal>

@@ -3,22 +3,22 @@ ghost use Rattle.std.specs.Prelude.{◌≡◌, Option, Some, None, option_map};
 ghost use Rattle.std.specs.Coded.{coded_option};
 ghost use Rattle.liquid_c.specs.Owned.{held_code, owned};
 ghost use Rattle.liquid_c.specs.Shared.{Regained};
-ghost use Rattle.liquid_c.specs.declared.held.Held.{Held};
+ghost use Rattle.liquid_c.specs.declared.handle_content.HandleContent.{HandleContent};
 
-use crate::held::{Held, regain};
-use crate::kept::Kept;
+use crate::handle_content::{HandleContent, regain};
+use crate::raw_box::RawBox;
 use std::alloc::Global;
 use std::marker::Model;
 use std::mem;
 
-/// A place in the caller's memory that holds nothing or owns what lies behind it. A caller in C
+/// A place in the caller's memory that holds nothing or owns what it points to. A caller in C
 /// begins with one whose bytes are all 0, which holds nothing, and copies none.
 #[repr(C)]
 pub struct Handle {
     there: bool,
     at: *mut (),
     alloc: Global,
-    ghost held: { Option Held } by { coded_option held_code },
+    ghost held: { Option HandleContent } by { coded_option held_code },
 }
 
 impl Model for Handle {
@@ -38,16 +38,16 @@ impl Handle {
     }
 
     /// A handle on what the box holds.
-    pub(crate) fn of(held: Box<Held>) -> Handle
+    pub(crate) fn of(held: Box<HandleContent>) -> Handle
         ensures { result.held ≡ Some held.value }
     {
-        Handle::seal(Kept::of(held))
+        Handle::seal(RawBox::of(held))
     }
 
-    fn seal(held: Kept<Held, Global>) -> Handle
+    fn seal(held: RawBox<HandleContent, Global>) -> Handle
         ensures { result.held ≡ Some held.value }
     {
-        let Kept { ptr, alloc } = held;
+        let RawBox { ptr, alloc } = held;
         Handle {
             there: true,
             at: ptr as *mut (),
@@ -55,13 +55,13 @@ impl Handle {
         }
     }
 
-    fn unseal(self) -> Option<Kept<Held, Global>>
+    fn unseal(self) -> Option<RawBox<HandleContent, Global>>
         ensures { option_map (λ k. k.value) result ≡ self.held }
     {
         let Handle { there, at, alloc } = self;
         if there {
-            Some(Kept {
-                ptr: at as *mut Held,
+            Some(RawBox {
+                ptr: at as *mut HandleContent,
                 alloc,
             })
         } else {
@@ -69,7 +69,7 @@ impl Handle {
         }
     }
 
-    fn into_box(self) -> Option<Box<Held>>
+    fn into_box(self) -> Option<Box<HandleContent>>
         ensures { option_map (λ b. b.value) result ≡ self.held }
     {
         match self.unseal() {
@@ -79,7 +79,7 @@ impl Handle {
     }
 
     /// Takes out what the handle holds, so that a call can use it. It takes no memory.
-    pub(crate) fn take(&mut self, alloc: Global) -> Option<Box<Held>>
+    pub(crate) fn take(&mut self, alloc: Global) -> Option<Box<HandleContent>>
         ensures taken { option_map (λ b. b.value) result ≡ self.old.held }
         ensures left { self.new.held ≡ None }
     {
@@ -88,7 +88,7 @@ impl Handle {
 
     /// The same for a call that changes it: what was shared is the handle's own again, where no
     /// other handle has it any more.
-    pub(crate) fn take_to_change(&mut self, alloc: Global) -> Option<Box<Held>>
+    pub(crate) fn take_to_change(&mut self, alloc: Global) -> Option<Box<HandleContent>>
         ensures taken { Regained self.old.held (option_map (λ b. b.value) result) }
         ensures left { self.new.held ≡ None }
     {
@@ -98,7 +98,7 @@ impl Handle {
     }
 
     /// Puts in what the handle is to hold. It takes no memory.
-    pub(crate) fn put(&mut self, alloc: Global, held: Option<Box<Held>>)
+    pub(crate) fn put(&mut self, alloc: Global, held: Option<Box<HandleContent>>)
         ensures { self.new.held ≡ option_map (λ b. b.value) held }
     {
         let handle = match held {

@@ -4,13 +4,13 @@ ghost use Rattle.liquid_core.specs.Held.{held as map_held};
 ghost use Rattle.liquid_syntax.specs.Templates.{partials_of, tree_of};
 ghost use Rattle.liquid_c.specs.Calls.{OfBoth, bound_of};
 ghost use Rattle.liquid_c.specs.Hosted.{IsHosted, ShowsAnswered, ShowsUnlessDeep};
-ghost use Rattle.liquid_c.specs.Settled.{Settled};
+ghost use Rattle.liquid_c.specs.ResultStored.{ResultStored};
 ghost use Rattle.liquid_c.specs.Shared.{shared_content};
 
 use crate::content::Content;
 use crate::handle::Handle;
-use crate::held::seen;
-use crate::refusal::{Refusal, settle};
+use crate::handle_content::seen;
+use crate::refusal::{Refusal, store_result};
 use crate::render::{
     Allowed, RenderLimits, allowed_by, data_held, empty_data, levels_held, limits_of, partials_held,
 };
@@ -33,7 +33,7 @@ pub extern "C" fn bikleinu_render_with(
     answers: &mut Handle,
     made: &mut Handle,
 ) -> u32
-    ensures rendered { Settled (IsHosted (bound_of limits.now.levels)
+    ensures rendered { ResultStored (IsHosted (bound_of limits.now.levels)
         (shared_content template.old.held)
         (shared_content «data».old.held) (shared_content partials.old.held) depth
         (shared_content answers.old.held))
@@ -50,7 +50,7 @@ pub extern "C" fn bikleinu_render_with(
     let held_answers = answers.take(alloc);
     let answer = page(
         alloc,
-        Lent {
+        CallContents {
             template: seen(&held_template),
             data: seen(&held_data),
             partials: seen(&held_partials),
@@ -62,41 +62,45 @@ pub extern "C" fn bikleinu_render_with(
     data.put(alloc, held_data);
     partials.put(alloc, held_partials);
     answers.put(alloc, held_answers);
-    settle(alloc, answer, made)
+    store_result(alloc, answer, made)
 }
 
-/// What lies behind the handles of a call.
+/// What the handles of a call hold.
 #[derive(Clone, Copy, Drop)]
-struct Lent<'h> {
+struct CallContents<'h> {
     template: Option<&'h Content>,
     data: Option<&'h Content>,
     partials: Option<&'h Content>,
     answers: Option<&'h Content>,
 }
 
-fn page(alloc: Global, lent: Lent<'_>, allowed: Allowed) -> Result<Content, Refusal>
+fn page(alloc: Global, contents: CallContents<'_>, allowed: Allowed) -> Result<Content, Refusal>
     ensures { IsHosted allowed.levels
-        (option_map (λ h. h.now) lent.entry.template)
-        (option_map (λ h. h.now) lent.entry.«data»)
-        (option_map (λ h. h.now) lent.entry.partials)
+        (option_map (λ h. h.now) contents.entry.template)
+        (option_map (λ h. h.now) contents.entry.«data»)
+        (option_map (λ h. h.now) contents.entry.partials)
         allowed.depth
-        (option_map (λ h. h.now) lent.entry.answers) result }
+        (option_map (λ h. h.now) contents.entry.answers) result }
 {
-    let Some(Content::Template(template, levels)) = lent.template else {
+    let Some(Content::Template(template, levels)) = contents.template else {
         return Err(Refusal::OtherHandle);
     };
-    let Some(Content::Answers(table)) = lent.answers else {
+    let Some(Content::Answers(table)) = contents.answers else {
         return Err(Refusal::OtherHandle);
     };
     let no_data = empty_data(alloc);
     let no_partials = Partials::new(alloc);
-    let is_deep = levels.pass(levels_held(lent.partials), allowed.depth, allowed.levels);
+    let is_deep = levels.pass(
+        levels_held(contents.partials),
+        allowed.depth,
+        allowed.levels,
+    );
     shown(
         alloc,
         Hosted { template, table },
         is_deep,
-        data_held(lent.data, &no_data),
-        partials_held(lent.partials, &no_partials),
+        data_held(contents.data, &no_data),
+        partials_held(contents.partials, &no_partials),
         allowed,
     )
 }

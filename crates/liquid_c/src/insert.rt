@@ -3,13 +3,13 @@ ghost use Rattle.std.specs.Prelude.{◌≡◌, Some, IsSome, IsTrue, option_map}
 ghost use Rattle.liquid_model.specs.Maps.{listed};
 ghost use Rattle.liquid_syntax.specs.Templates.{partials_of, slots_of};
 ghost use Rattle.liquid_c.specs.declared.content.Content.TheVariants as content;
-ghost use Rattle.liquid_c.specs.declared.held.Held.TheVariants.{Own};
+ghost use Rattle.liquid_c.specs.declared.handle_content.HandleContent.TheVariants.{Own};
 ghost use Rattle.liquid_c.specs.Calls.{IsInsertion};
 ghost use Rattle.liquid_c.specs.Shared.{RegainingBoth};
 
 use crate::content::Content;
 use crate::handle::Handle;
-use crate::held::Held;
+use crate::handle_content::HandleContent;
 use crate::levels::TemplateLevels;
 use crate::refusal::Refusal;
 use liquid_core::ErrorKind;
@@ -40,10 +40,10 @@ pub extern "C" fn bikleinu_insert(
 /// Puts it there, and answers the number with what is left of the template.
 fn put(
     alloc: Global,
-    partials: &mut Option<Box<Held>>,
+    partials: &mut Option<Box<HandleContent>>,
     name: &[u8],
-    template: Option<Box<Held>>,
-) -> (u32, Option<Box<Held>>)
+    template: Option<Box<HandleContent>>,
+) -> (u32, Option<Box<HandleContent>>)
     ensures { IsInsertion (option_map (λ b. b.value) partials.old) name.now
         (option_map (λ b. b.value) template)
         result.0 (option_map (λ b. b.value) partials.new) (option_map (λ b. b.value) result.1) }
@@ -53,8 +53,8 @@ fn put(
     };
     match partials {
         Some(held) => match &mut **held {
-            Held::Own(content) => put_into(alloc, content, name, template),
-            Held::Shared(_) => (Refusal::SharedHandle.number(), Some(template)),
+            HandleContent::Own(content) => put_into(alloc, content, name, template),
+            HandleContent::Shared(_) => (Refusal::SharedHandle.number(), Some(template)),
         },
         None => (Refusal::OtherHandle.number(), Some(template)),
     }
@@ -64,8 +64,8 @@ fn put_into(
     alloc: Global,
     content: &mut Content,
     name: &[u8],
-    template: Box<Held>,
-) -> (u32, Option<Box<Held>>)
+    template: Box<HandleContent>,
+) -> (u32, Option<Box<HandleContent>>)
     ensures { IsInsertion (Some (Own content.old)) name.now (Some template.value) result.0
         (Some (Own content.new)) (option_map (λ b. b.value) result.1) }
 {
@@ -93,15 +93,15 @@ fn put_template(
     partials: &mut Partials,
     most: &mut TemplateLevels,
     name: &[u8],
-    template: Box<Held>,
-) -> (u32, Option<Box<Held>>)
+    template: Box<HandleContent>,
+) -> (u32, Option<Box<HandleContent>>)
     ensures { IsInsertion (Some (Own (content.Partials partials.old most.old))) name.now
         (Some template.value) result.0 (Some (Own (content.Partials partials.new most.new)))
         (option_map (λ b. b.value) result.1) }
 {
     match &*template {
-        Held::Own(Content::Template(_, _)) => {}
-        Held::Shared(_) => return (Refusal::SharedHandle.number(), Some(template)),
+        HandleContent::Own(Content::Template(_, _)) => {}
+        HandleContent::Shared(_) => return (Refusal::SharedHandle.number(), Some(template)),
         _ => return (Refusal::OtherHandle.number(), Some(template)),
     }
     let Ok(name) = str::from_utf8(name) else {
@@ -111,7 +111,7 @@ fn put_template(
         return (u32::from(ErrorKind::Memory.number()), Some(template));
     }
     match Box::into_inner(template) {
-        Held::Own(Content::Template(template, levels)) => {
+        HandleContent::Own(Content::Template(template, levels)) => {
             drop(partials.exchange(name, Some(template)));
             *most = most.greater_of(levels);
             (0, None)

@@ -1,7 +1,7 @@
 //! The engine for C: every public function here is exported, and `include/bikleinu.h` tells a
 //! caller in C what it needs.
 //!
-//! What a call makes lies behind a handle, which the caller holds and frees. A call that gets a
+//! What a call makes is held by a handle, which the caller keeps and frees. A call that gets a
 //! handle of another kind than it needs, or bytes that are no UTF-8, says so by its number and
 //! changes nothing else.
 #![tactic(auto)]
@@ -10,16 +10,16 @@ mod answering;
 mod asked;
 mod completing;
 mod content;
+mod create_and_free;
 mod data_for;
 mod handle;
-mod held;
+mod handle_content;
 mod hosted;
 mod insert;
-mod kept;
 mod levels;
-mod make;
 mod named;
 mod parse;
+mod raw_box;
 mod read;
 mod refusal;
 mod register;

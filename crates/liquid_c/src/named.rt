@@ -6,13 +6,13 @@ ghost use Rattle.liquid_model.specs.Data.{array, text};
 ghost use Rattle.liquid_model.specs.View.{items_of, view};
 ghost use Rattle.liquid_syntax.specs.Templates.{partials_of, tree_of};
 ghost use Rattle.liquid_c.specs.Named.{AreNames, IsNames, OfPartials};
-ghost use Rattle.liquid_c.specs.Settled.{Settled};
+ghost use Rattle.liquid_c.specs.ResultStored.{ResultStored};
 ghost use Rattle.liquid_c.specs.Shared.{shared_content};
 
 use crate::content::Content;
 use crate::handle::Handle;
-use crate::held::seen;
-use crate::refusal::{Refusal, settle};
+use crate::handle_content::seen;
+use crate::refusal::{Refusal, store_result};
 use crate::render::partials_held;
 use liquid_answers::json_of;
 use liquid_core::{ErrorKind, Result as Answer, Value};
@@ -29,7 +29,7 @@ pub extern "C" fn bikleinu_names(
     partials: &mut Handle,
     made: &mut Handle,
 ) -> u32
-    ensures named { Settled (IsNames (shared_content template.old.held)
+    ensures named { ResultStored (IsNames (shared_content template.old.held)
         (shared_content partials.old.held)) result
         made.new.held }
     ensures template { template.new.held ≡ template.old.held }
@@ -40,7 +40,7 @@ pub extern "C" fn bikleinu_names(
     let answer = names(alloc, seen(&held_template), seen(&held_partials));
     template.put(alloc, held_template);
     partials.put(alloc, held_partials);
-    settle(alloc, answer, made)
+    store_result(alloc, answer, made)
 }
 
 fn names(
@@ -69,13 +69,13 @@ fn named(
     let Some(partials) = partials else {
         return Err(Refusal::OtherHandle);
     };
-    match told(alloc, template, partials) {
+    match names_text(alloc, template, partials) {
         Ok(text) => Ok(Content::Names(text)),
         Err(fault) => Ok(Content::Fault(fault)),
     }
 }
 
-fn told(alloc: Global, template: &Template, partials: &Partials) -> Answer<String>
+fn names_text(alloc: Global, template: &Template, partials: &Partials) -> Answer<String>
     ensures names { IfOk result (λ it. AreNames (partials_of partials.now) (tree_of template.now)
         (string_bytes it)) }
     ensures memory { IfErr result (λ e. e.kind ≡ ErrorKind.Memory) }

@@ -1,15 +1,15 @@
 //! Templates from their sources.
 ghost use Rattle.std.specs.Prelude.{◌≡◌, Ok, option_map};
 ghost use Rattle.liquid_c.specs.Calls.{IsParse, ParsesSource};
-ghost use Rattle.liquid_c.specs.Settled.{Settled};
+ghost use Rattle.liquid_c.specs.ResultStored.{ResultStored};
 ghost use Rattle.liquid_c.specs.Shared.{shared_content};
 
 use crate::content::Content;
 use crate::handle::Handle;
-use crate::held::seen;
+use crate::handle_content::seen;
 use crate::levels::levels_in;
-use crate::refusal::{Refusal, settle};
-use liquid_lib::{Language, parse_kept};
+use crate::refusal::{Refusal, store_result};
+use liquid_lib::{Language, parse_with_source};
 use std::alloc::Global;
 
 /// Parses a source in a language. 0, or the number of the fault that `made` then has: a kind of a
@@ -22,14 +22,14 @@ pub extern "C" fn bikleinu_parse(
     source: &[u8],
     made: &mut Handle,
 ) -> u32
-    ensures parsed { Settled (IsParse (shared_content language.old.held) source.now) result
+    ensures parsed { ResultStored (IsParse (shared_content language.old.held) source.now) result
         made.new.held }
     ensures same { language.new.held ≡ language.old.held }
 {
     let held = language.take(alloc);
     let answer = template(alloc, seen(&held), source);
     language.put(alloc, held);
-    settle(alloc, answer, made)
+    store_result(alloc, answer, made)
 }
 
 fn template(alloc: Global, language: Option<&Content>, source: &[u8]) -> Result<Content, Refusal>
@@ -48,7 +48,7 @@ fn template(alloc: Global, language: Option<&Content>, source: &[u8]) -> Result<
 fn parsed(alloc: Global, source: &str, language: &Language) -> Content
     ensures { ParsesSource language.now source.now (Ok result) }
 {
-    match parse_kept(alloc, source, language) {
+    match parse_with_source(alloc, source, language) {
         Ok(template) => match levels_in(alloc, template.nodes()) {
             Ok(levels) => Content::Template(template, levels),
             Err(refused) => Content::Fault(refused),

@@ -1,17 +1,17 @@
-//! What a caller reads behind a handle.
+//! What a caller reads from a handle.
 ghost use Rattle.std.specs.Prelude.{◌≡◌, ◌++◌, drop, length, min, option_map, take};
 ghost use Rattle.liquid_c.specs.Parts.{located, location_in, location_of_fault, message_bytes};
-ghost use Rattle.liquid_c.specs.Parts.{number_of_origin, part_in, part_behind, part_of_fault};
+ghost use Rattle.liquid_c.specs.Parts.{number_of_origin, part_in, part_of_handle, part_of_fault};
 ghost use Rattle.liquid_c.specs.Parts.{partial_of_location};
 ghost use Rattle.liquid_c.specs.Shared.{shared_content};
 
 use crate::content::Content;
 use crate::handle::Handle;
-use crate::held::seen;
+use crate::handle_content::seen;
 use liquid_core::{Error, Location, Origin};
 use std::alloc::Global;
 
-/// How many bytes a part has of what lies behind the handle: 0 is the text of a page, 1 the message
+/// How many bytes a part has of what the handle holds: 0 is the text of a page, 1 the message
 /// of a fault or of a page's, 2 the name of its kind, 3 the name of the partial that it stands in.
 /// Without such a part, and of any other number, 0.
 #[unsafe(no_mangle)]
@@ -46,7 +46,7 @@ pub extern "C" fn bikleinu_copy(
     count
 }
 
-/// Where the fault behind the handle stands, in line and column. The answer is in which text: 1 the
+/// Where the fault in the handle stands, in line and column. The answer is in which text: 1 the
 /// template, 2 a partial, 3 the data, and 0 where that isn't known; then line and column stay as
 /// they were.
 #[unsafe(no_mangle)]
@@ -93,7 +93,7 @@ fn part_seen(held: Option<&Content>, part: u32) -> &str
 }
 
 fn part_held(held: &Content, part: u32) -> &str
-    ensures { result.now ≡ part_behind part held.now }
+    ensures { result.now ≡ part_of_handle part held.now }
 {
     if part == 0 {
         return held.text();

@@ -1,11 +1,11 @@
 //! What a call answers.
 ghost use Rattle.std.specs.Prelude.{◌≡◌};
 ghost use Rattle.liquid_c.specs.Numbers.{number_of_refusal};
-ghost use Rattle.liquid_c.specs.Settled.{Settles};
+ghost use Rattle.liquid_c.specs.ResultStored.{StoresResult};
 
 use crate::content::Content;
 use crate::handle::Handle;
-use crate::held::Held;
+use crate::handle_content::HandleContent;
 use liquid_core::ErrorKind;
 use std::alloc::Global;
 
@@ -39,10 +39,14 @@ impl Refusal {
     }
 }
 
-/// Puts what a call made behind the handle, in place of what it held, and answers its number. Where
+/// Puts what a call made into the handle, in place of what it held, and answers its number. Where
 /// there is no room for it, the handle holds nothing and the answer is `Memory`.
-pub(crate) fn settle(alloc: Global, answer: Result<Content, Refusal>, made: &mut Handle) -> u32
-    ensures { Settles answer result made.new.held }
+pub(crate) fn store_result(
+    alloc: Global,
+    answer: Result<Content, Refusal>,
+    made: &mut Handle,
+) -> u32
+    ensures { StoresResult answer result made.new.held }
 {
     let content = match answer {
         Ok(content) => content,
@@ -52,7 +56,7 @@ pub(crate) fn settle(alloc: Global, answer: Result<Content, Refusal>, made: &mut
         }
     };
     let number = content.number();
-    match Box::new(alloc, Held::Own(content)) {
+    match Box::new(alloc, HandleContent::Own(content)) {
         Ok(held) => {
             made.put(alloc, Some(held));
             number

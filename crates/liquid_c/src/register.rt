@@ -2,16 +2,16 @@
 ghost use Rattle.std.specs.Prelude.{◌≡◌, IfErr, IfOk, option_map};
 ghost use Rattle.liquid_c.specs.Languages.{IsRegistration, MakesIncludeAndSort, RegistersFilter};
 ghost use Rattle.liquid_c.specs.Languages.{WithIncludeAndSort};
-ghost use Rattle.liquid_c.specs.Settled.{Settled};
+ghost use Rattle.liquid_c.specs.ResultStored.{ResultStored};
 ghost use Rattle.liquid_c.specs.Shared.{Regaining};
 ghost use Rattle.std.specs.Prelude.{Some};
 ghost use Rattle.liquid_c.specs.declared.content.Content.TheVariants as content;
-ghost use Rattle.liquid_c.specs.declared.held.Held.TheVariants.{Own};
+ghost use Rattle.liquid_c.specs.declared.handle_content.HandleContent.TheVariants.{Own};
 
 use crate::content::Content;
 use crate::handle::Handle;
-use crate::held::Held;
-use crate::refusal::{Refusal, settle};
+use crate::handle_content::HandleContent;
+use crate::refusal::{Refusal, store_result};
 use liquid_core::{ErrorKind, Result as Answer};
 use liquid_lib::{FilterKind, Language, jekyll, language};
 use liquid_syntax::TagKind;
@@ -20,9 +20,9 @@ use std::alloc::Global;
 /// Makes Jekyll's language: the standard one with Jekyll's `include` and `sort`. 0, or `Memory`.
 #[unsafe(no_mangle)]
 pub extern "C" fn bikleinu_jekyll_language(alloc: Global, made: &mut Handle) -> u32
-    ensures { Settled MakesIncludeAndSort result made.new.held }
+    ensures { ResultStored MakesIncludeAndSort result made.new.held }
 {
-    settle(alloc, include_and_sort(alloc), made)
+    store_result(alloc, include_and_sort(alloc), made)
 }
 
 fn include_and_sort(alloc: Global) -> Result<Content, Refusal>
@@ -63,14 +63,14 @@ pub extern "C" fn bikleinu_register(
         language.old.held }
 {
     let mut held = language.take_to_change(alloc);
-    let number = register_behind(alloc, &mut held, name, least, most);
+    let number = register_in_handle(alloc, &mut held, name, least, most);
     language.put(alloc, held);
     number
 }
 
-fn register_behind(
+fn register_in_handle(
     alloc: Global,
-    held: &mut Option<Box<Held>>,
+    held: &mut Option<Box<HandleContent>>,
     name: &[u8],
     least: usize,
     most: usize,
@@ -80,10 +80,10 @@ fn register_behind(
 {
     match held {
         Some(held) => match &mut **held {
-            Held::Own(Content::Language(language)) => {
+            HandleContent::Own(Content::Language(language)) => {
                 register(alloc, language, name, least, most)
             }
-            Held::Shared(_) => Refusal::SharedHandle.number(),
+            HandleContent::Shared(_) => Refusal::SharedHandle.number(),
             _ => Refusal::OtherHandle.number(),
         },
         None => Refusal::OtherHandle.number(),

@@ -4,16 +4,16 @@ ghost use Rattle.liquid_model.specs.Maps.{empty};
 ghost use Rattle.liquid_core.specs.Held.{held as map_held};
 ghost use Rattle.liquid_syntax.specs.Templates.{partials_of, tree_of};
 ghost use Rattle.liquid_c.specs.Calls.{IsRendering, OfBoth, ShowsNodes, ShowsUnless, ShowsWithin};
-ghost use Rattle.liquid_c.specs.Calls.{bound_of, data_behind, has_limit, levels_behind};
-ghost use Rattle.liquid_c.specs.Calls.{partials_behind, usual_levels};
-ghost use Rattle.liquid_c.specs.Settled.{Settled};
+ghost use Rattle.liquid_c.specs.Calls.{bound_of, data_of_handle, has_limit, levels_of_handle};
+ghost use Rattle.liquid_c.specs.Calls.{partials_of_handle, usual_levels};
+ghost use Rattle.liquid_c.specs.ResultStored.{ResultStored};
 ghost use Rattle.liquid_c.specs.Shared.{shared_content};
 
 use crate::content::Content;
 use crate::handle::Handle;
-use crate::held::seen;
+use crate::handle_content::seen;
 use crate::levels::TemplateLevels;
-use crate::refusal::{Refusal, settle};
+use crate::refusal::{Refusal, store_result};
 use liquid_core::Object;
 use liquid_lib::{LimitedPage, Partials, Template, render_page, render_page_within};
 use std::alloc::Global;
@@ -64,7 +64,7 @@ pub extern "C" fn bikleinu_render(
     depth: u32,
     made: &mut Handle,
 ) -> u32
-    ensures rendered { Settled
+    ensures rendered { ResultStored
         (IsRendering usual_levels false (shared_content template.old.held)
         (shared_content «data».old.held)
         (shared_content partials.old.held) depth)
@@ -80,7 +80,7 @@ pub extern "C" fn bikleinu_render(
         turns: 0,
     };
     let answer = rendered(alloc, template, data, partials, allowed);
-    settle(alloc, answer, made)
+    store_result(alloc, answer, made)
 }
 
 /// The same, within limits of the caller's. A page that the limit on bytes ended answers 104, and
@@ -95,7 +95,7 @@ pub extern "C" fn bikleinu_render_within(
     limits: &RenderLimits,
     made: &mut Handle,
 ) -> u32
-    ensures rendered { Settled
+    ensures rendered { ResultStored
         (IsRendering (bound_of limits.now.levels) (has_limit limits.now.bytes limits.now.turns)
         (shared_content template.old.held) (shared_content «data».old.held)
         (shared_content partials.old.held) depth)
@@ -106,7 +106,7 @@ pub extern "C" fn bikleinu_render_within(
 {
     let allowed = allowed_by(depth, limits);
     let answer = rendered(alloc, template, data, partials, allowed);
-    settle(alloc, answer, made)
+    store_result(alloc, answer, made)
 }
 
 /// What these limits allow.
@@ -130,7 +130,7 @@ fn bound_of(asked: u32) -> u32
     if asked == 0 { USUAL_LEVELS } else { asked }
 }
 
-/// What rendering comes to with what lies behind the handles, which hold it again.
+/// What rendering comes to with what the handles hold, which hold it again.
 fn rendered(
     alloc: Global,
     template: &mut Handle,
@@ -284,11 +284,11 @@ pub(crate) fn empty_data(alloc: Global) -> Object
     BTreeMap::new(alloc)
 }
 
-/// The data behind a handle, or none where it holds something else.
+/// The data that a handle holds, or none where it holds something else.
 pub(crate) fn data_held<'a>(held: Option<&'a Content>, none: &'a Object) -> Option<&'a Object>
     requires { map_held none.now ≡ empty }
     ensures { option_map (λ d. map_held d.now) result ≡
-        data_behind (option_map (λ h. h.now) held.entry) }
+        data_of_handle (option_map (λ h. h.now) held.entry) }
 {
     match held {
         None => Some(none),
@@ -297,14 +297,14 @@ pub(crate) fn data_held<'a>(held: Option<&'a Content>, none: &'a Object) -> Opti
     }
 }
 
-/// The partials behind a handle, or none where it holds something else.
+/// The partials that a handle holds, or none where it holds something else.
 pub(crate) fn partials_held<'a>(
     held: Option<&'a Content>,
     none: &'a Partials,
 ) -> Option<&'a Partials>
     requires { partials_of none.now ≡ [] }
     ensures { option_map (λ p. partials_of p.now) result ≡
-        partials_behind (option_map (λ h. h.now) held.entry) }
+        partials_of_handle (option_map (λ h. h.now) held.entry) }
 {
     match held {
         None => Some(none),
@@ -313,9 +313,9 @@ pub(crate) fn partials_held<'a>(
     }
 }
 
-/// The most levels that one of the partials behind a handle reaches by itself.
+/// The most levels that one of the partials that a handle holds reaches by itself.
 pub(crate) fn levels_held(held: Option<&Content>) -> TemplateLevels
-    ensures { result ≡ levels_behind (option_map (λ h. h.now) held.entry) }
+    ensures { result ≡ levels_of_handle (option_map (λ h. h.now) held.entry) }
 {
     match held {
         Some(Content::Partials(_, levels)) => *levels,

@@ -5,7 +5,7 @@ ghost use Rattle.liquid_c.specs.Shared.{HandsOut, IsSharing, Shares, shared_cont
 
 use crate::content::Content;
 use crate::handle::Handle;
-use crate::held::{Held, blank};
+use crate::handle_content::{HandleContent, blank};
 use crate::refusal::Refusal;
 use liquid_core::ErrorKind;
 use std::alloc::Global;
@@ -30,39 +30,39 @@ pub extern "C" fn bikleinu_share(alloc: Global, handle: &mut Handle, made: &mut 
 }
 
 /// Shares what an owner holds with a handle that holds nothing.
-fn share(alloc: Global, held: &mut Held, made: &mut Handle) -> u32
+fn share(alloc: Global, held: &mut HandleContent, made: &mut Handle) -> u32
     requires { made.now.held ≡ None }
     ensures { Shares (content_of held.old) result (Some held.new) made.new.held }
 {
     let was = mem::replace(held, blank(alloc));
     *held = shared(alloc, was);
     match held {
-        Held::Shared(content) => match Arc::try_clone(content) {
+        HandleContent::Shared(content) => match Arc::try_clone(content) {
             Ok(content) => hand_out(alloc, content, made),
             Err(_) => u32::from(ErrorKind::Memory.number()),
         },
-        Held::Own(_) => u32::from(ErrorKind::Memory.number()),
+        HandleContent::Own(_) => u32::from(ErrorKind::Memory.number()),
     }
 }
 
 /// The same content, shared where there was room for that.
-fn shared(alloc: Global, held: Held) -> Held
+fn shared(alloc: Global, held: HandleContent) -> HandleContent
     ensures { content_of result ≡ content_of held }
 {
     match held {
-        Held::Own(content) => match Arc::new(alloc, content) {
-            Ok(content) => Held::Shared(content),
-            Err(refused) => Held::Own(refused.value),
+        HandleContent::Own(content) => match Arc::new(alloc, content) {
+            Ok(content) => HandleContent::Shared(content),
+            Err(refused) => HandleContent::Own(refused.value),
         },
-        Held::Shared(content) => Held::Shared(content),
+        HandleContent::Shared(content) => HandleContent::Shared(content),
     }
 }
 
-/// Puts what is shared behind a handle.
+/// Puts what is shared into a handle.
 fn hand_out(alloc: Global, content: Arc<Content>, made: &mut Handle) -> u32
     ensures { HandsOut (arc_value content) result made.new.held }
 {
-    match Box::new(alloc, Held::Shared(content)) {
+    match Box::new(alloc, HandleContent::Shared(content)) {
         Ok(held) => {
             made.put(alloc, Some(held));
             0

@@ -1,15 +1,15 @@
 //! Tables of answers to calls of the caller's filters.
 ghost use Rattle.std.specs.Prelude.{◌≡◌, Some, option_map};
-ghost use Rattle.liquid_c.specs.Settled.{Settled};
+ghost use Rattle.liquid_c.specs.ResultStored.{ResultStored};
 ghost use Rattle.liquid_c.specs.Shared.{Regaining};
 ghost use Rattle.liquid_c.specs.Tables.{ChangesTable, HasName, IsNaming, IsNewTable};
 ghost use Rattle.liquid_c.specs.declared.content.Content.TheVariants as content;
-ghost use Rattle.liquid_c.specs.declared.held.Held.TheVariants.{Own};
+ghost use Rattle.liquid_c.specs.declared.handle_content.HandleContent.TheVariants.{Own};
 
 use crate::content::Content;
 use crate::handle::Handle;
-use crate::held::Held;
-use crate::refusal::{Refusal, settle};
+use crate::handle_content::HandleContent;
+use crate::refusal::{Refusal, store_result};
 use liquid_answers::Answers;
 use liquid_core::ErrorKind;
 use std::alloc::Global;
@@ -17,9 +17,9 @@ use std::alloc::Global;
 /// Makes a table without names of filters and without answers. 0, or `Memory`.
 #[unsafe(no_mangle)]
 pub extern "C" fn bikleinu_answers(alloc: Global, made: &mut Handle) -> u32
-    ensures { Settled IsNewTable result made.new.held }
+    ensures { ResultStored IsNewTable result made.new.held }
 {
-    settle(alloc, new_table(alloc), made)
+    store_result(alloc, new_table(alloc), made)
 }
 
 fn new_table(alloc: Global) -> Result<Content, Refusal>
@@ -34,22 +34,22 @@ pub extern "C" fn bikleinu_answers_filter(alloc: Global, answers: &mut Handle, n
     ensures { Regaining (λ was. IsNaming was name.now result answers.new.held) answers.old.held }
 {
     let mut held = answers.take_to_change(alloc);
-    let number = add_behind(alloc, &mut held, name);
+    let number = add_to_handle(alloc, &mut held, name);
     answers.put(alloc, held);
     number
 }
 
-fn add_behind(alloc: Global, held: &mut Option<Box<Held>>, name: &[u8]) -> u32
+fn add_to_handle(alloc: Global, held: &mut Option<Box<HandleContent>>, name: &[u8]) -> u32
     ensures { IsNaming (option_map (λ b. b.value) held.old) name.now result
         (option_map (λ b. b.value) held.new) }
 {
     match held {
         Some(held) => match &mut **held {
-            Held::Own(Content::Answers(table)) => match str::from_utf8(name) {
+            HandleContent::Own(Content::Answers(table)) => match str::from_utf8(name) {
                 Ok(name) => add_name(alloc, table, name),
                 Err(_) => Refusal::NoText.number(),
             },
-            Held::Shared(_) => Refusal::SharedHandle.number(),
+            HandleContent::Shared(_) => Refusal::SharedHandle.number(),
             _ => Refusal::OtherHandle.number(),
         },
         None => Refusal::OtherHandle.number(),

@@ -17,8 +17,8 @@ blanked text = encode_utf8_all (map blank_for (chars text))
 pub record IsBlanked (start count : ℕ) (old new : Text) : Type 0 where
   pub front : Text
   pub piece : Text
-  pub behind : Text
+  pub after : Text
   pub start_is : length front ≡ start
   pub count_is : length piece ≡ count
-  pub old_is : old ≡ front ++ (piece ++ behind)
-  pub new_is : new ≡ front ++ (blanked piece ++ behind)
+  pub old_is : old ≡ front ++ (piece ++ after)
+  pub new_is : new ≡ front ++ (blanked piece ++ after)

@@ -20,8 +20,8 @@ pub record Found : Type 0 where
   pub count : ℕ
   pub follows : Bool
 
--- A round: the source has no template, and why is told by a kind of those that a source is refused
--- with. Then the part has blanks.
+-- A round: the source has no template, and the kind says why: it is one of those that a source is
+-- refused with. Then the part has blanks.
 pub record IsRound (l : Language) (now : Text) (f : Found) (next : Text) : Type 0 where
   pub refused : HasNoTree l now
   pub of_source : IsOfSource f.kind

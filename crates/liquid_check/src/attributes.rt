@@ -1,9 +1,9 @@
 //! Outputs in the values of attributes that aren't escaped.
 ghost use Rattle.std.specs.Prelude.{◌≡◌, ◌≤◌, IfErr, IfOk, length};
 
+use crate::faulty_piece::past_piece;
 use crate::findings::MOST_FINDINGS;
 use crate::html_place::HtmlPlace;
-use crate::part::past_piece;
 use liquid_core::{ErrorKind, Expression, Location, Result};
 use liquid_language::Language;
 use liquid_lexer::{

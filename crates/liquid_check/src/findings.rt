@@ -4,8 +4,8 @@ ghost use Rattle.liquid_model.specs.ErrorKinds.{is_memory};
 ghost use Rattle.liquid_check.specs.Rounds.{AreFindings, IsSilentAboutTemplates};
 ghost use Rattle.liquid_check.specs.Views.{findings_view, template_view};
 
+use crate::faulty_piece::{Part, part_at};
 use crate::left_over::{LeftOver, Wrong};
-use crate::part::{Part, part_at};
 use liquid_core::{Error, ErrorKind, Result};
 use liquid_language::Language;
 use liquid_lexer::placed_piece;
@@ -110,7 +110,7 @@ fn part_of<'s>(
     language: &Language,
     fault: &Error,
 ) -> Result<Part<'s>>
-    ensures part { IfOk result (λ p. source.now ≡ p.front.now ++ (p.piece.now ++ p.behind.now)) }
+    ensures part { IfOk result (λ p. source.now ≡ p.front.now ++ (p.piece.now ++ p.after.now)) }
     ensures memory { IfErr result (λ e. e.kind ≡ ErrorKind.Memory) }
 {
     match &fault.location {
@@ -118,7 +118,7 @@ fn part_of<'s>(
         None => Ok(Part {
             front: "",
             piece: source,
-            behind: "",
+            after: "",
         }),
     }
 }

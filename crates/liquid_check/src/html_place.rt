@@ -5,7 +5,7 @@ ghost use Rattle.liquid_check.specs.HtmlPlaces.{after_open, after_output, after_
 ghost use Rattle.liquid_check.specs.HtmlPlaces.{is_blank, is_in_attribute, next_place};
 ghost use Rattle.liquid_check.specs.HtmlPlaces.{place_after};
 
-/// A place in a page of HTML. What stands in a script or a comment isn't told apart from the rest.
+/// A place in a page of HTML. What stands in a script or a comment is taken like the rest.
 #[derive(Clone, Copy, Debug, PartialEq, Eq)]
 pub enum HtmlPlace {
     /// Outside of tags.

@@ -1,5 +1,5 @@
 //! Ends and beginnings of blocks that are left over once a tag with a fault is text.
-use liquid_core::{ErrorKind, nearer};
+use liquid_core::{ErrorKind, more_similar};
 use liquid_language::{BlockKind, Language};
 use std::alloc::{AllocError, Global};
 
@@ -111,7 +111,7 @@ impl<'s> LeftOver<'s> {
         let mut found = None;
         for (place, begun) in self.begun.iter().enumerate() {
             let is_unknown = begun.kind.is_none() && begun.start > start;
-            if found.is_none() && is_unknown && is_near(alloc, end, begun.name)? {
+            if found.is_none() && is_unknown && is_similar(alloc, end, begun.name)? {
                 found = Some(place);
             }
         }
@@ -131,11 +131,11 @@ impl<'s> LeftOver<'s> {
 
 impl Begun<'_> {
     /// Whether a tag of this name may end the block: its own end, or of a name that isn't known the
-    /// end of a block of this name or one near to it.
+    /// end of a block of this name or one similar to it.
     fn ends_by(&self, alloc: Global, end: &str) -> Result<bool, AllocError> {
         match (self.kind, end.get(3..)) {
             (Some(kind), _) => Ok(end == end_of(kind)),
-            (None, Some(name)) => Ok(name == self.name || is_near(alloc, name, self.name)?),
+            (None, Some(name)) => Ok(name == self.name || is_similar(alloc, name, self.name)?),
             (None, None) => Ok(false),
         }
     }
@@ -146,7 +146,7 @@ impl Begun<'_> {
         for (kind, name) in blocks {
             let is_it = match self.kind {
                 Some(known) => known == *kind,
-                None => is_near(alloc, name, self.name)?,
+                None => is_similar(alloc, name, self.name)?,
             };
             if is_it {
                 return Ok(true);
@@ -157,8 +157,8 @@ impl Begun<'_> {
 }
 
 /// Whether a name may be another one, misspelt.
-fn is_near(alloc: Global, name: &str, meant: &str) -> Result<bool, AllocError> {
-    Ok(nearer(alloc, name, meant, None)?.is_some())
+fn is_similar(alloc: Global, name: &str, meant: &str) -> Result<bool, AllocError> {
+    Ok(more_similar(alloc, name, meant, None)?.is_some())
 }
 
 /// Whether a name is meant as the end of a block.

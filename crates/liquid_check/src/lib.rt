@@ -4,11 +4,11 @@
 
 mod asked;
 mod attributes;
+mod faulty_piece;
 mod findings;
 mod html_place;
 mod left_over;
 mod otherwise;
-mod part;
 
 pub use asked::{Asked, asked_paths};
 pub use attributes::unescaped_attributes;

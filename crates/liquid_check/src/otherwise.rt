@@ -2,8 +2,8 @@
 ghost use Rattle.std.specs.Prelude.{◌≡◌, ◌≤◌, IfErr, IfOk, length};
 ghost use Rattle.liquid_check.specs.Otherwise.{has_items};
 
+use crate::faulty_piece::past_piece;
 use crate::findings::MOST_FINDINGS;
-use crate::part::past_piece;
 use liquid_core::{ErrorKind, Location, Result};
 use liquid_language::Language;
 use liquid_lexer::{ParseError, Piece, location, past_byte, read_markup, text_before};

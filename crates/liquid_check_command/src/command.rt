@@ -19,7 +19,7 @@ pub fn check(rt: &HostRuntime, call: &CheckCall<'_>, language: &Language) -> Res
         let checked = checked_files(rt.alloc(), &files, &paths.files)?;
         warnings_of(rt.alloc(), &checked, given)?
     };
-    let mut counts = Counts::new(paths.unread);
+    let mut counts = Counts::new(paths.unreadable);
     print_files(rt, call, &files, warnings, &mut counts)?;
     print_counts(rt, counts)
 }
@@ -58,7 +58,7 @@ fn print_files(
     for (file, warnings) in files.iter().zip(warnings) {
         match file {
             File::Checked(checked) => print_file(rt, call.format, checked, warnings, counts)?,
-            File::Unread => counts.unread = counts.unread.saturating_add(1),
+            File::Unreadable => counts.unreadable = counts.unreadable.saturating_add(1),
             File::Binary => {}
         }
     }

@@ -36,7 +36,7 @@ pub(crate) enum File {
     /// It was found in a folder, and is no text.
     Binary,
     /// It can't be read, and that is reported.
-    Unread,
+    Unreadable,
 }
 
 /// Reads the templates of paths, and finds their faults. One that can't be read is reported.
@@ -59,7 +59,7 @@ fn read_file(rt: &HostRuntime, language: &Language, file: &CheckedPath) -> Resul
         Ok(None) => Ok(File::Binary),
         Err(stop) => {
             stop.passed_over(rt)?;
-            Ok(File::Unread)
+            Ok(File::Unreadable)
         }
     }
 }
@@ -70,7 +70,7 @@ fn read_text(rt: &HostRuntime, path: &str, is_found: bool) -> Result<Option<Stri
         Ok(bytes) => bytes,
         Err(refused) => {
             let reason = Reason::from(refused.kind());
-            return Err(Stop::unread(rt.alloc(), called(path), reason));
+            return Err(Stop::unreadable(rt.alloc(), called(path), reason));
         }
     };
     if is_found && bytes.contains(&0) {
@@ -113,7 +113,7 @@ impl File {
                 template: checked.template.as_ref(),
                 is_page,
             },
-            File::Binary | File::Unread => CheckedFile {
+            File::Binary | File::Unreadable => CheckedFile {
                 text: None,
                 template: None,
                 is_page,

@@ -23,7 +23,7 @@ pub(crate) struct Paths {
     /// The names of the partials, each with the place of its file.
     pub(crate) partials: PartialNames,
     /// How many words name nothing that can be read.
-    pub(crate) unread: usize,
+    pub(crate) unreadable: usize,
     /// The place of each path.
     places: BTreeMap<String, usize>,
 }
@@ -33,7 +33,7 @@ impl Drop for Paths {
         let Paths {
             files: _,
             partials: _,
-            unread: _,
+            unreadable: _,
             places: _,
         } = self;
     }
@@ -45,7 +45,7 @@ pub(crate) fn checked_paths(rt: &HostRuntime, call: &CheckCall<'_>) -> Result<Pa
     let mut paths = Paths {
         files: Vec::new(rt.alloc()),
         partials: PartialNames::new(rt.alloc()),
-        unread: 0,
+        unreadable: 0,
         places: BTreeMap::new(rt.alloc()),
     };
     paths.add_all(rt, call)?;
@@ -84,7 +84,7 @@ impl Paths {
         if files.is_empty() {
             let path = ShownPath { path: folder };
             let _ = eprintln!(rt; "error: {path}: there is no file in this folder");
-            self.unread = self.unread.saturating_add(1);
+            self.unreadable = self.unreadable.saturating_add(1);
         }
         for file in &files {
             let place = self.add_found(rt.alloc(), folder, file.as_str())?;
@@ -127,7 +127,7 @@ impl Paths {
             Ok(files) => Ok(Some(files)),
             Err(stop) => {
                 stop.passed_over(rt)?;
-                self.unread = self.unread.saturating_add(1);
+                self.unreadable = self.unreadable.saturating_add(1);
                 Ok(None)
             }
         }

@@ -15,17 +15,17 @@ pub(crate) struct Counts {
     faults: usize,
     warnings: usize,
     /// How many files and folders can't be read.
-    pub(crate) unread: usize,
+    pub(crate) unreadable: usize,
 }
 
 impl Counts {
     /// Nothing is found yet.
-    pub(crate) fn new(unread: usize) -> Counts {
+    pub(crate) fn new(unreadable: usize) -> Counts {
         Counts {
             files: 0,
             faults: 0,
             warnings: 0,
-            unread,
+            unreadable,
         }
     }
 
@@ -39,7 +39,7 @@ impl Counts {
 
     /// Whether no file has a fault, and each can be read.
     fn are_well(&self) -> bool {
-        self.faults == 0 && self.unread == 0
+        self.faults == 0 && self.unreadable == 0
     }
 }
 
@@ -49,7 +49,7 @@ pub(crate) fn print_counts(rt: &HostRuntime, counts: Counts) -> Result<(), Stop>
         files,
         faults,
         warnings,
-        unread: _,
+        unreadable: _,
     } = counts;
     let _ = eprintln!(rt; "files {files}, faults {faults}, warnings {warnings}");
     if counts.are_well() {

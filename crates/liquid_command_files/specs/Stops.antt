@@ -6,6 +6,6 @@ use Rattle.liquid_command_files.specs.declared.stop.Stop.TheVariants.{Refused, U
 -- 2 where the command line is wrong, and else 1
 abbrev pub status_of : Stop → ℕ
 status_of Refused = 2
-status_of (Usage told) = 2
+status_of (Usage message) = 2
 status_of (Lacking option word gap) = 2
 status_of _ = 1

@@ -22,7 +22,7 @@ pub fn text_at(rt: &HostRuntime, path: &str) -> Result<String, Stop> {
         Ok(bytes) => text_of(rt.alloc(), path, bytes),
         Err(refused) => {
             let reason = Reason::from(refused.kind());
-            Err(Stop::unread(rt.alloc(), called(path), reason))
+            Err(Stop::unreadable(rt.alloc(), called(path), reason))
         }
     }
 }
@@ -35,7 +35,7 @@ pub fn text_of(alloc: Global, path: &str, bytes: Vec<u8>) -> Result<String, Stop
         Ok(text) => Ok(text),
         Err(refused) => {
             let reason = Reason::of_bytes(&refused);
-            Err(Stop::unread(alloc, called(path), reason))
+            Err(Stop::unreadable(alloc, called(path), reason))
         }
     }
 }

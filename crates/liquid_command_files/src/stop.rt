@@ -22,7 +22,7 @@ pub enum Stop {
     /// A fault of no text, as that memory ran out.
     Fault(Error),
     /// The file or folder of this path can't be read.
-    Unread(String, Reason),
+    Unreadable(String, Reason),
     /// Partials are to be in the folder of this path, and it is none.
     NoFolder(String),
     /// The file of this path can't be written.
@@ -33,9 +33,9 @@ pub enum Stop {
 
 impl Stop {
     /// A path that can't be read.
-    pub fn unread(alloc: Global, path: &str, reason: Reason) -> Stop {
+    pub fn unreadable(alloc: Global, path: &str, reason: Reason) -> Stop {
         match String::from_str(alloc, path) {
-            Ok(path) => Stop::Unread(path, reason),
+            Ok(path) => Stop::Unreadable(path, reason),
             Err(refused) => Stop::from(refused),
         }
     }
@@ -45,7 +45,7 @@ impl Stop {
         match String::from_str(alloc, path) {
             Ok(path) => match kind {
                 io::ErrorKind::NotADirectory => Stop::NoFolder(path),
-                kind => Stop::Unread(path, Reason::from(kind)),
+                kind => Stop::Unreadable(path, Reason::from(kind)),
             },
             Err(refused) => Stop::from(refused),
         }
@@ -72,7 +72,7 @@ impl Stop {
     /// Prints that a path can't be read, so that a command can go on without it. What isn't that
     /// ends the command.
     pub fn passed_over(self, rt: &HostRuntime) -> Result<(), Stop> {
-        if let Stop::Unread(_, _) | Stop::NoFolder(_) = &self {
+        if let Stop::Unreadable(_, _) | Stop::NoFolder(_) = &self {
             self.print(rt);
             return Ok(());
         }
@@ -119,7 +119,7 @@ impl fmt::Display for Stop {
     fn fmt<W: fmt::Write>(&self, f: &mut fmt::Formatter<W>) -> fmt::Result {
         match self {
             Stop::Refused | Stop::Faulted => Ok(()),
-            Stop::Usage(told) => f.write_str(told),
+            Stop::Usage(message) => f.write_str(message),
             Stop::Fault(fault) => write!(f, "{fault}"),
             Stop::Lacking(option, word, gap) => {
                 let word = ShownWord {
@@ -128,7 +128,7 @@ impl fmt::Display for Stop {
                 let option = *option;
                 write!(f, "{option} {word}: {gap}")
             }
-            Stop::Unread(path, reason) => {
+            Stop::Unreadable(path, reason) => {
                 let path = shown(path);
                 match reason_words(*reason) {
                     Some(words) => write!(f, "{path}: {words}"),
@@ -161,7 +161,7 @@ impl From<Error> for Stop {
 impl From<WordFault> for Stop {
     fn from(fault: WordFault) -> Stop {
         match fault {
-            WordFault::Wrong(told) => Stop::Usage(told),
+            WordFault::Wrong(message) => Stop::Usage(message),
             WordFault::Lacking(option, word, gap) => Stop::Lacking(option, word, gap),
             WordFault::Memory => Stop::from(AllocError),
         }

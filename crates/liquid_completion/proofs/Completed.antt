@@ -8,7 +8,7 @@ use Rattle.liquid_model.specs.Find.{value_at}
 use Rattle.liquid_model.specs.Uses.{Use, nothing, everything, parts, Fields, no_fields, field, ItemUse, uncounted, every, asks_whether}
 use Rattle.liquid_model.proofs.Maps.{value_at_put, value_at_put_other}
 use Rattle.liquid_completion.specs.Completed.{or_blank, each_item, counts_members, completed, completed_items, completed_pairs}
-use Rattle.liquid_completion.specs.Kept.{CompletedKeeps}
+use Rattle.liquid_completion.specs.PathsKept.{CompletedKeeps}
 use Rattle.liquid_completion.specs.inside.Keeping.{KeepsFor, KeepsDatum}
 use Rattle.liquid_completion.proofs.Keeping.{keeps_same, keeps_on, Found, ItemsKeep, lists_keep, maps_keep, kept_from}
 

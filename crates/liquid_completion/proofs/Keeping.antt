@@ -8,7 +8,7 @@ use Rattle.liquid_model.specs.Digest.{items_len, pairs_len}
 use Rattle.liquid_model.specs.Find.{find, step, value_at, item_at, item_back, item_named, item_step, counted, or_size}
 use Rattle.liquid_model.specs.Whole.{whole}
 use Rattle.liquid_model.specs.Uses.{shape}
-use Rattle.liquid_completion.specs.Kept.{counts_at, holds_of, reads_count, Kept}
+use Rattle.liquid_completion.specs.PathsKept.{counts_at, holds_of, reads_count, PathsKept}
 use Rattle.liquid_completion.specs.inside.Keeping.{own_member, KeepsFor, KeepsDatum}
 
 pub keeps_same : (n : ℕ) (d : Datum) → KeepsFor n d d
@@ -175,5 +175,5 @@ path_kept path d e c h = along path (length path) d e c refl (h (suc (length pat
         pred zero = zero
         pred (suc n) = n
 
-pub kept_from : (d e : Datum) → KeepsDatum d e → Kept d e
+pub kept_from : (d e : Datum) → KeepsDatum d e → PathsKept d e
 kept_from d e h path c other is = path_kept path d e c h other is

@@ -1,4 +1,4 @@
 pub mod Completed
-pub mod Kept
+pub mod PathsKept
 pub mod Supplied
 pub mod inside

@@ -9,7 +9,7 @@ ghost use Rattle.liquid_model.specs.View.{view, pairs_view, items_view};
 ghost use Rattle.liquid_completion.specs.Completed as spec;
 ghost use Rattle.liquid_completion.specs.Completed.{completed, completed_items};
 ghost use Rattle.liquid_completion.specs.Completed.{completed_pairs, each_item};
-ghost use Rattle.liquid_completion.specs.Kept.{Kept};
+ghost use Rattle.liquid_completion.specs.PathsKept.{PathsKept};
 ghost use Rattle.liquid_completion.specs.inside.Keeping.{KeepsDatum, uncounted_pairs};
 
 use liquid_core::{Object, Result, Use, Uses, Value, member_of, store};
@@ -30,7 +30,7 @@ use std::collections::BTreeMap;
 pub fn complete(alloc: Global, data: &mut Object, uses: &Uses) -> Result<()>
     ensures completed { IsValueOrMemory (λ _. pairs_view «data».new.entries) result
         (completed_pairs (members_view uses.now.entries) (pairs_view «data».old.entries)) }
-    ensures kept { Kept (object (pairs_view «data».old.entries))
+    ensures kept { PathsKept (object (pairs_view «data».old.entries))
         (object (pairs_view «data».new.entries)) }
     ensures again { completed_pairs (members_view uses.now.entries) (pairs_view «data».new.entries)
         ≡ completed_pairs (members_view uses.now.entries) (pairs_view «data».old.entries) }

@@ -1,5 +1,5 @@
 //! Laws of completed data: each clause is a law.
-ghost use Rattle.liquid_completion.specs.Kept.{CompletedKeeps};
+ghost use Rattle.liquid_completion.specs.PathsKept.{CompletedKeeps};
 ghost use Rattle.liquid_completion.specs.Supplied.{AskedIsFound, AskedHasValue};
 
 /// What a path finds in data it finds as before in completed data, but for the number of a map's

@@ -9,7 +9,7 @@ use Rattle.liquid_core.specs.Resolved.{IsAmong, IsHeld, resolved_view}
 use Rattle.liquid_core.specs.States.{loops_of, FindsLoop, IsPlain}
 use Rattle.liquid_core.specs.LoopFrames.{standing, frame_object}
 use Rattle.liquid_core.specs.declared.resolved.Resolved.{Resolved}
-use Rattle.liquid_core.specs.declared.resolved.Resolved.TheVariants.{Lent, Near, Loop}
+use Rattle.liquid_core.specs.declared.resolved.Resolved.TheVariants.{Borrowed, Local, Loop}
 use Rattle.liquid_core.specs.declared.state.State.{State}
 use Rattle.liquid_core.specs.declared.frame.Scope.{Scope}
 use Rattle.liquid_core.specs.declared.frame.Scope.TheVariants as variants
@@ -24,10 +24,10 @@ plain_finds_none s found plain finds = none finds.below (sym plain ∙ finds.amo
 
 -- what is among the lower scopes is among all of them
 wider : (scopes below above : List Scope) (outer : List Outer) (x : Resolved) → scopes ≡ below ++ above → IsAmong below outer x → IsAmong scopes outer x
-wider scopes below above outer (Lent f) e h = tt
-wider scopes below above outer (Near f) e h = tt
-wider scopes below above outer (Loop frame behind) e h =
-    (h.0 ++ above, (e ∙ ap (λ l. l ++ above) h.1.0 ∙ append_assoc behind.frames.now (variants.LoopFrame frame.now ∷ h.0) above, h.1.1))
+wider scopes below above outer (Borrowed f) e h = tt
+wider scopes below above outer (Local f) e h = tt
+wider scopes below above outer (Loop frame enclosing) e h =
+    (h.0 ++ above, (e ∙ ap (λ l. l ++ above) h.1.0 ∙ append_assoc enclosing.frames.now (variants.LoopFrame frame.now ∷ h.0) above, h.1.1))
 
 each_wider : (scopes below above : List Scope) (outer : List Outer) (o : Option Resolved) → scopes ≡ below ++ above → IfSome o (IsAmong below outer) → IfSome o (IsAmong scopes outer)
 each_wider scopes below above outer None e h = tt
@@ -45,14 +45,14 @@ found_at scopes i s d outer o within at h = each_wider scopes (take i scopes ++ 
 
 -- a loop's object that is found is the object of a loop that is under way
 pub held_unless_loop : (s : State) (x : Resolved) → IsAmong (loops_of s) s.scopes.items x → (FindsLoop s (Some (resolved_view x)) → ⊥) → IsHeld x
-held_unless_loop s (Lent f) a none = tt
-held_unless_loop s (Near f) a none = tt
-held_unless_loop s (Loop frame behind) a none = none (record {
+held_unless_loop s (Borrowed f) a none = tt
+held_unless_loop s (Local f) a none = tt
+held_unless_loop s (Loop frame enclosing) a none = none (record {
   loop = frame.now;
-  below = behind.frames.now;
+  below = enclosing.frames.now;
   above = a.0;
   among = a.1.0;
-  whole = ap (λ o. Some (frame_object frame.now (local_of (standing behind.frames.now (reverse (map held o)))))) a.1.1;
+  whole = ap (λ o. Some (frame_object frame.now (local_of (standing enclosing.frames.now (reverse (map held o)))))) a.1.1;
 })
 
 pub each_held : (s : State) (o : Option Resolved) (d : Option Datum) → option_map resolved_view o ≡ d → IfSome o (IsAmong (loops_of s) s.scopes.items) → (FindsLoop s d → ⊥) → IfSome o IsHeld

@@ -38,15 +38,15 @@ unfolding map_of empty
 no_data = fun_ext (λ name. refl)
 
 -- one more value in front of the others
-pub one_set : (ps : Pairs) (behind : Map Datum) (name : Text) (d : Datum) → with_value (merged (map_of ps) behind) name (Some d) ≡ merged (map_of (put name d ps)) behind
+pub one_set : (ps : Pairs) (enclosing : Map Datum) (name : Text) (d : Datum) → with_value (merged (map_of ps) enclosing) name (Some d) ≡ merged (map_of (put name d ps)) enclosing
 unfolding with_value merged insert
-one_set ps behind name d = fun_ext (λ q. at q (bytes_eq name q) ∙ ap (λ m. m q else behind q) (sym (map_of_put name d ps)))
+one_set ps enclosing name d = fun_ext (λ q. at q (bytes_eq name q) ∙ ap (λ m. m q else enclosing q) (sym (map_of_put name d ps)))
   where
-    at : (q : Text) (b : Bool) → cond b (Some d) (map_of ps q else behind q) ≡ (cond b (Some d) (map_of ps q) else behind q)
+    at : (q : Text) (b : Bool) → cond b (Some d) (map_of ps q else enclosing q) ≡ (cond b (Some d) (map_of ps q) else enclosing q)
     at q true = refl
     at q false = refl
 
 -- nothing in front of other values
-pub none_set : (behind : Map Datum) → merged (map_of no_pairs) behind ≡ behind
+pub none_set : (enclosing : Map Datum) → merged (map_of no_pairs) enclosing ≡ enclosing
 unfolding merged map_of
-none_set behind = fun_ext (λ q. refl)
+none_set enclosing = fun_ext (λ q. refl)

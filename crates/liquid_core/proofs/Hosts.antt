@@ -26,17 +26,17 @@ none_else : {X : Type 0} (o : Option X) → (None else o) ≡ (o else None)
 none_else (Some x) = refl
 none_else None = refl
 
-last_behind : {X : Type 0} (name : Text) (es : List (String Global × X)) (e : String Global × X)
+last_appended : {X : Type 0} (name : Text) (es : List (String Global × X)) (e : String Global × X)
     → last_named name (es ++ e ∷ []) ≡ (cond (same_text (string_bytes e.0) name) (Some e.1) None else last_named name es)
-last_behind name [] e = none_else (cond (same_text (string_bytes e.0) name) (Some e.1) None)
-last_behind name (x ∷ es) e =
-    ap (λ o. o else cond (same_text (string_bytes x.0) name) (Some x.1) None) (last_behind name es e)
+last_appended name [] e = none_else (cond (same_text (string_bytes e.0) name) (Some e.1) None)
+last_appended name (x ∷ es) e =
+    ap (λ o. o else cond (same_text (string_bytes x.0) name) (Some x.1) None) (last_appended name es e)
     ∙ else_else (cond (same_text (string_bytes e.0) name) (Some e.1) None) (last_named name es) (cond (same_text (string_bytes x.0) name) (Some x.1) None)
 
 last_more : {X : Type 0} (name : Text) (es : List (String Global × X)) (i : ℕ) (e : String Global × X) → i < length es → e ≡ get_or es i e
     → last_named name (take (i + 1) es) ≡ cond (same_text (string_bytes e.0) name) (Some e.1) (last_named name (take i es))
 last_more name es i e h is =
-    ap (last_named name) (take_more es i e h ∙ ap (λ y. take i es ++ y ∷ []) (sym is)) ∙ last_behind name (take i es) e
+    ap (last_named name) (take_more es i e h ∙ ap (λ y. take i es ++ y ∷ []) (sym is)) ∙ last_appended name (take i es) e
     ∙ if_named (same_text (string_bytes e.0) name) e.1 (last_named name (take i es))
 
 pub last_is_this : {X : Type 0} (name : Text) (es : List (String Global × X)) (i : ℕ) (e : String Global × X) (o : Option X) → i < length es → e ≡ get_or es i e
@@ -67,9 +67,9 @@ not_memory TooNested h = refl
 not_memory kind h = absurd cc
 
 -- any other kind is InvalidInput
-pub kind_replaced : (kind told : ErrorKind) (wanted : Result Datum ErrorKind) → nat_le (number_of kind) 17 ≡ false
-    → MatchBool (is_memory kind) ⊤ (wanted ≡ Err kind) → IsKindOrMemory InvalidInput told → Faulted told (of_host wanted)
-kind_replaced kind told wanted h m t = on (is_memory told) t
+pub kind_replaced : (kind reported : ErrorKind) (wanted : Result Datum ErrorKind) → nat_le (number_of kind) 17 ≡ false
+    → MatchBool (is_memory kind) ⊤ (wanted ≡ Err kind) → IsKindOrMemory InvalidInput reported → Faulted reported (of_host wanted)
+kind_replaced kind reported wanted h m t = on (is_memory reported) t
   where
     same : (b : Bool) → is_memory kind ≡ b → b ≡ false → MatchBool b ⊤ (wanted ≡ Err kind) → wanted ≡ Err kind
     same true e f n = absurd cc
@@ -78,17 +78,17 @@ kind_replaced kind told wanted h m t = on (is_memory told) t
     answered : of_host wanted ≡ Err InvalidInput
     answered = ap of_host (same (is_memory kind) refl (not_memory kind h) m) ∙ ap (λ b. Err (cond b kind InvalidInput)) h
 
-    on : (b : Bool) → MatchBool b ⊤ (InvalidInput ≡ told) → MatchBool b ⊤ ((of_host wanted ≡ Err told) × (is_refusal told ≡ false))
+    on : (b : Bool) → MatchBool b ⊤ (InvalidInput ≡ reported) → MatchBool b ⊤ ((of_host wanted ≡ Err reported) × (is_refusal reported ≡ false))
     on true n = n
     on false n = (answered ∙ ap Err n, ap is_refusal (sym n))
 
 -- ---- what is answered
 
-pub told_if : {X Y : Type 0} (within : Bool) (view : X → Y) (r : Result X Error) (wanted : Result Y ErrorKind) → AnswersIf within view r wanted → Tells view r wanted
-told_if true view (Ok x) wanted h = h
-told_if true view (Err e) wanted h = on (is_memory e.kind) h
+pub tells_if : {X Y : Type 0} (within : Bool) (view : X → Y) (r : Result X Error) (wanted : Result Y ErrorKind) → AnswersIf within view r wanted → Tells view r wanted
+tells_if true view (Ok x) wanted h = h
+tells_if true view (Err e) wanted h = on (is_memory e.kind) h
   where
     on : (b : Bool) → MatchBool b ⊤ ((wanted ≡ Err e.kind) × (is_refusal e.kind ≡ false)) → MatchBool b ⊤ (wanted ≡ Err e.kind)
     on true m = m
     on false m = m.0
-told_if false view r wanted h = h
+tells_if false view r wanted h = h

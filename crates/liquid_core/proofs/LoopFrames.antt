@@ -50,13 +50,13 @@ pub neither : (l n q : Text) (v d : Datum) → bytes_eq q n ≡ false → bytes_
 unfolding insert empty
 neither l n q v d h k = rw (turned n q false h, turned l q false k) refl
 
-pub lent_there : (n q : Text) (d : Datum) → bytes_eq q n ≡ true → insert empty n d q ≡ Some d
+pub borrowed_name_found : (n q : Text) (d : Datum) → bytes_eq q n ≡ true → insert empty n d q ≡ Some d
 unfolding insert
-lent_there n q d h = rw (turned n q true h) refl
+borrowed_name_found n q d h = rw (turned n q true h) refl
 
-pub lent_elsewhere : (n q : Text) (d : Datum) → bytes_eq q n ≡ false → insert empty n d q ≡ None
+pub borrowed_name_missing : (n q : Text) (d : Datum) → bytes_eq q n ≡ false → insert empty n d q ≡ None
 unfolding insert empty
-lent_elsewhere n q d h = rw (turned n q false h) refl
+borrowed_name_missing n q d h = rw (turned n q false h) refl
 
 -- ---- the innermost of some scopes
 
@@ -154,4 +154,4 @@ innermost_set ss before t s e = ap (λ n. set ss n s) (innermost ss before t e) 
 abbrev pub turn_in : Scope → LoopFrame → LoopFrame
 turn_in (variants.LoopFrame t) other = t
 turn_in (variants.Names o) other = other
-turn_in (variants.Lent name v) other = other
+turn_in (variants.Borrowed name v) other = other

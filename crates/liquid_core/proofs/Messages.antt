@@ -13,8 +13,8 @@ use Rattle.liquid_model.proofs.Quotes.{line_append, line_wider, line_is_message,
 pub message_line : (all t words : List ℕ) → all ≡ codes "`" ++ (quotation t ++ (codes "` has no value" ++ words)) → is_line 600 words ≡ true → is_line 900 all ≡ true
 message_line all t words is short =
     let end : is_line 614 (codes "` has no value" ++ words) ≡ true = line_append 14 600 (codes "` has no value") words refl short in
-    let behind : is_line 857 (quotation t ++ (codes "` has no value" ++ words)) ≡ true = line_append 243 614 (quotation t) (codes "` has no value" ++ words) (quotation_is_line t) end in
-    let whole : is_line 858 (codes "`" ++ (quotation t ++ (codes "` has no value" ++ words))) ≡ true = line_append 1 857 (codes "`") (quotation t ++ (codes "` has no value" ++ words)) refl behind in
+    let tail_line : is_line 857 (quotation t ++ (codes "` has no value" ++ words)) ≡ true = line_append 243 614 (quotation t) (codes "` has no value" ++ words) (quotation_is_line t) end in
+    let whole : is_line 858 (codes "`" ++ (quotation t ++ (codes "` has no value" ++ words))) ≡ true = line_append 1 857 (codes "`") (quotation t ++ (codes "` has no value" ++ words)) refl tail_line in
     subst (λ s. is_line 900 s ≡ true) (sym is) (line_wider 858 900 (codes "`" ++ (quotation t ++ (codes "` has no value" ++ words))) (omega arith) whole)
 
 pub message_front : (o : Option (List ℕ)) (all t words : List ℕ) → IfSome o (λ form. t ≡ form) → all ≡ codes "`" ++ (quotation t ++ (codes "` has no value" ++ words))
@@ -38,9 +38,9 @@ unless_memory : (b : Bool) {P : Type 0} → P → MatchBool b ⊤ P
 unless_memory true p = tt
 unless_memory false p = p
 
-pub told_front : (o : Option (List ℕ)) (m : String Global) (e : Error) → is_line 900 (string_bytes m) ≡ true → (IsTrue (is_message UnknownVariable (string_bytes m)) → e.message ≡ Some m)
+pub message_begins : (o : Option (List ℕ)) (m : String Global) (e : Error) → is_line 900 (string_bytes m) ≡ true → (IsTrue (is_message UnknownVariable (string_bytes m)) → e.message ≡ Some m)
     → IfSome o (λ form. (rest : List ℕ) × (string_bytes m ≡ without_value_front form ++ rest)) → IfSome o (λ form. BeginsUnlessMemory (without_value_front form) e)
-told_front None m e short told front = tt
-told_front (Some form) m e short told front =
-    let kept = told (line_is_message UnknownVariable (string_bytes m) (line_wider 900 1000 (string_bytes m) (omega arith) short)) in
+message_begins None m e short says front = tt
+message_begins (Some form) m e short says front =
+    let kept = says (line_is_message UnknownVariable (string_bytes m) (line_wider 900 1000 (string_bytes m) (omega arith) short)) in
     unless_memory (is_memory e.kind) (front.0, ap (option_map string_bytes) kept ∙ ap Some front.1)

@@ -21,15 +21,15 @@ use Rattle.liquid_core.specs.LoopFrames.{scope_map, standing, frame_object}
 use Rattle.liquid_core.specs.Said.{Says}
 use Rattle.liquid_core.specs.declared.expression.Expression.{Expression, Literal}
 use Rattle.liquid_core.specs.declared.frame.Scope.{Scope}
-use Rattle.liquid_core.specs.declared.resolved.Near.{Near}
-use Rattle.liquid_core.specs.declared.resolved.Near.TheVariants.{Held, Number, Truth, Loop, Nothing, Unsaid}
+use Rattle.liquid_core.specs.declared.resolved.DirectValue.{DirectValue}
+use Rattle.liquid_core.specs.declared.resolved.DirectValue.TheVariants.{Held, Number, Truth, Loop, Nothing, Unsaid}
 use Rattle.liquid_core.proofs.ExpressionViews.{literal_is}
 use Rattle.liquid_core.proofs.LoopFrames.{found_here, missing_here}
 use Rattle.liquid_core.specs.Led.{led}
 use Rattle.liquid_core.proofs.Steps.{literal_value}
 
-pub says_as : (n : Near) (a b behind : Option Datum) → a ≡ b → Says n a behind → Says n b behind
-says_as n a b behind same h = subst (λ o. Says n o behind) same h
+pub says_as : (n : DirectValue) (a b enclosing : Option Datum) → a ≡ b → Says n a enclosing → Says n b enclosing
+says_as n a b enclosing same h = subst (λ o. Says n o enclosing) same h
 
 head_of : (x y : Scope) (xs ys : List Scope) → x ∷ xs ≡ y ∷ ys → x ≡ y
 head_of x y xs ys e = cc
@@ -42,13 +42,13 @@ module _ (q : Text) (ts : List Scope) (l i : ℕ) (b : List (Map Datum)) (s : Sc
   there_is : (d : Datum) → Some d ≡ scope_map s (local_of (standing (take i ts) b)) q → Some d ≡ local_of (standing (take l ts) b) q
   there_is d f = found_here q ts l i b d e h (λ x there. subst (λ y. Some d ≡ scope_map y (local_of (standing (take i ts) b)) q) (same_scope ts i s x h at there) f)
 
-  pub said_here : (n : Near) (all behind : Option Datum) → ((local : Map Datum) → Says n (scope_map s local q) None) → local_of (standing (take l ts) b) q ≡ all → (n ≡ Nothing → ⊥) → Says n all behind
-  said_here (Held v) all behind f same other = there_is (view v.now) (f (local_of (standing (take i ts) b))) ∙ same
-  said_here (Number n) all behind f same other = there_is (number n) (f (local_of (standing (take i ts) b))) ∙ same
-  said_here (Truth t) all behind f same other = there_is (truth t) (f (local_of (standing (take i ts) b))) ∙ same
-  said_here (Loop t) all behind f same other = let found = f (local_of (standing (take i ts) b)) in (found.0, there_is (frame_object t.now found.0) found.1 ∙ same)
-  said_here Nothing all behind f same other = absurd (other refl)
-  said_here Unsaid all behind f same other = tt
+  pub said_here : (n : DirectValue) (all enclosing : Option Datum) → ((local : Map Datum) → Says n (scope_map s local q) None) → local_of (standing (take l ts) b) q ≡ all → (n ≡ Nothing → ⊥) → Says n all enclosing
+  said_here (Held v) all enclosing f same other = there_is (view v.now) (f (local_of (standing (take i ts) b))) ∙ same
+  said_here (Number n) all enclosing f same other = there_is (number n) (f (local_of (standing (take i ts) b))) ∙ same
+  said_here (Truth t) all enclosing f same other = there_is (truth t) (f (local_of (standing (take i ts) b))) ∙ same
+  said_here (Loop t) all enclosing f same other = let found = f (local_of (standing (take i ts) b)) in (found.0, there_is (frame_object t.now found.0) found.1 ∙ same)
+  said_here Nothing all enclosing f same other = absurd (other refl)
+  said_here Unsaid all enclosing f same other = tt
 
   pub nothing_here : ((local : Map Datum) → None ≡ scope_map s local q) → local_of (standing (take i ts) b) q ≡ local_of (standing (take l ts) b) q
   nothing_here f = missing_here q ts l i b e h (λ x there. subst (λ y. None ≡ scope_map y (local_of (standing (take i ts) b)) q) (same_scope ts i s x h at there) (f (local_of (standing (take i ts) b))))
@@ -58,13 +58,13 @@ module _ (q : Text) (ts : List Scope) (l i : ℕ) (b : List (Map Datum)) (s : Sc
 first : (s : State) (q : Text) (d : Datum) → Some d ≡ (environment_of s).local q → Some d ≡ lookup (environment_of s) q
 first s q d h = ap (λ o. ((o else value_at q (pairs_view s.assigned.entries)) else (layers_of s).counters q) else data_held s.«data» q) h ∙ sym (looked_up s q)
 
-pub said_local : (s : State) (q : Text) (n : Near) (behind : Option Datum) → Says n ((environment_of s).local q) behind → (n ≡ Nothing → ⊥) → Says n (lookup (environment_of s) q) None
-said_local s q (Held v) behind h other = first s q (view v.now) h
-said_local s q (Number n) behind h other = first s q (number n) h
-said_local s q (Truth b) behind h other = first s q (truth b) h
-said_local s q (Loop t) behind h other = (h.0, first s q (frame_object t.now h.0) h.1)
-said_local s q Nothing behind h other = absurd (other refl)
-said_local s q Unsaid behind h other = tt
+pub said_local : (s : State) (q : Text) (n : DirectValue) (enclosing : Option Datum) → Says n ((environment_of s).local q) enclosing → (n ≡ Nothing → ⊥) → Says n (lookup (environment_of s) q) None
+said_local s q (Held v) enclosing h other = first s q (view v.now) h
+said_local s q (Number n) enclosing h other = first s q (number n) h
+said_local s q (Truth b) enclosing h other = first s q (truth b) h
+said_local s q (Loop t) enclosing h other = (h.0, first s q (frame_object t.now h.0) h.1)
+said_local s q Nothing enclosing h other = absurd (other refl)
+said_local s q Unsaid enclosing h other = tt
 
 -- ---- steps
 
@@ -86,7 +86,7 @@ along_step d n x xs rest e at h =
     ∙ sym (ap (λ l. led d (steps_view l) e) at)
 
 -- from a datum by a literal, whatever is said of it
-pub said_by_literal : (n : Near) (d : Datum) (x : Expression) (p : Value) (e : Environment) → x ≡ Literal p
+pub said_by_literal : (n : DirectValue) (d : Datum) (x : Expression) (p : Value) (e : Environment) → x ≡ Literal p
     → Says n (step d (view p)) None → Says n (option_and_then (step d) (value_of (expression_view x) e)) None
 said_by_literal n d x p e is h = says_as n (step d (view p)) (option_and_then (step d) (value_of (expression_view x) e)) None
     (sym (ap (option_and_then (step d)) (ap (λ y. value_of (expression_view y) e) is ∙ ap (λ y. value_of y e) (literal_is p) ∙ literal_value (view p) e))) h

@@ -26,7 +26,7 @@ use Rattle.liquid_core.specs.LoopFrames.{loop_name, loop_object, item_of, standi
 use Rattle.liquid_core.specs.declared.frame.Scope.TheVariants as variants
 use Rattle.liquid_core.specs.declared.frame.LoopFrame.{LoopFrame}
 use Rattle.liquid_core.specs.declared.frame.Scope.{Scope}
-use Rattle.liquid_core.specs.States.{data_held, held_beside, IsPlain, layers_of, environment_of, new_layers, with_scope_popped, with_scope_pushed, with_frame_at, scopes_behind, layers_with, with_interrupt, with_changed, with_assigned, with_cycle}
+use Rattle.liquid_core.specs.States.{data_held, held_beside, IsPlain, layers_of, environment_of, new_layers, with_scope_popped, with_scope_pushed, with_frame_at, enclosing_scopes, layers_with, with_interrupt, with_changed, with_assigned, with_cycle}
 use Rattle.std.proofs.lemmas.List.{reverse-append, length-append}
 use Rattle.std.proofs.Math.Seq.{take-append_seam}
 use Rattle.std.proofs.lemmas.Slice.Eq.{bytes_eq-Decides}
@@ -51,11 +51,11 @@ map_of_put k d ps = fun_ext (λ q. at_name (bytes_eq k q) k q d ps refl)
 pub reverse_push : {X Y : Type 0} (f : X → Y) (xs : List X) (x : X) → reverse (map f (xs ++ x ∷ [])) ≡ f x ∷ reverse (map f xs)
 reverse_push f xs x = ap reverse (map-append f xs (x ∷ [])) ∙ reverse-append (map f xs) (f x ∷ [])
 
-behind : {X : Type 0} (f : X → Map Datum) (xs ys : List X) (o : Option X) → xs ≡ ys ++ option_to_list o → (0 < length xs → IsSome o) → reverse (map f ys) ≡ scopes_behind (reverse (map f xs))
-behind f xs ys (Some x) e v = sym (ap (λ l. scopes_behind (reverse (map f l))) e ∙ ap scopes_behind (reverse_push f ys x))
-behind f [] [] None e v = refl
-behind f [] (y ∷ ys) None e v = cc
-behind f (x ∷ xs) ys None e v = absurd (true≢false (sym (v (omega arith))))
+enclosing : {X : Type 0} (f : X → Map Datum) (xs ys : List X) (o : Option X) → xs ≡ ys ++ option_to_list o → (0 < length xs → IsSome o) → reverse (map f ys) ≡ enclosing_scopes (reverse (map f xs))
+enclosing f xs ys (Some x) e v = sym (ap (λ l. enclosing_scopes (reverse (map f l))) e ∙ ap enclosing_scopes (reverse_push f ys x))
+enclosing f [] [] None e v = refl
+enclosing f [] (y ∷ ys) None e v = cc
+enclosing f (x ∷ xs) ys None e v = absurd (true≢false (sym (v (omega arith))))
 
 -- ---- the scopes that stand over others
 
@@ -63,9 +63,9 @@ pub standing_last : (ss : List Scope) (s : Scope) (b : List (Map Datum)) → sta
 standing_last [] s b = refl
 standing_last (t ∷ ss) s b = standing_last ss s (scope_map t (local_of b) ∷ b)
 
-behind_turns : (xs ys : List Scope) (o : Option Scope) (b : List (Map Datum)) → xs ≡ ys ++ option_to_list o → IsSome o → standing ys b ≡ scopes_behind (standing xs b)
-behind_turns xs ys (Some x) b e v = sym (ap (λ l. scopes_behind (standing l b)) e ∙ ap scopes_behind (standing_last ys x b))
-behind_turns xs ys None b e v = cc
+enclosing_turns : (xs ys : List Scope) (o : Option Scope) (b : List (Map Datum)) → xs ≡ ys ++ option_to_list o → IsSome o → standing ys b ≡ enclosing_scopes (standing xs b)
+enclosing_turns xs ys (Some x) b e v = sym (ap (λ l. enclosing_scopes (standing l b)) e ∙ ap enclosing_scopes (standing_last ys x b))
+enclosing_turns xs ys None b e v = cc
 
 -- ---- loops
 
@@ -97,7 +97,7 @@ popped s t o n m e v a b c d f g =
     let plain : standing t.frames.items (reverse (map held t.scopes.items)) ≡ reverse (map held t.scopes.items) = ap (λ l. standing l (reverse (map held t.scopes.items))) (ap (λ v. v.items) m ∙ n) in
     let before : standing s.frames.items (reverse (map held s.scopes.items)) ≡ reverse (map held s.scopes.items) = ap (λ l. standing l (reverse (map held s.scopes.items))) n in
     λ i. record {
-      scopes = (plain ∙ behind held s.scopes.items t.scopes.items o e v ∙ ap scopes_behind (sym before)) i;
+      scopes = (plain ∙ enclosing held s.scopes.items t.scopes.items o e v ∙ ap enclosing_scopes (sym before)) i;
       assigned = held (a i);
       counters = held (b i);
       globals = data_held (c i);
@@ -110,7 +110,7 @@ unfolding layers_of
 popped_turn s t o e v m a b c d f g =
     let outer : reverse (map held t.scopes.items) ≡ reverse (map held s.scopes.items) = ap (λ v. reverse (map held v.items)) m in
     λ i. record {
-      scopes = (ap (standing t.frames.items) outer ∙ behind_turns s.frames.items t.frames.items o (reverse (map held s.scopes.items)) e v) i;
+      scopes = (ap (standing t.frames.items) outer ∙ enclosing_turns s.frames.items t.frames.items o (reverse (map held s.scopes.items)) e v) i;
       assigned = held (a i);
       counters = held (b i);
       globals = data_held (c i);
@@ -194,7 +194,7 @@ advanced s n before t u old new next m a b c d f g =
     λ i. record {
       scopes = (now
           ∙ ap (λ x. x ∷ standing before outer) (next_map t u (local_of (standing before outer)) next)
-          ∙ sym (ap (λ l. frame_map_at t (t.at + 1) (local_of (scopes_behind l)) ∷ scopes_behind l) was)) i;
+          ∙ sym (ap (λ l. frame_map_at t (t.at + 1) (local_of (enclosing_scopes l)) ∷ enclosing_scopes l) was)) i;
       assigned = held (a i);
       counters = held (b i);
       globals = data_held (c i);
@@ -247,11 +247,11 @@ beside_globals s q xs d is o a c h =
     λ i. (((outer i else a i) else c i) else data_held s.«data» q) in
     h ∙ none ∙ sym (beside_at s q)
 
--- no scope behind one that holds nothing under a name does
-behind_none : (ss : List Scope) (b : List (Map Datum)) (q : Text) → local_of (standing ss b) q ≡ None → local_of b q ≡ None
+-- no scope after one that holds nothing under a name does
+after_none : (ss : List Scope) (b : List (Map Datum)) (q : Text) → local_of (standing ss b) q ≡ None → local_of b q ≡ None
 unfolding merged
-behind_none [] b q h = h
-behind_none (s ∷ ss) b q h = second (scope_map s (local_of b) q) (local_of b q) (first_is s b q ∙ behind_none ss (scope_map s (local_of b) ∷ b) q h)
+after_none [] b q h = h
+after_none (s ∷ ss) b q h = second (scope_map s (local_of b) q) (local_of b q) (first_is s b q ∙ after_none ss (scope_map s (local_of b) ∷ b) q h)
   where
     second : (x y : Option Datum) → (x else y) ≡ None → y ≡ None
     second None y h = h
@@ -269,7 +269,7 @@ plain_beside s q plain = beside_as s q (sym (ap (λ m. m q) (local_in s) ∙ ap 
 
 -- and so it is for a name that no scope holds
 pub none_beside : (s : State) (q : Text) → (environment_of s).local q ≡ None → held_beside s q ≡ lookup (environment_of s) q
-none_beside s q none = beside_as s q (behind_none s.frames.items (reverse (map held s.scopes.items)) q (sym (ap (λ m. m q) (local_in s)) ∙ none) ∙ sym none)
+none_beside s q none = beside_as s q (after_none s.frames.items (reverse (map held s.scopes.items)) q (sym (ap (λ m. m q) (local_in s)) ∙ none) ∙ sym none)
 
 pub held_at : (o : Outer) (q : Text) → held o q ≡ value_at q (pairs_view o.entries)
 unfolding map_of

@@ -1,7 +1,8 @@
--- What the scopes of a state hold: names, a name that is lent, or a loop at one of its items.
+-- What the scopes of a state hold: names, a name with a borrowed value, or a loop at one of its
+-- items.
 --     item_of items i      item i of a loop's source, nil where there is none
 --     frame_map frame local      what a loop binds at its item, where local are the outer names
---     standing scopes behind      the scopes, the innermost first, over the outer ones
+--     standing scopes enclosing   the scopes, the innermost first, over the outer ones
 use Rattle.std.specs.Prelude.{◌≡◌, ◌<◌, ◌++◌, ℕ, ◌+◌, ◌-◌, List, [], ◌∷◌, length, take, map, get_or}
 use Rattle.std.specs.Prelude.{Option, Some, None, String, codes}
 use Rattle.std.specs.BTreeMap.{BTreeMap}
@@ -17,7 +18,7 @@ use Rattle.liquid_core.specs.Held.{held}
 use Rattle.liquid_core.specs.Places.{place_of, number_at}
 use Rattle.liquid_core.specs.Loops.{loop_scope, forloop_object, tablerow_object}
 use Rattle.liquid_core.specs.declared.frame.Items.{Items}
-use Rattle.liquid_core.specs.declared.frame.Items.TheVariants.{Lent, Owned, Numbers}
+use Rattle.liquid_core.specs.declared.frame.Items.TheVariants.{Borrowed, Owned, Numbers}
 use Rattle.liquid_core.specs.declared.frame.LoopKind.{LoopKind}
 use Rattle.liquid_core.specs.declared.frame.LoopKind.TheVariants.{For, Render, TableRow}
 use Rattle.liquid_core.specs.declared.frame.LoopFrame.{LoopFrame}
@@ -25,7 +26,7 @@ use Rattle.liquid_core.specs.declared.frame.Scope.{Scope}
 use Rattle.liquid_core.specs.declared.frame.Scope.TheVariants as variants
 
 abbrev pub item_of : Items → ℕ → Datum
-item_of (Lent r) i = get_or (map view r.now) i nil
+item_of (Borrowed r) i = get_or (map view r.now) i nil
 item_of (Owned v) i = get_or (map view v.items) i nil
 item_of (Numbers a b) i = number_at a b i
 
@@ -70,12 +71,12 @@ frame_map t local = frame_map_at t t.at local
 
 abbrev pub scope_map : Scope → Map Datum → Map Datum
 scope_map (variants.Names o) local = held o
-scope_map (variants.Lent name v) local = insert empty name.now (view v.now)
+scope_map (variants.Borrowed name v) local = insert empty name.now (view v.now)
 scope_map (variants.LoopFrame t) local = frame_map t local
 
 abbrev pub standing : List Scope → List (Map Datum) → List (Map Datum)
-standing [] behind = behind
-standing (s ∷ ss) behind = standing ss (scope_map s (local_of behind) ∷ behind)
+standing [] enclosing = enclosing
+standing (s ∷ ss) enclosing = standing ss (scope_map s (local_of enclosing) ∷ enclosing)
 
 -- ---- loops that begin, go on and end
 

@@ -14,12 +14,12 @@ use Rattle.liquid_core.specs.declared.frame.LoopFrame.{LoopFrame}
 use Rattle.liquid_core.specs.declared.state.State.{State}
 use Rattle.liquid_core.specs.declared.state.Parts.{Parts}
 use Rattle.liquid_core.specs.declared.state.Data.{Data}
-use Rattle.liquid_core.specs.declared.state.Data.TheVariants.{Own, Lent}
+use Rattle.liquid_core.specs.declared.state.Data.TheVariants.{Own, Borrowed}
 use Rattle.liquid_core.specs.declared.interrupt.Interrupt.{Interrupt}
 
 abbrev pub data_held : Data → Map Datum
 data_held (Own object) = held object
-data_held (Lent object) = held object.now
+data_held (Borrowed object) = held object.now
 
 pub record Layers : Type 0 where
   -- the innermost first
@@ -71,12 +71,12 @@ new_layers globals = record {
 abbrev pub with_scope_pushed : Map Datum → Layers → Layers
 with_scope_pushed scope l = record l { scopes = scope ∷ l.scopes }
 
-abbrev pub scopes_behind : List (Map Datum) → List (Map Datum)
-scopes_behind [] = []
-scopes_behind (scope ∷ scopes) = scopes
+abbrev pub enclosing_scopes : List (Map Datum) → List (Map Datum)
+enclosing_scopes [] = []
+enclosing_scopes (scope ∷ scopes) = scopes
 
 abbrev pub with_scope_popped : Layers → Layers
-with_scope_popped l = record l { scopes = scopes_behind l.scopes }
+with_scope_popped l = record l { scopes = enclosing_scopes l.scopes }
 
 abbrev pub with_assigned : Text → Datum → Layers → Layers
 with_assigned name d l = record l { assigned = insert l.assigned name d }
@@ -96,7 +96,7 @@ with_cycle group index l =
 
 -- the innermost loop at its item k
 abbrev pub with_frame_at : LoopFrame → ℕ → Layers → Layers
-with_frame_at t k l = with_scope_pushed (frame_map_at t k (local_of (scopes_behind l.scopes)))
+with_frame_at t k l = with_scope_pushed (frame_map_at t k (local_of (enclosing_scopes l.scopes)))
     (with_scope_popped l)
 
 -- ---- loops

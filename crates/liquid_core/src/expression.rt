@@ -23,7 +23,7 @@ ghost use Rattle.liquid_model.specs.declared.error.ErrorKind.TheVariants.{Unknow
 
 use crate::frame::LoopFrame;
 use crate::missing::{Words, words_of, words_of_variable};
-use crate::resolved::{Near, Resolved};
+use crate::resolved::{DirectValue, Resolved};
 use crate::spelled::{Spelled, SpelledPath};
 use crate::state::State;
 use liquid_model::{Error, ErrorKind, Found, Quoted, Result, Value, ValueCow, line_of};
@@ -57,7 +57,8 @@ impl Expression {
     /// The value of the expression, where it has one. A variable has none where its name has none,
     /// where a step's value is missing or no scalar, and where the steps lead to nothing.
     ///
-    /// The value is lent by the state or the expression, also inside a loop, and a length is owned.
+    /// The value is borrowed from the state or the expression, also inside a loop, and a length is
+    /// owned.
     /// It refuses for `Memory` alone, and takes memory only where it finds the whole object of a
     /// loop.
     pub fn try_evaluate<'a>(
@@ -93,33 +94,33 @@ impl Expression {
         }
     }
 
-    /// The value of the expression, where it is lent, a number or a truth value: a literal, a name
+    /// The value of the expression, where it is held, a number or a truth value: a literal, a name
     /// that is no loop's object, with steps that are keys and places of items, or a number or a
     /// truth value that each loop's object has. It takes no memory.
-    pub fn near<'a>(&'a self, state: &'a State<'_>) -> Near<'a>
+    pub fn direct_value<'a>(&'a self, state: &'a State<'_>) -> DirectValue<'a>
         ensures { Says result (value_of (expression_view self.now) (environment_of state.now))
             None }
     {
         match self {
-            Expression::Literal(value) => Near::Held(value),
-            Expression::Variable(variable) => variable.near(state),
+            Expression::Literal(value) => DirectValue::Held(value),
+            Expression::Variable(variable) => variable.direct_value(state),
         }
     }
 
-    /// The value of the expression, where it is lent for the whole run. None says nothing. It takes
-    /// no memory.
-    pub fn lent<'d>(&self, state: &State<'d>) -> Option<&'d Value>
+    /// The value of the expression, where it is borrowed for the whole run. None says nothing. It
+    /// takes no memory.
+    pub fn borrowed_value<'d>(&self, state: &State<'d>) -> Option<&'d Value>
         ensures { IfSome result (λ v. Some (view v.now) ≡
             value_of (expression_view self.now) (environment_of state.now)) }
     {
         match expression_value(self, state) {
-            Some(Resolved::Lent(Found::Held(value))) => Some(value),
+            Some(Resolved::Borrowed(Found::Held(value))) => Some(value),
             _ => None,
         }
     }
 
-    /// What the expression leads to, as it is lent: for the whole run where the data lends it. Else
-    /// as `evaluate`. Only the fault takes memory.
+    /// What the expression leads to, borrowed: for the whole run where the data holds it. Else as
+    /// `evaluate`. Only the fault takes memory.
     pub fn resolve<'a, 'd>(
         &'a self,
         alloc: Global,
@@ -140,7 +141,7 @@ impl Expression {
 
     /// The fault of an expression that has no value here.
     fn without_value(&self, alloc: Global, state: &State<'_>) -> Error
-        ensures told { IsKindOrMemory UnknownVariable result.kind }
+        ensures kind_or_memory { IsKindOrMemory UnknownVariable result.kind }
         ensures message { BeginsUnlessMemory
             (without_value_front (spelled (expression_view self.now))) result }
     {
@@ -157,18 +158,18 @@ impl Expression {
 }
 
 impl Variable {
-    /// `Expression::near` of a variable.
-    fn near<'a>(&'a self, state: &'a State<'_>) -> Near<'a>
+    /// `Expression::direct_value` of a variable.
+    fn direct_value<'a>(&'a self, state: &'a State<'_>) -> DirectValue<'a>
         ensures { Says result (value_of (variable_view self.now) (environment_of state.now)) None }
     {
-        match state.near(self.name.as_str()) {
-            Near::Held(value) => match near_along(value, &self.indexes) {
-                Some(found) => Near::Held(found),
-                None => Near::Unsaid,
+        match state.direct_value(self.name.as_str()) {
+            DirectValue::Held(value) => match direct_along(value, &self.indexes) {
+                Some(found) => DirectValue::Held(found),
+                None => DirectValue::Unsaid,
             },
-            Near::Number(n) if self.indexes.is_empty() => Near::Number(n),
-            Near::Loop(frame) => near_part(frame, self.indexes.as_slice()),
-            _ => Near::Unsaid,
+            DirectValue::Number(n) if self.indexes.is_empty() => DirectValue::Number(n),
+            DirectValue::Loop(frame) => direct_part(frame, self.indexes.as_slice()),
+            _ => DirectValue::Unsaid,
         }
     }
 
@@ -206,7 +207,7 @@ impl Variable {
 
     /// The fault of a variable that has no value here.
     fn without_value(&self, alloc: Global, state: &State<'_>) -> Error
-        ensures told { IsKindOrMemory UnknownVariable result.kind }
+        ensures kind_or_memory { IsKindOrMemory UnknownVariable result.kind }
         ensures message { BeginsUnlessMemory
             (without_value_front (spelled (variable_view self.now))) result }
     {
@@ -228,7 +229,7 @@ impl Variable {
 
 /// The fault of an expression or a variable that has no value, by its spelling and further words.
 fn without_value<D: Display>(alloc: Global, spelled: &D, words: Words) -> Error
-    ensures told { IsKindOrMemory UnknownVariable result.kind }
+    ensures kind_or_memory { IsKindOrMemory UnknownVariable result.kind }
     ensures message { IfSome (D.output spelled.now)
         (λ form. BeginsUnlessMemory (without_value_front form) result) }
 {
@@ -262,7 +263,7 @@ pub(crate) fn expression_value<'a, 'd>(
     ensures among { IfSome result (IsAmong (loops_of state.now) state.now.scopes.items) }
 {
     match expression {
-        Expression::Literal(value) => Some(Resolved::Near(Found::Held(value))),
+        Expression::Literal(value) => Some(Resolved::Local(Found::Held(value))),
         Expression::Variable(variable) => variable_value(variable, state),
     }
 }
@@ -282,49 +283,49 @@ fn variable_value<'a, 'd>(variable: &'a Variable, state: &'a State<'d>) -> Optio
 }
 
 /// What steps by literals lead to, by keys and by the places of items. None says nothing.
-fn near_along<'a>(value: &'a Value, indexes: &Vec<Expression>) -> Option<&'a Value>
+fn direct_along<'a>(value: &'a Value, indexes: &Vec<Expression>) -> Option<&'a Value>
     ensures { (e : Environment) →
         IfSome result (λ v. Some (view v.now) ≡
         led (view value.now) (steps_view indexes.now.items) e) }
 {
     let mut found = value;
     for index in indexes {
-        found = near_step(found, index)?;
+        found = direct_step(found, index)?;
     }
     Some(found)
 }
 
 /// What a lone step leads to from a loop's object, by a literal.
-fn near_part<'a>(frame: &LoopFrame<'_>, indexes: &[Expression]) -> Near<'a>
+fn direct_part<'a>(frame: &LoopFrame<'_>, indexes: &[Expression]) -> DirectValue<'a>
     ensures { (e : Environment) → (local : Map Datum) →
         Says result (led (frame_object frame.now local) (steps_view indexes.now) e) None }
 {
     match indexes {
-        [index] => near_part_by(frame, index),
-        _ => Near::Unsaid,
+        [index] => direct_part_by(frame, index),
+        _ => DirectValue::Unsaid,
     }
 }
 
 /// A step by a literal from a loop's object.
-fn near_part_by<'a>(frame: &LoopFrame<'_>, index: &Expression) -> Near<'a>
+fn direct_part_by<'a>(frame: &LoopFrame<'_>, index: &Expression) -> DirectValue<'a>
     ensures { (e : Environment) → (local : Map Datum) →
         Says result (option_and_then (step (frame_object frame.now local))
         (value_of (expression_view index.now) e)) None }
 {
     match index {
-        Expression::Literal(part) => frame.near_stepped(part),
-        Expression::Variable(_) => Near::Unsaid,
+        Expression::Literal(part) => frame.direct_stepped(part),
+        Expression::Variable(_) => DirectValue::Unsaid,
     }
 }
 
 /// A step by a literal: a key of a map, or the place of an item. None says nothing.
-fn near_step<'a>(value: &'a Value, index: &Expression) -> Option<&'a Value>
+fn direct_step<'a>(value: &'a Value, index: &Expression) -> Option<&'a Value>
     ensures { (e : Environment) →
         IfSome result (λ v. Some (view v.now) ≡ option_and_then (step (view value.now))
         (value_of (expression_view index.now) e)) }
 {
     match index {
-        Expression::Literal(part) => value.near_part(part),
+        Expression::Literal(part) => value.direct_part(part),
         Expression::Variable(_) => None,
     }
 }

@@ -90,12 +90,12 @@ static SUFFIXES: [&str; 9] = [
 
 /// What the message says of a name that another language knows.
 pub(crate) fn name_meant(name: &str) -> Option<&'static str> {
-    told_in(NAMES, name)
+    meaning_in(NAMES, name)
 }
 
 /// The filter that is meant by a step of another language.
 pub(crate) fn filter_meant(step: &str) -> Option<&'static str> {
-    told_in(STEPS, step)
+    meaning_in(STEPS, step)
 }
 
 /// Whether a step is likely the suffix of a file.
@@ -104,10 +104,10 @@ pub(crate) fn is_file_suffix(step: &str) -> bool {
 }
 
 /// What a table has for a name. Each of its lines is a name, and what stands for it.
-fn told_in(table: &'static str, name: &str) -> Option<&'static str> {
+fn meaning_in(table: &'static str, name: &str) -> Option<&'static str> {
     for line in table.lines() {
         match line.split_once(": ") {
-            Some((known, told)) if known == name => return Some(told),
+            Some((known, meaning)) if known == name => return Some(meaning),
             _ => {}
         }
     }

@@ -5,8 +5,8 @@ use liquid_model::{Object, Value};
 
 /// The source of a loop.
 pub enum Items<'d> {
-    /// A list that is lent for the whole run.
-    Lent(&'d [Value]),
+    /// A list that is borrowed for the whole run.
+    Borrowed(&'d [Value]),
     /// A list of the loop's own: the pairs of a map, or a copy of a list that the run may change.
     Owned(Vec<Value>),
     /// The numbers from the first to the second.
@@ -18,7 +18,7 @@ pub enum Items<'d> {
 impl Drop for Items<'_> {
     fn drop(self) {
         match self {
-            Items::Lent(_) => {}
+            Items::Borrowed(_) => {}
             Items::Owned(_) => {}
             Items::Numbers(_, _) => {}
         }
@@ -90,13 +90,13 @@ impl Drop for LoopFrame<'_> {
     }
 }
 
-/// A scope: names with values of their own, a name with a value that is lent, or a loop at one of
+/// A scope: names with values of their own, a name with a borrowed value, or a loop at one of
 /// its items.
 pub enum Scope<'d> {
     /// Names with values of their own.
     Names(Object),
-    /// A name with a value that is lent for the whole run.
-    Lent(&'d str, &'d Value),
+    /// A name with a value that is borrowed for the whole run.
+    Borrowed(&'d str, &'d Value),
     /// A loop at one of its items.
     LoopFrame(LoopFrame<'d>),
 }
@@ -107,7 +107,7 @@ impl Drop for Scope<'_> {
     fn drop(self) {
         match self {
             Scope::Names(_) => {}
-            Scope::Lent(_, _) => {}
+            Scope::Borrowed(_, _) => {}
             Scope::LoopFrame(_) => {}
         }
     }

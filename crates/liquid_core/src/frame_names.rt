@@ -18,13 +18,13 @@ ghost use Rattle.liquid_core.specs.LoopFrames.{parent_of, frame_item, frame_map}
 ghost use Rattle.liquid_core.specs.LoopFrames.{frame_object, object_part, loop_name};
 
 use crate::frame::{Items, LoopFrame, LoopKind, Scope};
-use crate::resolved::{Near, Resolved, Scopes};
+use crate::resolved::{DirectValue, Resolved, Scopes};
 use itoa::Buffer;
 use liquid_model::{Found, Value};
 
 impl<'d> LoopFrame<'d> {
     /// The item, where a value holds it, or it is a number.
-    fn near_item<'a>(&'a self) -> Near<'a>
+    fn direct_item<'a>(&'a self) -> DirectValue<'a>
         ensures { Says result (Some (frame_item self.now)) None }
     {
         let forwards = self.at;
@@ -35,62 +35,62 @@ impl<'d> LoopFrame<'d> {
         };
         let place = self.from + place;
         let items: &'a [Value] = match &self.items {
-            Items::Lent(items) => *items,
+            Items::Borrowed(items) => *items,
             Items::Owned(items) => items.as_slice(),
             Items::Numbers(first, last) => {
                 return match number_at(*first, *last, place) {
-                    Found::Integer(n) => Near::Number(n),
-                    _ => Near::Unsaid,
+                    Found::Integer(n) => DirectValue::Number(n),
+                    _ => DirectValue::Unsaid,
                 };
             }
         };
         if place < items.len() {
-            Near::Held(&items[place])
+            DirectValue::Held(&items[place])
         } else {
-            Near::Unsaid
+            DirectValue::Unsaid
         }
     }
 
     /// `find` of what a value holds, of numbers, and of the loop's object.
-    pub(crate) fn near<'a>(&'a self, name: &str) -> Near<'a>
+    pub(crate) fn direct_value<'a>(&'a self, name: &str) -> DirectValue<'a>
         ensures { (local : Map Datum) → Says result (frame_map self.now local name.now) None }
     {
         if name == self.name {
-            self.near_item()
+            self.direct_item()
         } else if name == self.kind.name() {
-            Near::Loop(self)
+            DirectValue::Loop(self)
         } else {
-            Near::Nothing
+            DirectValue::Nothing
         }
     }
 
     /// `stepped` to what each loop's object has: a number or a truth value, by its name.
-    pub(crate) fn near_stepped<'a>(&self, part: &Value) -> Near<'a>
+    pub(crate) fn direct_stepped<'a>(&self, part: &Value) -> DirectValue<'a>
         ensures { (local : Map Datum) →
             Says result (step (frame_object self.now local) (view part.now)) None }
     {
         match part {
-            Value::Text(name) => self.near_part(name.as_str()),
-            _ => Near::Unsaid,
+            Value::Text(name) => self.direct_part(name.as_str()),
+            _ => DirectValue::Unsaid,
         }
     }
 
     /// `part` of what each loop's object has.
-    fn near_part<'a>(&self, name: &str) -> Near<'a>
+    fn direct_part<'a>(&self, name: &str) -> DirectValue<'a>
         ensures { (local : Map Datum) →
             Says result (object_part (frame_object self.now local) name.now) None }
     {
         let k = self.at;
         let m = self.count;
         match name {
-            "index" => Near::Number((k + 1) as i64),
-            "last" => Near::Truth(k + 1 == m),
-            "first" => Near::Truth(k == 0),
-            "index0" => Near::Number(k as i64),
-            "length" => Near::Number(m as i64),
-            "rindex" => Near::Number((m - k) as i64),
-            "rindex0" => Near::Number((m - k - 1) as i64),
-            _ => Near::Unsaid,
+            "index" => DirectValue::Number((k + 1) as i64),
+            "last" => DirectValue::Truth(k + 1 == m),
+            "first" => DirectValue::Truth(k == 0),
+            "index0" => DirectValue::Number(k as i64),
+            "length" => DirectValue::Number(m as i64),
+            "rindex" => DirectValue::Number((m - k) as i64),
+            "rindex0" => DirectValue::Number((m - k - 1) as i64),
+            _ => DirectValue::Unsaid,
         }
     }
 
@@ -107,38 +107,42 @@ impl<'d> LoopFrame<'d> {
         };
         let place = self.from + place;
         match &self.items {
-            Items::Lent(items) => {
+            Items::Borrowed(items) => {
                 let items: &'d [Value] = *items;
                 if place < items.len() {
-                    Resolved::Lent(Found::Held(&items[place]))
+                    Resolved::Borrowed(Found::Held(&items[place]))
                 } else {
-                    Resolved::Near(Found::Nil)
+                    Resolved::Local(Found::Nil)
                 }
             }
             Items::Owned(items) => {
                 if place < items.len() {
-                    Resolved::Near(Found::Held(&items[place]))
+                    Resolved::Local(Found::Held(&items[place]))
                 } else {
-                    Resolved::Near(Found::Nil)
+                    Resolved::Local(Found::Nil)
                 }
             }
-            Items::Numbers(first, last) => Resolved::Near(number_at(*first, *last, place)),
+            Items::Numbers(first, last) => Resolved::Local(number_at(*first, *last, place)),
         }
     }
 
     /// What the frame binds to the name.
-    pub(crate) fn find<'a>(&'a self, name: &str, behind: Scopes<'a, 'd>) -> Option<Resolved<'a, 'd>>
+    pub(crate) fn find<'a>(
+        &'a self,
+        name: &str,
+        enclosing: Scopes<'a, 'd>,
+    ) -> Option<Resolved<'a, 'd>>
         ensures value { option_map resolved_view result ≡
-            frame_map self.now (local_of (scopes_view behind.entry)) name.now }
+            frame_map self.now (local_of (scopes_view enclosing.entry)) name.now }
         ensures among { IfSome result
-            (IsAmong (behind.entry.frames.now ++ scope.LoopFrame self.now ∷
-            []) behind.entry.outer.now) }
-        ensures nested { IfSome result (λ s. depth s ≤ length behind.entry.frames.now + 1) }
+            (IsAmong (enclosing.entry.frames.now ++ scope.LoopFrame self.now ∷
+            []) enclosing.entry.outer.now) }
+        ensures nested { IfSome result (λ s. depth s ≤ length enclosing.entry.frames.now + 1) }
     {
         if name == self.name {
             Some(self.item())
         } else if name == self.kind.name() {
-            Some(Resolved::Loop(self, behind))
+            Some(Resolved::Loop(self, enclosing))
         } else {
             None
         }
@@ -148,59 +152,61 @@ impl<'d> LoopFrame<'d> {
     pub(crate) fn stepped<'a>(
         &'a self,
         part: &Value,
-        behind: Scopes<'a, 'd>,
+        enclosing: Scopes<'a, 'd>,
     ) -> Option<Resolved<'a, 'd>>
         ensures value { option_map resolved_view result ≡
-            step (frame_object self.now (local_of (scopes_view behind.entry))) (view part.now) }
-        ensures among { IfSome result (IsAmong behind.entry.frames.now behind.entry.outer.now) }
+            step (frame_object self.now (local_of (scopes_view enclosing.entry))) (view part.now) }
+        ensures among { IfSome result
+            (IsAmong enclosing.entry.frames.now enclosing.entry.outer.now) }
     {
         match part {
-            Value::Integer(n) => self.part(Buffer::new().format(*n), behind),
-            Value::Bool(true) => self.part("true", behind),
-            Value::Bool(false) => self.part("false", behind),
-            Value::Text(name) => self.part(name.as_str(), behind),
+            Value::Integer(n) => self.part(Buffer::new().format(*n), enclosing),
+            Value::Bool(true) => self.part("true", enclosing),
+            Value::Bool(false) => self.part("false", enclosing),
+            Value::Text(name) => self.part(name.as_str(), enclosing),
             _ => None,
         }
     }
 
     /// A part of the loop's object, or how many it has.
-    fn part<'a>(&'a self, name: &str, behind: Scopes<'a, 'd>) -> Option<Resolved<'a, 'd>>
+    fn part<'a>(&'a self, name: &str, enclosing: Scopes<'a, 'd>) -> Option<Resolved<'a, 'd>>
         ensures value { option_map resolved_view result ≡
-            object_part (frame_object self.now (local_of (scopes_view behind.entry))) name.now }
-        ensures among { IfSome result (IsAmong behind.entry.frames.now behind.entry.outer.now) }
+            object_part (frame_object self.now (local_of (scopes_view enclosing.entry))) name.now }
+        ensures among { IfSome result
+            (IsAmong enclosing.entry.frames.now enclosing.entry.outer.now) }
     {
         let k = self.at;
         let m = self.count;
         match name {
-            "length" => Some(Resolved::Near(Found::Integer(m as i64))),
-            "index0" => Some(Resolved::Near(Found::Integer(k as i64))),
-            "index" => Some(Resolved::Near(Found::Integer((k + 1) as i64))),
-            "rindex0" => Some(Resolved::Near(Found::Integer((m - k - 1) as i64))),
-            "rindex" => Some(Resolved::Near(Found::Integer((m - k) as i64))),
-            "first" => Some(Resolved::Near(Found::Bool(k == 0))),
-            "last" => Some(Resolved::Near(Found::Bool(k + 1 == m))),
+            "length" => Some(Resolved::Local(Found::Integer(m as i64))),
+            "index0" => Some(Resolved::Local(Found::Integer(k as i64))),
+            "index" => Some(Resolved::Local(Found::Integer((k + 1) as i64))),
+            "rindex0" => Some(Resolved::Local(Found::Integer((m - k - 1) as i64))),
+            "rindex" => Some(Resolved::Local(Found::Integer((m - k) as i64))),
+            "first" => Some(Resolved::Local(Found::Bool(k == 0))),
+            "last" => Some(Resolved::Local(Found::Bool(k + 1 == m))),
             _ => match &self.kind {
                 LoopKind::For(elsewhere) => match name {
-                    "parentloop" => Some(parent(behind.find("forloop"), elsewhere)),
-                    "size" => Some(Resolved::Near(Found::Integer(8))),
+                    "parentloop" => Some(parent(enclosing.find("forloop"), elsewhere)),
+                    "size" => Some(Resolved::Local(Found::Integer(8))),
                     _ => None,
                 },
                 LoopKind::Render => match name {
-                    "parentloop" => Some(Resolved::Near(Found::Nil)),
-                    "size" => Some(Resolved::Near(Found::Integer(8))),
+                    "parentloop" => Some(Resolved::Local(Found::Nil)),
+                    "size" => Some(Resolved::Local(Found::Integer(8))),
                     _ => None,
                 },
                 LoopKind::TableRow(columns) => {
                     let columns = columns.count;
                     let column = k % columns;
                     match name {
-                        "col0" => Some(Resolved::Near(Found::Integer(column as i64))),
-                        "col" => Some(Resolved::Near(Found::Integer((column + 1) as i64))),
-                        "col_first" => Some(Resolved::Near(Found::Bool(column == 0))),
-                        "col_last" => Some(Resolved::Near(Found::Bool(
+                        "col0" => Some(Resolved::Local(Found::Integer(column as i64))),
+                        "col" => Some(Resolved::Local(Found::Integer((column + 1) as i64))),
+                        "col_first" => Some(Resolved::Local(Found::Bool(column == 0))),
+                        "col_last" => Some(Resolved::Local(Found::Bool(
                             column + 1 == columns || k + 1 == m,
                         ))),
-                        "size" => Some(Resolved::Near(Found::Integer(11))),
+                        "size" => Some(Resolved::Local(Found::Integer(11))),
                         _ => None,
                     }
                 }
@@ -219,7 +225,7 @@ fn parent<'a, 'd>(found: Option<Resolved<'a, 'd>>, elsewhere: &'a Value) -> Reso
 {
     match found {
         Some(resolved) => resolved,
-        None => Resolved::Near(Found::Held(elsewhere)),
+        None => Resolved::Local(Found::Held(elsewhere)),
     }
 }
 

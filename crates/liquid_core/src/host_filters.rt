@@ -142,7 +142,7 @@ fn unsupported(alloc: Global) -> Error
     Error::new(
         alloc,
         ErrorKind::Unsupported,
-        "the host hands in no filter of this name that takes so many arguments",
+        "the host provides no filter of this name that takes so many arguments",
     )
 }
 

@@ -13,8 +13,8 @@ mod interrupt;
 pub mod laws;
 mod loop_object;
 mod missing;
-mod near_name;
 mod resolved;
+mod similar_name;
 mod spelled;
 mod state;
 mod step_kind;
@@ -29,7 +29,7 @@ pub use liquid_model::{
     Error, ErrorKind, Found, Location, Object, Origin, Quoted, Result, Use, Uses, Value, ValueCow,
     copy_items, excerpt, line_of, look_up, member_of, store, whole_of,
 };
-pub use near_name::{NearName, nearer};
-pub use resolved::{Near, Resolved, Scopes};
+pub use resolved::{DirectValue, Resolved, Scopes};
+pub use similar_name::{SimilarName, more_similar};
 pub use spelled::Spelled;
 pub use state::{Data, Parts, State};

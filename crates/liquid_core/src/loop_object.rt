@@ -60,11 +60,11 @@ fn put_places(alloc: Global, object: &mut Object, at: usize, total: usize) -> Re
         (put (codes "index") (count (at + 1))
         (put (codes "index0") (count at) (pairs_view object.old.entries))))) }
 {
-    let behind = total - at;
+    let remaining = total - at;
     put_number(alloc, object, "index0", at)?;
     put_number(alloc, object, "index", at + 1)?;
-    put_number(alloc, object, "rindex0", behind - 1)?;
-    put_number(alloc, object, "rindex", behind)
+    put_number(alloc, object, "rindex0", remaining - 1)?;
+    put_number(alloc, object, "rindex", remaining)
 }
 
 /// Whether the item is the first, and the last.

@@ -4,8 +4,8 @@
 use crate::expression::{Expression, Variable, expression_value};
 use crate::foreign_name::{filter_meant, is_file_suffix, name_meant};
 use crate::frame::{LoopFrame, LoopKind, Scope};
-use crate::near_name::{NearName, nearer};
 use crate::resolved::Resolved;
+use crate::similar_name::{SimilarName, more_similar};
 use crate::spelled::{Spelled, SpelledPath};
 use crate::state::State;
 use crate::step_kind::{Kind, kind_of, kind_word};
@@ -13,7 +13,7 @@ use liquid_model::{Object, Quoted, Value};
 use std::alloc::{AllocError, Global};
 use std::fmt::Write;
 
-/// So many names are looked at for a near one, so that the search is short, whatever the data
+/// So many names are looked at for a similar one, so that the search is short, whatever the data
 /// holds.
 const MOST_NAMES: usize = 2000;
 
@@ -38,11 +38,11 @@ static LOOP_PARTS: [&str; 8] = [
     "rindex0",
 ];
 
-/// A search for the name nearest to one that is meant.
+/// A search for the name most similar to one that is meant.
 #[derive(Drop)]
 struct Search<'n, 'm> {
     meant: &'m str,
-    near: Option<NearName<'n>>,
+    similar: Option<SimilarName<'n>>,
     /// So many names may still be looked at.
     left: usize,
 }
@@ -51,7 +51,7 @@ impl<'n, 'm> Search<'n, 'm> {
     fn new(meant: &'m str) -> Search<'n, 'm> {
         Search {
             meant,
-            near: None,
+            similar: None,
             left: MOST_NAMES,
         }
     }
@@ -59,8 +59,8 @@ impl<'n, 'm> Search<'n, 'm> {
     fn look(&mut self, alloc: Global, name: &'n str) -> Result<(), AllocError> {
         if self.left > 0 {
             self.left -= 1;
-            let near = nearer(alloc, name, self.meant, self.near)?;
-            self.near = likely(near, self.meant);
+            let similar = more_similar(alloc, name, self.meant, self.similar)?;
+            self.similar = likely(similar, self.meant);
         }
         Ok(())
     }
@@ -76,9 +76,9 @@ impl<'n, 'm> Search<'n, 'm> {
     }
 }
 
-/// A name that is near to one that is meant, where at most a third of its letters are edited.
-fn likely<'n>(near: Option<NearName<'n>>, meant: &str) -> Option<NearName<'n>> {
-    match near {
+/// A name that is similar to one that is meant, where at most a third of its letters are edited.
+fn likely<'n>(similar: Option<SimilarName<'n>>, meant: &str) -> Option<SimilarName<'n>> {
+    match similar {
         Some(found) if found.edits.saturating_mul(3) <= meant.len() => Some(found),
         _ => None,
     }
@@ -138,14 +138,14 @@ fn without_name(alloc: Global, variable: &Variable, state: &State<'_>) -> Words 
     };
     let mut search = Search::new(name);
     look_in_state(alloc, &mut search, state)?;
-    match search.near {
-        Some(near) => push_near(&mut words, &near)?,
+    match search.similar {
+        Some(similar) => push_similar(&mut words, &similar)?,
         None => push_advice(&mut words, variable, state)?,
     }
     Ok(words)
 }
 
-/// Of a name that nothing is called by, and that is near to none.
+/// Of a name that nothing is called by, and that is similar to none.
 fn push_advice(
     words: &mut String,
     variable: &Variable,
@@ -165,7 +165,7 @@ fn push_advice(
     if state.sees_alone() {
         return write!(
             words,
-            "; a partial that `render` runs sees only what it is handed, as by `{quoted}: {quoted}`"
+            "; a partial that `render` runs sees only what is passed to it, as by `{quoted}: {quoted}`"
         );
     }
     if variable.indexes.is_empty() {
@@ -275,8 +275,8 @@ fn without_key(alloc: Global, path: &Quoted<'_>, name: &str, map: Option<&Object
             }
         }
     }
-    match search.near {
-        Some(near) => push_near(&mut words, &near)?,
+    match search.similar {
+        Some(similar) => push_similar(&mut words, &similar)?,
         None if filter_meant(name).is_some() => push_filter(&mut words, path, name)?,
         None => push_keys(&mut words, map)?,
     }
@@ -306,8 +306,8 @@ fn push_keys(words: &mut String, map: Option<&Object>) -> Result<(), AllocError>
     Ok(())
 }
 
-fn push_near(words: &mut String, near: &NearName<'_>) -> Result<(), AllocError> {
-    let quoted = Quoted { text: near.name };
+fn push_similar(words: &mut String, similar: &SimilarName<'_>) -> Result<(), AllocError> {
+    let quoted = Quoted { text: similar.name };
     write!(words, "; did you mean `{quoted}`?")
 }
 
@@ -328,7 +328,7 @@ fn look_in_state<'n>(
     for scope in state.frames() {
         match scope {
             Scope::Names(object) => search.look_in(alloc, object)?,
-            Scope::Lent(name, _) => search.look(alloc, *name)?,
+            Scope::Borrowed(name, _) => search.look(alloc, *name)?,
             Scope::LoopFrame(frame) => look_in_frame(alloc, search, frame)?,
         }
     }

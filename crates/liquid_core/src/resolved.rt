@@ -23,7 +23,7 @@ use crate::loop_object::{forloop_object, tablerow_object};
 use liquid_model::{Found, Object, Result, Value, ValueCow, look_up};
 use std::alloc::Global;
 
-/// The scopes of a state, lent.
+/// The scopes of a state, borrowed.
 #[derive(Clone, Copy, Drop)]
 pub struct Scopes<'a, 'd> {
     /// The scopes outside every loop.
@@ -35,18 +35,19 @@ pub struct Scopes<'a, 'd> {
 /// What a name or a path has led to.
 #[derive(Drop)]
 pub enum Resolved<'a, 'd> {
-    /// What is lent for the whole run.
-    Lent(Found<'d>),
-    /// What the state lends.
-    Near(Found<'a>),
+    /// A value that is borrowed from the caller's data, for the whole run.
+    Borrowed(Found<'d>),
+    /// A value that the state or the template holds, or a number, a truth value or nil that none
+    /// holds.
+    Local(Found<'a>),
     /// A loop's object, which no value holds.
     Loop(&'a LoopFrame<'d>, Scopes<'a, 'd>),
 }
 
-/// What a name or an expression is, where that is a value that is lent, a number of a range, or a
-/// loop's object or a part of it.
+/// What a name or an expression is, where that is a value that is held, a number of a range, or a
+/// loop's object or a part of it. It is read directly: without memory, and without a fault.
 #[derive(Clone, Copy, Drop)]
-pub enum Near<'a> {
+pub enum DirectValue<'a> {
     /// This value.
     Held(&'a Value),
     /// This number.
@@ -64,13 +65,13 @@ pub enum Near<'a> {
 impl<'d> LoopFrame<'d> {
     /// The loop's object.
     #[cycle(object)]
-    fn object<'a>(&'a self, alloc: Global, behind: Scopes<'a, 'd>) -> Result<Object>
+    fn object<'a>(&'a self, alloc: Global, enclosing: Scopes<'a, 'd>) -> Result<Object>
         ensures { IsValueOrMemory (λ o. object (pairs_view o.entries)) result
-            (frame_object self.now (local_of (scopes_view behind.entry))) }
+            (frame_object self.now (local_of (scopes_view enclosing.entry))) }
     {
         match &self.kind {
             LoopKind::For(elsewhere) => {
-                let parent = match behind.find("forloop") {
+                let parent = match enclosing.find("forloop") {
                     Some(resolved) => resolved.into_value(alloc)?.into_owned(alloc)?,
                     None => elsewhere.copy(alloc)?,
                 };
@@ -101,47 +102,47 @@ impl<'d> Scope<'d> {
 
     /// `find` of what a value holds, and of numbers.
     #[tactic(auto, using(crate::proofs::States::held_at))]
-    fn near<'a>(&'a self, name: &str) -> Near<'a>
+    fn direct_value<'a>(&'a self, name: &str) -> DirectValue<'a>
         ensures { (local : Map Datum) → Says result (scope_map self.now local name.now) None }
     {
         match self {
             Scope::Names(object) => match look_up(object, name) {
-                Some(value) => Near::Held(value),
-                None => Near::Nothing,
+                Some(value) => DirectValue::Held(value),
+                None => DirectValue::Nothing,
             },
-            Scope::Lent(lent, value) => {
-                if name == *lent {
-                    Near::Held(*value)
+            Scope::Borrowed(bound_name, value) => {
+                if name == *bound_name {
+                    DirectValue::Held(*value)
                 } else {
-                    Near::Nothing
+                    DirectValue::Nothing
                 }
             }
-            Scope::LoopFrame(frame) => frame.near(name),
+            Scope::LoopFrame(frame) => frame.direct_value(name),
         }
     }
 
     /// What the scope binds to the name.
     #[tactic(auto, using(crate::proofs::States::held_at))]
-    fn find<'a>(&'a self, name: &str, behind: Scopes<'a, 'd>) -> Option<Resolved<'a, 'd>>
+    fn find<'a>(&'a self, name: &str, enclosing: Scopes<'a, 'd>) -> Option<Resolved<'a, 'd>>
         ensures value { option_map resolved_view result ≡
-            scope_map self.now (local_of (scopes_view behind.entry)) name.now }
+            scope_map self.now (local_of (scopes_view enclosing.entry)) name.now }
         ensures among { IfSome result
-            (IsAmong (behind.entry.frames.now ++ self.now ∷ []) behind.entry.outer.now) }
-        ensures nested { IfSome result (λ s. depth s ≤ length behind.entry.frames.now + 1) }
+            (IsAmong (enclosing.entry.frames.now ++ self.now ∷ []) enclosing.entry.outer.now) }
+        ensures nested { IfSome result (λ s. depth s ≤ length enclosing.entry.frames.now + 1) }
     {
         match self {
             Scope::Names(object) => match look_up(object, name) {
-                Some(value) => Some(Resolved::Near(Found::Held(value))),
+                Some(value) => Some(Resolved::Local(Found::Held(value))),
                 None => None,
             },
-            Scope::Lent(lent, value) => {
-                if name == *lent {
-                    Some(Resolved::Lent(Found::Held(*value)))
+            Scope::Borrowed(bound_name, value) => {
+                if name == *bound_name {
+                    Some(Resolved::Borrowed(Found::Held(*value)))
                 } else {
                     None
                 }
             }
-            Scope::LoopFrame(frame) => frame.find(name, behind),
+            Scope::LoopFrame(frame) => frame.find(name, enclosing),
         }
     }
 }
@@ -156,15 +157,15 @@ impl<'a, 'd> Resolved<'a, 'd> {
             IfSome result (IsAmong scopes outer) }
     {
         match self {
-            Resolved::Lent(found) => match found.stepped(part) {
-                Some(found) => Some(Resolved::Lent(found)),
+            Resolved::Borrowed(found) => match found.stepped(part) {
+                Some(found) => Some(Resolved::Borrowed(found)),
                 None => None,
             },
-            Resolved::Near(found) => match found.stepped(part) {
-                Some(found) => Some(Resolved::Near(found)),
+            Resolved::Local(found) => match found.stepped(part) {
+                Some(found) => Some(Resolved::Local(found)),
                 None => None,
             },
-            Resolved::Loop(frame, behind) => frame.stepped(part, behind),
+            Resolved::Loop(frame, enclosing) => frame.stepped(part, enclosing),
         }
     }
 
@@ -177,11 +178,11 @@ impl<'a, 'd> Resolved<'a, 'd> {
             IfSome result (IsAmong scopes outer) }
     {
         match part {
-            Resolved::Lent(found) => {
+            Resolved::Borrowed(found) => {
                 let value = found.into_value();
                 self.stepped(value.as_value())
             }
-            Resolved::Near(found) => {
+            Resolved::Local(found) => {
                 let value = found.into_value();
                 self.stepped(value.as_value())
             }
@@ -189,17 +190,17 @@ impl<'a, 'd> Resolved<'a, 'd> {
         }
     }
 
-    /// The value, lent where it is held. Only a loop's object takes memory.
+    /// The value, borrowed where it is held. Only a loop's object takes memory.
     #[cycle(object)]
     pub fn into_value(self, alloc: Global) -> Result<ValueCow<'a>>
         ensures value { IsValueOrMemory cow_view result (resolved_view self.entry) }
         ensures no_memory { IsHeld self.entry → IsOk result }
     {
         match self {
-            Resolved::Lent(found) => Ok(found.into_value()),
-            Resolved::Near(found) => Ok(found.into_value()),
-            Resolved::Loop(frame, behind) => Ok(ValueCow::Owned(Value::Object(frame.object(
-                alloc, behind,
+            Resolved::Borrowed(found) => Ok(found.into_value()),
+            Resolved::Local(found) => Ok(found.into_value()),
+            Resolved::Loop(frame, enclosing) => Ok(ValueCow::Owned(Value::Object(frame.object(
+                alloc, enclosing,
             )?))),
         }
     }
@@ -209,7 +210,7 @@ impl<'a, 'd> Scopes<'a, 'd> {
     /// `find` of what a value holds, and of numbers; where no loop says anything, the scopes
     /// outside every loop do.
     #[inline(never)]
-    pub(crate) fn near(self, name: &str) -> Near<'a>
+    pub(crate) fn direct_value(self, name: &str) -> DirectValue<'a>
         ensures { Says result (local_of (scopes_view self.entry) name.now)
             (local_of (reverse (map held self.entry.outer.now)) name.now) }
     {
@@ -217,12 +218,12 @@ impl<'a, 'd> Scopes<'a, 'd> {
         let mut left = frames.len();
         while left > 0 {
             let last = left - 1;
-            match frames[last].near(name) {
-                Near::Nothing => left = last,
+            match frames[last].direct_value(name) {
+                DirectValue::Nothing => left = last,
                 said => return said,
             }
         }
-        Near::Nothing
+        DirectValue::Nothing
     }
 
     /// What the scope at a place binds to the name.
@@ -238,12 +239,12 @@ impl<'a, 'd> Scopes<'a, 'd> {
             (reverse (map held self.entry.outer.now)))) name.now }
     {
         let frames = self.frames;
-        let behind = Scopes {
+        let enclosing = Scopes {
             outer: self.outer,
             frames: &frames[..last],
         };
         let scope: &'a Scope<'d> = &frames[last];
-        scope.find(name, behind)
+        scope.find(name, enclosing)
     }
 
     /// What a name is in the innermost scope that holds it.
@@ -273,7 +274,7 @@ fn outer_find<'a, 'd>(scopes: &'a [Object], name: &str) -> Option<Resolved<'a, '
     ensures nested { IfSome result (λ s. depth s ≡ 0) }
 {
     match last_held(scopes, name) {
-        Some(value) => Some(Resolved::Near(Found::Held(value))),
+        Some(value) => Some(Resolved::Local(Found::Held(value))),
         None => None,
     }
 }

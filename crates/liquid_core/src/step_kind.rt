@@ -17,8 +17,8 @@ pub(crate) enum Kind<'a> {
 /// What is found, to a step.
 pub(crate) fn kind_of<'a>(resolved: &Resolved<'a, '_>) -> Kind<'a> {
     match resolved {
-        Resolved::Lent(found) => kind_of_found(found),
-        Resolved::Near(found) => kind_of_found(found),
+        Resolved::Borrowed(found) => kind_of_found(found),
+        Resolved::Local(found) => kind_of_found(found),
         Resolved::Loop(_, _) => Kind::Loop,
     }
 }

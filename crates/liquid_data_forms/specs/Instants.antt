@@ -29,7 +29,7 @@ fraction_off t (Some p) = if (length p.0 == 8) && is_digits p.1 then (p.0, []) e
 abbrev pub whole_seconds : Text → Text × Text
 whole_seconds t = if length t == 5 then (t, codes ":00") else fraction_off t (split_at_byte 46 t)
 
--- an offset before its colon, after two digits, and behind it
+-- an offset before its colon, after two digits, and after it
 abbrev pub colon_off : Text → Option (Text × Text) → Text × Text
 colon_off z None = (z, [])
 colon_off z (Some p) = if length p.0 == 2 then p else (z, [])
@@ -46,13 +46,13 @@ zoned time sign offset = day_and_time (whole_seconds time) ++ sign
     ++ day_and_time (without_colon offset)
 
 -- a time alone is that of UTC
-abbrev pub clock_behind : Text → Option (Text × Text) → Text
-clock_behind t (Some p) = zoned p.0 (codes " -") p.1
-clock_behind t None = zoned t (codes " +0000") []
+abbrev pub clock_west : Text → Option (Text × Text) → Text
+clock_west t (Some p) = zoned p.0 (codes " -") p.1
+clock_west t None = zoned t (codes " +0000") []
 
 abbrev pub clock_ahead : Text → Option (Text × Text) → Text
 clock_ahead t (Some p) = zoned p.0 (codes " +") p.1
-clock_ahead t None = clock_behind t (split_at_byte 45 t)
+clock_ahead t None = clock_west t (split_at_byte 45 t)
 
 abbrev pub utc_clock_text : Text → Option (Text × Text) → Text
 utc_clock_text t (Some p) = zoned p.0 (codes " +0000") p.1

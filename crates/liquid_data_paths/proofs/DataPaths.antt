@@ -5,7 +5,7 @@ use mathlib.Core.Path.{subst}
 use Rattle.liquid_model.specs.Data.{Datum, nil, truth, number, text, object, array, Items, no_items, item, Pairs}
 use Rattle.liquid_model.specs.Find.{value_at}
 use Rattle.liquid_data_paths.specs.DataPaths.{Lacking, first_lack, in_items, in_member, lack_at, of_each_item, of_found, or_later, values_along}
-use Rattle.liquid_data_paths.specs.Laws.{IsElementOf, IsLack, LackingIsTold, NothingElseLacks}
+use Rattle.liquid_data_paths.specs.Laws.{FirstLackIsLack, IsElementOf, IsLack, NothingElseLacks}
 use Rattle.liquid_data_paths.specs.declared.data_path.Step.{Step}
 use Rattle.liquid_data_paths.specs.declared.data_path.Step.TheVariants.{Key, Each}
 
@@ -27,10 +27,10 @@ among_either d (x ∷ xs) ys (inr a) = later (among_either d xs ys a)
     later (inl b) = inl (inr b)
     later (inr b) = inr b
 
--- ---- what is told is lacking
+-- ---- the first lack is a lack
 
-abbrev Told : List Step → Type 0
-Told p = (d : Datum) (l : Lacking) → first_lack p d ≡ Some l → IsLack p d l
+abbrev FirstIsLack : List Step → Type 0
+FirstIsLack p = (d : Datum) (l : Lacking) → first_lack p d ≡ Some l → IsLack p d l
 
 some_same : (x y : Lacking) → Some x ≡ Some y → x ≡ y
 some_same x y e = ap get e
@@ -40,10 +40,10 @@ some_same x y e = ap get e
     get None = x
 
 -- the map itself hasn't the key
-told_here : (k : String Global) (p : List Step) (ps : Pairs) (l : Lacking) (b : Bool) → value_at (string_bytes k) ps ≡ None
+lack_here : (k : String Global) (p : List Step) (ps : Pairs) (l : Lacking) (b : Bool) → value_at (string_bytes k) ps ≡ None
     → cond b None (Some (record { left = length p; among = ps })) ≡ Some l → IsLack (Key k ∷ p) (object ps) l
-told_here k p ps l true none e = absurd cc
-told_here k p ps l false none e =
+lack_here k p ps l true none e = absurd cc
+lack_here k p ps l false none e =
     let same = some_same (record { left = length p; among = ps }) l e in
     subst (IsLack (Key k ∷ p) (object ps)) same (record {
       before = [];
@@ -55,10 +55,10 @@ told_here k p ps l false none e =
       none_there = none;
     })
 
-told_member : (k : String Global) (p : List Step) (ps : Pairs) (l : Lacking) (o : Option Datum) → Told p → value_at (string_bytes k) ps ≡ o
+lack_member : (k : String Global) (p : List Step) (ps : Pairs) (l : Lacking) (o : Option Datum) → FirstIsLack p → value_at (string_bytes k) ps ≡ o
     → in_member (first_lack p) (lack_at (string_bytes k) (length p) ps) o ≡ Some l → IsLack (Key k ∷ p) (object ps) l
-told_member k p ps l None below found e = told_here k p ps l (bytes_eq (string_bytes k) (codes "size")) found e
-told_member k p ps l (Some v) below found e =
+lack_member k p ps l None below found e = lack_here k p ps l (bytes_eq (string_bytes k) (codes "size")) found e
+lack_member k p ps l (Some v) below found e =
     let r = below v l e in record {
       before = Key k ∷ r.before;
       key = r.key;
@@ -72,28 +72,28 @@ told_member k p ps l (Some v) below found e =
 abbrev InItems : List Step → Items → Lacking → Type 0
 InItems p ds l = (v : Datum) × IsLack p v l × ((f : Datum → List Datum) (x : Datum) → IsElementOf x (f v) → IsElementOf x (of_each_item f ds))
 
-told_first : (p : List Step) (d : Datum) (ds : Items) (l : Lacking) (o : Option Lacking) → Told p
+lack_first : (p : List Step) (d : Datum) (ds : Items) (l : Lacking) (o : Option Lacking) → FirstIsLack p
     → (in_items (first_lack p) ds ≡ Some l → InItems p ds l) → first_lack p d ≡ o
     → or_later o (in_items (first_lack p) ds) ≡ Some l → InItems p (item d ds) l
-told_first p d ds l (Some x) below later is e = (d, below d l (is ∙ e), (λ f y a. among_front y (f d) (of_each_item f ds) a))
-told_first p d ds l None below later is e =
+lack_first p d ds l (Some x) below later is e = (d, below d l (is ∙ e), (λ f y a. among_front y (f d) (of_each_item f ds) a))
+lack_first p d ds l None below later is e =
     let r = later e in
     (r.0, r.1, (λ f y a. among_back y (f d) (of_each_item f ds) (r.2 f y a)))
 
-told_items : (p : List Step) (ds : Items) (l : Lacking) → Told p → in_items (first_lack p) ds ≡ Some l → InItems p ds l
-told_items p no_items l below e = absurd cc
-told_items p (item d ds) l below e = told_first p d ds l (first_lack p d) below (told_items p ds l below) refl e
+lack_items : (p : List Step) (ds : Items) (l : Lacking) → FirstIsLack p → in_items (first_lack p) ds ≡ Some l → InItems p ds l
+lack_items p no_items l below e = absurd cc
+lack_items p (item d ds) l below e = lack_first p d ds l (first_lack p d) below (lack_items p ds l below) refl e
 
-pub lacking_is_told : LackingIsTold
-lacking_is_told [] d l e = absurd cc
-lacking_is_told (Key k ∷ p) (object ps) l e = told_member k p ps l (value_at (string_bytes k) ps) (lacking_is_told p) refl e
-lacking_is_told (Key k ∷ p) nil l e = absurd cc
-lacking_is_told (Key k ∷ p) (truth b) l e = absurd cc
-lacking_is_told (Key k ∷ p) (number z) l e = absurd cc
-lacking_is_told (Key k ∷ p) (text s) l e = absurd cc
-lacking_is_told (Key k ∷ p) (array ds) l e = absurd cc
-lacking_is_told (Each ∷ p) (array ds) l e =
-    let r = told_items p ds l (lacking_is_told p) e in record {
+pub first_lack_is_lack : FirstLackIsLack
+first_lack_is_lack [] d l e = absurd cc
+first_lack_is_lack (Key k ∷ p) (object ps) l e = lack_member k p ps l (value_at (string_bytes k) ps) (first_lack_is_lack p) refl e
+first_lack_is_lack (Key k ∷ p) nil l e = absurd cc
+first_lack_is_lack (Key k ∷ p) (truth b) l e = absurd cc
+first_lack_is_lack (Key k ∷ p) (number z) l e = absurd cc
+first_lack_is_lack (Key k ∷ p) (text s) l e = absurd cc
+first_lack_is_lack (Key k ∷ p) (array ds) l e = absurd cc
+first_lack_is_lack (Each ∷ p) (array ds) l e =
+    let r = lack_items p ds l (first_lack_is_lack p) e in record {
       before = Each ∷ r.1.before;
       key = r.1.key;
       after = r.1.after;
@@ -102,11 +102,11 @@ lacking_is_told (Each ∷ p) (array ds) l e =
       on_the_way = r.2 (values_along r.1.before) (object l.among) r.1.on_the_way;
       none_there = r.1.none_there;
     }
-lacking_is_told (Each ∷ p) nil l e = absurd cc
-lacking_is_told (Each ∷ p) (truth b) l e = absurd cc
-lacking_is_told (Each ∷ p) (number z) l e = absurd cc
-lacking_is_told (Each ∷ p) (text s) l e = absurd cc
-lacking_is_told (Each ∷ p) (object ps) l e = absurd cc
+first_lack_is_lack (Each ∷ p) nil l e = absurd cc
+first_lack_is_lack (Each ∷ p) (truth b) l e = absurd cc
+first_lack_is_lack (Each ∷ p) (number z) l e = absurd cc
+first_lack_is_lack (Each ∷ p) (text s) l e = absurd cc
+first_lack_is_lack (Each ∷ p) (object ps) l e = absurd cc
 
 -- ---- and nothing else
 

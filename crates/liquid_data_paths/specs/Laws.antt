@@ -1,6 +1,6 @@
 -- Laws of paths in data.
---     LackingIsTold      what is told to lack a path is a map on the way, and hasn't the next key
---     NothingElseLacks      where nothing is told, each map on the way has the next key
+--     FirstLackIsLack      the first that lacks a path is a map on the way without the next key
+--     NothingElseLacks      where nothing lacks it, each map on the way has the next key
 use Rattle.std.specs.Prelude.{◌≡◌, ◌⊎◌, false, bytes_eq, codes, string_bytes}
 use Rattle.std.specs.Prelude.{List, [], ◌∷◌, ◌++◌, length, Some, None, is_some, true, String}
 use Rattle.std.specs.declared.alloc.Global.{Global}
@@ -24,8 +24,8 @@ pub record IsLack (p : List Step) (d : Datum) (l : Lacking) : Type 0 where
   pub on_the_way : IsElementOf (object l.among) (values_along before d)
   pub none_there : value_at (string_bytes key) l.among ≡ None
 
-abbrev pub LackingIsTold : Type 0
-LackingIsTold = (p : List Step) (d : Datum) (l : Lacking) → first_lack p d ≡ Some l → IsLack p d l
+abbrev pub FirstLackIsLack : Type 0
+FirstLackIsLack = (p : List Step) (d : Datum) (l : Lacking) → first_lack p d ≡ Some l → IsLack p d l
 
 abbrev pub NothingElseLacks : Type 0
 NothingElseLacks =

@@ -46,22 +46,22 @@ no_date : (d : Datum) → date_of d ≡ None → IsNoDate d
 no_date d none x is = some_other (clock x) (sym none ∙ date_read d x is)
 
 -- what a value is that may be a date: R of its clock, or the answer of what is none
-abbrev Told : Datum → (Clock → Answer → Type 0) → Answer → Answer → Type 0
-Told d R other a = ((x : Spelled) × IsDate d x × R (clock x) a) ⊎ (IsNoDate d × (a ≡ other))
+abbrev ByDate : Datum → (Clock → Answer → Type 0) → Answer → Answer → Type 0
+ByDate d R other a = ((x : Spelled) × IsDate d x × R (clock x) a) ⊎ (IsNoDate d × (a ≡ other))
 
-told_one : (d : Datum) (R : Clock → Answer → Type 0) (other : Answer) (o : Option Clock) (f : Option Clock → Answer) → date_of d ≡ o → f None ≡ other → ((x : Spelled) → exists x ≡ true → IsTheOne (R (clock x)) (f (Some (clock x))))
-    → IsTheOne (Told d R other) (f o)
-told_one d R other None f is missing ones =
-    one (Told d R other) (f None) (inr (no_date d is, missing)) (unique)
+by_date_one : (d : Datum) (R : Clock → Answer → Type 0) (other : Answer) (o : Option Clock) (f : Option Clock → Answer) → date_of d ≡ o → f None ≡ other → ((x : Spelled) → exists x ≡ true → IsTheOne (R (clock x)) (f (Some (clock x))))
+    → IsTheOne (ByDate d R other) (f o)
+by_date_one d R other None f is missing ones =
+    one (ByDate d R other) (f None) (inr (no_date d is, missing)) (unique)
   where
-    unique : (a : Answer) → Told d R other a → a ≡ f None
+    unique : (a : Answer) → ByDate d R other a → a ≡ f None
     unique a (inl (x, date, r)) = absurd (no_date d is x date)
     unique a (inr (none, e)) = e ∙ sym missing
-told_one d R other (Some c) f is missing ones =
+by_date_one d R other (Some c) f is missing ones =
     let (x, date, same) = read_date d c is in
-    one (Told d R other) (f (Some c)) (inl (x, date, subst (λ z. R (clock x) (f (Some z))) (sym same) ((ones x date.2 _).1 refl))) unique
+    one (ByDate d R other) (f (Some c)) (inl (x, date, subst (λ z. R (clock x) (f (Some z))) (sym same) ((ones x date.2 _).1 refl))) unique
   where
-    unique : (a : Answer) → Told d R other a → a ≡ f (Some c)
+    unique : (a : Answer) → ByDate d R other a → a ≡ f (Some c)
     unique a (inl (y, date, r)) =
         let at : clock y ≡ c = from_some (sym (date_read d y date) ∙ is) in
         (ones y date.2 a).0 r ∙ ap (λ z. f (Some z)) at
@@ -76,7 +76,7 @@ dated_one : (d : Datum) (pattern : Text) → IsTheOne (PrintsDate d pattern) (da
 dated_one d [] = same_one (Ok d)
 dated_one d (b ∷ bs) =
     subst (λ t. IsTheOne (PrintsDate d (b ∷ bs)) (if t then Ok d else or_input d (date_of d) (b ∷ bs))) (sym (not_empty (length bs)))
-    (told_one d (λ c a. a ≡ as_text (printed c (b ∷ bs))) (Ok d) (date_of d) (λ o. or_input d o (b ∷ bs)) refl refl (λ x there. same_one (as_text (printed (clock x) (b ∷ bs)))))
+    (by_date_one d (λ c a. a ≡ as_text (printed c (b ∷ bs))) (Ok d) (date_of d) (λ o. or_input d o (b ∷ bs)) refl refl (λ x there. same_one (as_text (printed (clock x) (b ∷ bs)))))
 
 pub date_is_one : DateIsOne
 date_is_one d args = dated_one d (text_or [] args)
@@ -108,7 +108,7 @@ offset_within : (x : Spelled) → exists x ≡ true → (neg_ℤ (pos 86_400) �
 offset_within x e =
     let hours : x.offset.hours ≤ 23 = grind (arith, nat_tests) in
     let minutes : x.offset.minutes ≤ 59 = grind (arith, nat_tests) in
-    offset_bound x.offset.behind (x.offset.hours * 3600 + x.offset.minutes * 60) (omega (arith, hours, minutes))
+    offset_bound x.offset.is_west (x.offset.hours * 3600 + x.offset.minutes * 60) (omega (arith, hours, minutes))
 
 hours_by : (h : ℤ) → (int_le (neg_ℤ (pos 23)) h ≡ true) × (int_le h (pos 23) ≡ true) → (neg_ℤ (pos 23) ≤ℤ h) × (h ≤ℤ pos 23)
 hours_by h e =
@@ -136,7 +136,7 @@ shown_one x pattern h true there zone =
 
 -- what is printed by hours that may be no whole number
 abbrev ByHours : Datum → Text → Option ℤ → Answer → Type 0
-ByHours d p o a = ((o ≡ None) × (a ≡ Err InvalidArgument)) ⊎ ((h : ℤ) × (o ≡ Some h) × Told d (λ c. PrintsAt c p h) (Err InvalidInput) a)
+ByHours d p o a = ((o ≡ None) × (a ≡ Err InvalidArgument)) ⊎ ((h : ℤ) × (o ≡ Some h) × ByDate d (λ c. PrintsAt c p h) (Err InvalidInput) a)
 
 zone_one : (d : Datum) (p : Text) (o : Option ℤ) → IsTheOne (ByHours d p o) (number_or_fault o >>= in_zone (date_of d) p)
 zone_one d p None = one (ByHours d p None) (Err InvalidArgument) (inl (refl, refl)) unique
@@ -146,12 +146,12 @@ zone_one d p None = one (ByHours d p None) (Err InvalidArgument) (inl (refl, ref
     unique a (inr (h, e, t)) = absurd (some_other h e)
 zone_one d p (Some h) = one (ByHours d p (Some h)) (in_zone (date_of d) p h) (inr (h, refl, (ones (in_zone (date_of d) p h)).1 refl)) unique
   where
-    ones : IsTheOne (Told d (λ c. PrintsAt c p h) (Err InvalidInput)) (in_zone (date_of d) p h)
-    ones = told_one d (λ c. PrintsAt c p h) (Err InvalidInput) (date_of d) (λ o. in_zone o p h) refl refl (λ x there. shown_one x p h (is_zone h) there refl)
+    ones : IsTheOne (ByDate d (λ c. PrintsAt c p h) (Err InvalidInput)) (in_zone (date_of d) p h)
+    ones = by_date_one d (λ c. PrintsAt c p h) (Err InvalidInput) (date_of d) (λ o. in_zone o p h) refl refl (λ x there. shown_one x p h (is_zone h) there refl)
 
     unique : (a : Answer) → ByHours d p (Some h) a → a ≡ in_zone (date_of d) p h
     unique a (inl x) = absurd (some_other h (sym x.0))
-    unique a (inr (k, e, t)) = (ones a).0 (subst (λ j. Told d (λ c. PrintsAt c p j) (Err InvalidInput) a) (sym (from_some e)) t)
+    unique a (inr (k, e, t)) = (ones a).0 (subst (λ j. ByDate d (λ c. PrintsAt c p j) (Err InvalidInput) a) (sym (from_some e)) t)
 
 pub date_in_tz_is_one : DateInTzIsOne
 date_in_tz_is_one d pattern hours args = zone_one d (text_of pattern) (whole hours)

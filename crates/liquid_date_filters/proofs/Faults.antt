@@ -10,5 +10,5 @@ at : {Y : Type 0} (b : Bool) (wanted k : ErrorKind) (a : Result Y ErrorKind) →
 at true wanted k a plain e h = tt
 at false wanted k a plain e h = (e ∙ ap Err h, sym (ap is_refusal h) ∙ plain)
 
-pub told_faulted : {Y : Type 0} (wanted k : ErrorKind) (a : Result Y ErrorKind) → is_refusal wanted ≡ false → a ≡ Err wanted → IsKindOrMemory wanted k → Faulted k a
-told_faulted wanted k a plain e h = at (is_memory k) wanted k a plain e h
+pub kind_faulted : {Y : Type 0} (wanted k : ErrorKind) (a : Result Y ErrorKind) → is_refusal wanted ≡ false → a ≡ Err wanted → IsKindOrMemory wanted k → Faulted k a
+kind_faulted wanted k a plain e h = at (is_memory k) wanted k a plain e h

@@ -179,7 +179,7 @@ time_in None = record { hour = 0; minute = 0; second = 0 }
 time_in (Some x) = x.0
 
 abbrev offset_in : Read Offset → Offset
-offset_in None = record { behind = false; hours = 0; minutes = 0 }
+offset_in None = record { is_west = false; hours = 0; minutes = 0 }
 offset_in (Some x) = x.0
 
 abbrev plain₅ : ℕ → ℕ → ℕ × List ℕ → Read Day
@@ -304,7 +304,7 @@ sign_was [] r b e = search (rules, e)
 sign_was (c ∷ s) r b e = sign_by (c == 43) (c == 45) c s r b refl refl e
 
 abbrev offset₃ : Bool → ℕ → ℕ × List ℕ → Read Offset
-offset₃ n h m = Some (record { behind = n; hours = h; minutes = m.0 }, m.1)
+offset₃ n h m = Some (record { is_west = n; hours = h; minutes = m.0 }, m.1)
 
 abbrev offset₂ : Bool → ℕ × List ℕ → Read Offset
 offset₂ n h = ◌>>=◌ (two h.1) (offset₃ n h.0)

@@ -46,7 +46,7 @@ sign_read false s = refl
 pub offset_read : (o : Offset) (s : List ℕ) → o.hours < 100 → o.minutes < 100 → offset (offset_written o s) ≡ Some (o, s)
 unfolding offset
 offset_read o s h m =
-    rw (sign_read o.behind (two_digits o.hours (two_digits o.minutes s)), two_read o.hours (two_digits o.minutes s) h, two_read o.minutes s m) refl
+    rw (sign_read o.is_west (two_digits o.hours (two_digits o.minutes s)), two_read o.hours (two_digits o.minutes s) h, two_read o.minutes s m) refl
 
 -- an ordinary date is no day with a month's name: its third byte is a digit
 no_space : (a : ℕ) (s : List ℕ) → a < 10 → past_date_byte 32 ((48 + a) ∷ s) ≡ None

@@ -136,7 +136,7 @@ sign [] = None
 sign (a ∷ s) = if a == 43 then Some (false, s) else (if a == 45 then Some (true, s) else None)
 
 pub record Offset : Type 0 where
-  pub behind : Bool
+  pub is_west : Bool
   pub hours : ℕ
   pub minutes : ℕ
 
@@ -145,7 +145,7 @@ offset s = do
   n ← sign s
   h ← two n.1
   m ← two h.1
-  Some (record { behind = n.0; hours = h.0; minutes = m.0 }, m.1)
+  Some (record { is_west = n.0; hours = h.0; minutes = m.0 }, m.1)
 
 abbrev pub end : List ℕ → {A : Type 0} → A → Option A
 end [] x = Some x
@@ -177,7 +177,7 @@ exists x =
 
 abbrev pub offset_seconds : Offset → ℤ
 offset_seconds o =
-    if o.behind then neg_ℤ (pos (o.hours * 3600 + o.minutes * 60)) else pos
+    if o.is_west then neg_ℤ (pos (o.hours * 3600 + o.minutes * 60)) else pos
     (o.hours * 3600 + o.minutes * 60)
 
 -- the clock that shows it
@@ -211,7 +211,7 @@ abbrev pub time_of : CodeTime → Time
 time_of t = record { hour = t.hour; minute = t.minute; second = t.second }
 
 abbrev pub offset_of : CodeOffset → Offset
-offset_of o = record { behind = o.behind; hours = o.hours; minutes = o.minutes }
+offset_of o = record { is_west = o.is_west; hours = o.hours; minutes = o.minutes }
 
 abbrev pub whole_view : CodeSpelled → Spelled
 whole_view x = record { date = day_of x.date; time = time_of x.time; offset = offset_of x.offset }

@@ -40,10 +40,10 @@ abbrev pub time_written : Time → Text → Text
 time_written t s = two_digits t.hour (58 ∷ two_digits t.minute (58 ∷ two_digits t.second s))
 
 abbrev pub sign_of : Bool → ℕ
-sign_of behind = if behind then 45 else 43
+sign_of is_west = if is_west then 45 else 43
 
 abbrev pub offset_written : Offset → Text → Text
-offset_written o s = sign_of o.behind ∷ two_digits o.hours (two_digits o.minutes s)
+offset_written o s = sign_of o.is_west ∷ two_digits o.hours (two_digits o.minutes s)
 
 -- the date in one of its spellings, and then time and offset
 abbrev pub date_written : (Day → Text → Text) → Spelled → Text

@@ -109,7 +109,7 @@ fn civil_offset(x: Offset) -> jiff_core::Offset
     ensures { result.seconds ≡ spec.offset_seconds (spec.offset_of x) }
 {
     let ahead = x.hours as i32 * 3600 + x.minutes as i32 * 60;
-    if x.behind {
+    if x.is_west {
         return jiff_core::Offset { seconds: -ahead };
     }
     jiff_core::Offset { seconds: ahead }

@@ -135,7 +135,7 @@ pub(crate) struct Time {
 /// An offset as it is written.
 #[derive(Clone, Copy)]
 pub(crate) struct Offset {
-    pub behind: bool,
+    pub is_west: bool,
     pub hours: u8,
     pub minutes: u8,
 }
@@ -214,12 +214,12 @@ fn read_offset(text: &[u8]) -> Option<(Offset, &[u8])>
     ensures value { spec.offset_view result ≡ spec.offset text.now }
     ensures bound { IfSome result (λ p. spec.IsOffset p.0) }
 {
-    let (behind, text) = sign(text)?;
+    let (is_west, text) = sign(text)?;
     let (hours, text) = two(text)?;
     let (minutes, text) = two(text)?;
     Some((
         Offset {
-            behind,
+            is_west,
             hours,
             minutes,
         },

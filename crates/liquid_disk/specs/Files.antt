@@ -10,7 +10,7 @@ use Rattle.liquid_disk.specs.declared.disk.DiskFault.TheVariants.{Memory, Refuse
 pub data File : Type 0 where
   gone : File
   holds : Text → File
-  unread : File
+  unreadable : File
 
 abbrev pub Files : Type 0
 Files = Text → File
@@ -24,7 +24,7 @@ abbrev pub IsFound : File → Result (Option (String Global)) DiskFault → Type
 IsFound file (Ok None) = file ≡ gone
 IsFound file (Ok (Some text)) = file ≡ holds (string_bytes text)
 IsFound file (Err Memory) = ⊤
-IsFound file (Err Refused) = file ≡ unread
+IsFound file (Err Refused) = file ≡ unreadable
 
 -- a file may have changed at this path, and no other
 abbrev pub ChangesAt : Text → Files → Option Files → Type 0

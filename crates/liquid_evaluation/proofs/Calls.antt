@@ -17,8 +17,8 @@ use Rattle.liquid_core.specs.Environment.{Environment}
 use Rattle.liquid_core.specs.Expressions.{value_of, required, all_required}
 use Rattle.liquid_core.specs.FilterAnswers.{AnswersIf}
 use Rattle.liquid_core.specs.Said.{Says}
-use Rattle.liquid_core.specs.declared.resolved.Near.{Near}
-use Rattle.liquid_core.specs.declared.resolved.Near.TheVariants.{Held, Number, Truth, Loop, Nothing, Unsaid}
+use Rattle.liquid_core.specs.declared.resolved.DirectValue.{DirectValue}
+use Rattle.liquid_core.specs.declared.resolved.DirectValue.TheVariants.{Held, Number, Truth, Loop, Nothing, Unsaid}
 use Rattle.liquid_evaluation.specs.Calls.{Call, applied}
 use Rattle.liquid_evaluation.specs.Said.{SaysOf}
 use Rattle.liquid_evaluation.specs.Tree.{FilterCall, Chain}
@@ -35,12 +35,12 @@ faulted_then {A} {B} kind a f h = on (is_memory kind) h
 pub faulted_as : {A : Type 0} (kind : ErrorKind) (a b : Result A ErrorKind) → a ≡ b → Faulted kind b → Faulted kind a
 faulted_as kind a b e h = subst (λ r. Faulted kind r) (sym e) h
 
--- the same fault, told again
-pub faulted_told : {A : Type 0} (kind told : ErrorKind) (wanted : Result A ErrorKind) → IsKindOrMemory kind told → Faulted kind wanted → Faulted told wanted
-faulted_told kind told wanted h f = on (is_memory told) refl h
+-- the same fault, with more in its message
+pub faulted_again : {A : Type 0} (kind reported : ErrorKind) (wanted : Result A ErrorKind) → IsKindOrMemory kind reported → Faulted kind wanted → Faulted reported wanted
+faulted_again kind reported wanted h f = on (is_memory reported) refl h
   where
-    on : (b : Bool) → is_memory told ≡ b → MatchBool b ⊤ (kind ≡ told) → MatchBool (is_memory told) ⊤ ((wanted ≡ Err told) × (is_refusal told ≡ false))
-    on true is m = subst (λ b. MatchBool b ⊤ ((wanted ≡ Err told) × (is_refusal told ≡ false))) (sym is) tt
+    on : (b : Bool) → is_memory reported ≡ b → MatchBool b ⊤ (kind ≡ reported) → MatchBool (is_memory reported) ⊤ ((wanted ≡ Err reported) × (is_refusal reported ≡ false))
+    on true is m = subst (λ b. MatchBool b ⊤ ((wanted ≡ Err reported) × (is_refusal reported ≡ false))) (sym is) tt
     on false is m = subst (λ k. Faulted k wanted) m f
 
 -- ---- answers of filters whose kinds need not be the meaning's
@@ -239,7 +239,7 @@ its_entry : (answers : FilterAnswers) (chain : Chain) (e : Environment) (d : Dat
 its_entry answers chain e d none h =
     chain_from answers chain e d (sym (ap (λ o. entry_value o chain.filters) h)) ∙ ap (λ fs. applied (calls_by answers fs) d e) none ∙ nothing_applied answers d e
 
-pub said_of : (n : Near) (chain : Chain) (e : Environment) → chain.filters ≡ [] → Says n (value_of chain.entry e) None → SaysOf n chain e
+pub said_of : (n : DirectValue) (chain : Chain) (e : Environment) → chain.filters ≡ [] → Says n (value_of chain.entry e) None → SaysOf n chain e
 said_of (Held v) chain e none h = λ answers. its_entry answers chain e (view v.now) none h
 said_of (Number n) chain e none h = λ answers. its_entry answers chain e (number n) none h
 said_of (Truth b) chain e none h = λ answers. its_entry answers chain e (truth b) none h

@@ -17,8 +17,8 @@ use Rattle.liquid_evaluation.specs.Evaluation.{contains, occurs_in}
 begins : (n s : Text) → starts_with nat_eq s n ≡ true → HasSubslice s n
 begins n s h = ([], drop (length n) s, (starts_is Decides-eqb s n _ refl).0 h)
 
-behind : (n s : Text) (c : ℕ) → HasSubslice s n → HasSubslice (c ∷ s) n
-behind n s c h = (c ∷ h.0, h.1, ap (λ l. c ∷ l) h.2)
+one_further : (n s : Text) (c : ℕ) → HasSubslice s n → HasSubslice (c ∷ s) n
+one_further n s c h = (c ∷ h.0, h.1, ap (λ l. c ∷ l) h.2)
 
 either : (a b : Bool) {X : Type 0} → (a || b) ≡ true → (a ≡ true → X) → (b ≡ true → X) → X
 either true b h left right = left refl
@@ -26,7 +26,7 @@ either false b h left right = right h
 
 found : (n s : Text) → occurs_in n s ≡ true → HasSubslice s n
 found n [] h = begins n [] h
-found n (c ∷ s) h = either _ _ h (begins n (c ∷ s)) (λ later. behind n s c (found n s later))
+found n (c ∷ s) h = either _ _ h (begins n (c ∷ s)) (λ later. one_further n s c (found n s later))
 
 at_front : (n s back : Text) → s ≡ n ++ back → occurs_in n s ≡ true
 at_front n [] back e = (starts_is Decides-eqb [] n _ refl).1 back e

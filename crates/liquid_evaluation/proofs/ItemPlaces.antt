@@ -1,4 +1,4 @@
--- The items of a loop: by their place, as they are lent, and how many numbers there are.
+-- The items of a loop: by their place, as they are borrowed, and how many numbers there are.
 use Rattle.std.proofs.Common.{◌≡◌, ℕ, nat_le, ℤ, Bool, true, false, cond, List, length, map, get_or, Vec, Global, Ok, Err, refl, sym, ap, ◌∙◌, subst}
 use Rattle.std.proofs.lemmas.List.{length-map}
 use Rattle.liquid_model.specs.Answer.{Faulted}
@@ -12,7 +12,7 @@ use Rattle.liquid_model.specs.declared.value.Value.TheVariants.{Array}
 use Rattle.liquid_model.proofs.Views.{view-Array, list_of_view}
 use Rattle.liquid_core.specs.LoopFrames.{item_of}
 use Rattle.liquid_core.specs.declared.frame.Items.{Items}
-use Rattle.liquid_core.specs.declared.frame.Items.TheVariants.{Lent, Owned, Numbers}
+use Rattle.liquid_core.specs.declared.frame.Items.TheVariants.{Borrowed, Owned, Numbers}
 use Rattle.liquid_evaluation.specs.Evaluation.{most_items, not_too_long, count_to, numbers_from}
 use Rattle.liquid_evaluation.specs.ItemLists.{all_items}
 use Rattle.liquid_evaluation.specs.Ranges.{items_in, between, range_items, checked_count}
@@ -20,7 +20,7 @@ use Rattle.liquid_evaluation.proofs.Calls.{faulted_then}
 use Rattle.liquid_evaluation.proofs.Ranges.{number_by_place}
 
 pub item_by_place : (items : Items) (i : ℕ) → item_of items i ≡ get_or (all_items items) i nil
-item_by_place (Lent r) i = refl
+item_by_place (Borrowed r) i = refl
 item_by_place (Owned v) i = refl
 item_by_place (Numbers a b) i = number_by_place a b i
 
@@ -51,8 +51,8 @@ numbers_refused kind a b a' b' n first last e h =
     subst (λ r. Faulted kind r) (by_count (nat_le (count_to a b) most_items) (numbers_from a (count_to a b)) (count_to a b))
     (faulted_then kind (checked_count (count_to a b)) (λ _. Ok (numbers_from a (count_to a b))) (subst (λ k. Faulted kind (checked_count k)) counted h))
 
-pub lent_list : (value : Value) (v : Vec Value Global) (xs : List Value) (n m : ℕ) → value ≡ Array v → xs ≡ v.items → n ≡ length v.items → checked_count n ≡ Ok m
+pub borrowed_list : (value : Value) (v : Vec Value Global) (xs : List Value) (n m : ℕ) → value ≡ Array v → xs ≡ v.items → n ≡ length v.items → checked_count n ≡ Ok m
     → range_items (items_in (view value)) ≡ Ok (map view xs)
-lent_list value v xs n m is e counts h =
+borrowed_list value v xs n m is e counts h =
     ap (λ w. range_items (items_in (view w))) is ∙ ap (λ d. range_items (items_in d)) (view-Array v) ∙ ap (λ ds. not_too_long (length ds) ds) (list_of_view v.items)
     ∙ all_fit (map view v.items) n m (counts ∙ sym (length-map v.items view)) h ∙ ap (λ l. Ok (map view l)) (sym e)

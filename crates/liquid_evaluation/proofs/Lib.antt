@@ -5,6 +5,6 @@ pub mod RangeParts
 pub mod Ranges
 pub mod Sources
 pub mod Telling
-pub mod ToldParts
+pub mod NameParts
 pub mod Windows
 pub mod WrittenJoins

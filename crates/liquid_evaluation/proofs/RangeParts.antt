@@ -38,7 +38,7 @@ item_past [] i h = refl
 item_past (v ∷ vs) zero h = absurd (omega arith)
 item_past (v ∷ vs) (suc i) h = item_past vs i (omega arith)
 
--- the items of a value are counted before it is told whether they are too many
+-- the items of a value are counted before they are checked against the bound
 by_parts : (v : Result (List Datum) ErrorKind) → ((v >>= (λ ds. not_too_long (length ds) ds)) >>= (λ ds. Ok (length ds))) ≡ ((v >>= (λ ds. Ok (length ds))) >>= checked_count)
 by_parts (Err kind) = refl
 by_parts (Ok ds) = on (nat_le (length ds) most_items)
@@ -83,9 +83,9 @@ counted (Ok ds) n h = on (nat_le (length ds) most_items) h
 abbrev pub cows : Vec ValueCow Global → List Datum
 cows v = map cow_view v.items
 
-pub lent_items : (r : Result (Vec ValueCow Global) Error) (value : Value) (v : Vec Value Global) → value ≡ Array v → IsValueOrMemory cows r (map view v.items) → Answers cows r (value_items (view value))
-lent_items (Ok x) value v is h = ap (λ w. value_items (view w)) is ∙ ap value_items (view-Array v) ∙ ap Ok (list_of_view v.items ∙ sym h)
-lent_items (Err e) value v is h = subst (λ kind. Faulted kind (value_items (view value))) (sym h) tt
+pub borrowed_items : (r : Result (Vec ValueCow Global) Error) (value : Value) (v : Vec Value Global) → value ≡ Array v → IsValueOrMemory cows r (map view v.items) → Answers cows r (value_items (view value))
+borrowed_items (Ok x) value v is h = ap (λ w. value_items (view w)) is ∙ ap value_items (view-Array v) ∙ ap Ok (list_of_view v.items ∙ sym h)
+borrowed_items (Err e) value v is h = subst (λ kind. Faulted kind (value_items (view value))) (sym h) tt
 
 pub list_given : (s : Range) (cow : ValueCow) (value : Value) (n : ℕ) (r : Result (Vec ValueCow Global) Error) → s ≡ ranges.Array cow → view value ≡ cow_view cow → range_count (range_view s) ≡ Ok n
     → Answers cows r (value_items (view value)) → Answers cows r (range_items (range_view s))

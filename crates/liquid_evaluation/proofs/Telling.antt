@@ -20,7 +20,7 @@ module _ {V : Type 0} {tells : V → List Text → Bool → V → Type 0} (telli
   pub ended : (u v : V) (xs ys zs : List Text) (b r : Bool) → tells u xs b v → b ≡ true → r ≡ true → zs ≡ xs ++ ys → tells u zs r v
   ended u v xs ys zs b r h is holds e = subst (λ l. tells u l r v) (sym e) (subst (λ s. tells u (xs ++ ys) s v) (sym holds) (telling.ends u v xs ys (subst (λ s. tells u xs s v) is h)))
 
-  -- the first part was told, and then another
+  -- it visited the first part, and then another
   pub went_on : (u v w : V) (xs ys zs : List Text) (b r : Bool) → tells u xs b v → b ≡ false → tells v ys r w → zs ≡ xs ++ ys → tells u zs r w
   went_on u v w xs ys zs b r h is k e = subst (λ l. tells u l r w) (sym e) (telling.both u v w xs ys r (subst (λ s. tells u xs s v) is h) k)
 
@@ -32,8 +32,8 @@ module _ {V : Type 0} {tells : V → List Text → Bool → V → Type 0} (telli
     pub item_ended : (first u v : V) (xs : List X) (i : ℕ) (x : X) (b : Bool) → Continues first xs i u → tells u (one x) b v → b ≡ true → x ≡ get_or xs i x → i < length xs → tells first (all xs) true v
     item_ended first u v xs i x b goes h holds is lt = goes true v (ended u v (one x) (all (drop (i + 1) xs)) _ b true h holds refl (next_item one all each xs i x is lt))
 
-    pub item_told : (first u v : V) (xs : List X) (i : ℕ) (x : X) (b : Bool) → Continues first xs i u → tells u (one x) b v → b ≡ false → x ≡ get_or xs i x → i < length xs → Continues first xs (i + 1) v
-    item_told first u v xs i x b goes h fails is lt r w k = goes r w (went_on u v w (one x) (all (drop (i + 1) xs)) _ b r h fails k (next_item one all each xs i x is lt))
+    pub item_visited : (first u v : V) (xs : List X) (i : ℕ) (x : X) (b : Bool) → Continues first xs i u → tells u (one x) b v → b ≡ false → x ≡ get_or xs i x → i < length xs → Continues first xs (i + 1) v
+    item_visited first u v xs i x b goes h fails is lt r w k = goes r w (went_on u v w (one x) (all (drop (i + 1) xs)) _ b r h fails k (next_item one all each xs i x is lt))
 
-    pub all_told : (first u : V) (xs : List X) (i : ℕ) → Continues first xs i u → length xs ≤ i → tells first (all xs) false u
-    all_told first u xs i goes le = goes false u (subst (λ l. tells u l false u) (sym (ap all (drop_all i xs le) ∙ each.none)) (telling.none u))
+    pub all_visited : (first u : V) (xs : List X) (i : ℕ) → Continues first xs i u → length xs ≤ i → tells first (all xs) false u
+    all_visited first u xs i goes le = goes false u (subst (λ l. tells u l false u) (sym (ap all (drop_all i xs le) ∙ each.none)) (telling.none u))

@@ -16,7 +16,7 @@ from_separator : {X : Type 0} (written : X → Text) (separator : Text) (xs : Li
 from_separator written separator [] = refl
 from_separator written separator (x ∷ xs) = sym (append_assoc separator (written x) _)
 
--- behind one more text the separator comes before the next
+-- after one more text the separator comes before the next
 pub one_text_more : {A B : Type 0} (view : A → B) (written : B → Text) (separator front done whole : Text) (xs : List A) (i : ℕ) (x : A) → drop i xs ≡ x ∷ drop (i + 1) xs
     → done ++ joined_from front written separator (map view (drop i xs)) ≡ whole
     → ((done ++ front) ++ written (view x)) ++ joined_from separator written separator (map view (drop (i + 1) xs)) ≡ whole

@@ -7,11 +7,11 @@ ghost use Rattle.liquid_core.specs.ExpressionView.{expression_view};
 ghost use Rattle.liquid_core.specs.States.{environment_of};
 ghost use Rattle.liquid_evaluation.specs.inside.Arguments.{arguments_view};
 
-use liquid_core::{Expression, Near, Result, State, Value, ValueCow};
+use liquid_core::{DirectValue, Expression, Result, State, Value, ValueCow};
 use std::alloc::Global;
 use std::slice;
 
-/// The values of a call's arguments: a single one, as it is lent, or a list of copies. Most calls
+/// The values of a call's arguments: a single one, borrowed, or a list of copies. Most calls
 /// have one argument or none, and then nothing is copied.
 pub(crate) enum Arguments<'x> {
     One(ValueCow<'x>),
@@ -41,7 +41,7 @@ impl Arguments<'_> {
 }
 
 /// The values of the expressions, where there is none, or a single one that a value holds.
-pub(crate) fn lent_arguments<'x>(
+pub(crate) fn borrowed_arguments<'x>(
     expressions: &'x [Expression],
     state: &'x State<'_>,
 ) -> Option<&'x [Value]>
@@ -52,8 +52,8 @@ pub(crate) fn lent_arguments<'x>(
 {
     match expressions {
         [] => Some(&[]),
-        [expression] => match expression.near(state) {
-            Near::Held(value) => Some(slice::from_ref(value)),
+        [expression] => match expression.direct_value(state) {
+            DirectValue::Held(value) => Some(slice::from_ref(value)),
             _ => None,
         },
         _ => None,

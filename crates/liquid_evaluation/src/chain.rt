@@ -7,7 +7,8 @@ use crate::any_filter::AnyFilter;
 use crate::filter_call::{FilterCall, apply_one};
 use crate::stored_filter::StoredFilter;
 use liquid_core::{
-    Error, Expression, HostFilters, NamedFilters, Near, Quoted, Result, State, Value, ValueCow,
+    DirectValue, Error, Expression, HostFilters, NamedFilters, Quoted, Result, State, Value,
+    ValueCow,
 };
 use std::alloc::Global;
 
@@ -115,8 +116,8 @@ impl FilterChain {
         self.evaluate_cow(alloc, state, host)?.into_owned(alloc)
     }
 
-    /// `evaluate_by` without a copy: where the chain has no filters, the value is lent by its
-    /// literal or by the state, which takes no memory, unless it is the whole object of a loop.
+    /// `evaluate_by` without a copy: where the chain has no filters, the value is borrowed from its
+    /// literal or the state, which takes no memory, unless it is the whole object of a loop.
     pub fn evaluate_cow<'a, H: NamedFilters>(
         &'a self,
         alloc: Global,
@@ -141,14 +142,15 @@ impl FilterChain {
         Ok(value)
     }
 
-    /// The value of a chain without filters, where it is lent or a number, as `Expression::near`.
-    pub fn near<'a>(&'a self, state: &'a State<'_>) -> Near<'a>
+    /// The value of a chain without filters, where it is held or a number, as
+    /// `Expression::direct_value`.
+    pub fn direct_value<'a>(&'a self, state: &'a State<'_>) -> DirectValue<'a>
         ensures { SaysOf result (chain_view self.now) (environment_of state.now) }
     {
         if self.filters.is_empty() {
-            self.entry.near(state)
+            self.entry.direct_value(state)
         } else {
-            Near::Unsaid
+            DirectValue::Unsaid
         }
     }
 
@@ -166,7 +168,7 @@ impl FilterChain {
         if self.filters.is_empty() {
             return self.entry.evaluate(alloc, state);
         }
-        if let Near::Held(value) = self.entry.near(state) {
+        if let DirectValue::Held(value) = self.entry.direct_value(state) {
             return Ok(ValueCow::Borrowed(value));
         }
         match self.entry.try_evaluate(alloc, state)? {
@@ -187,7 +189,7 @@ fn of_filter(alloc: Global, name: &str, fault: Error) -> Error
     };
     let quoted = Quoted { text: name };
     match format!(in alloc; "`{quoted}`: {message}") {
-        Ok(message) => fault.retold(message),
+        Ok(message) => fault.reworded(message),
         Err(refused) => Error::from(refused),
     }
 }

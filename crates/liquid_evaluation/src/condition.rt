@@ -13,7 +13,7 @@ ghost use Rattle.liquid_evaluation.specs.Tree as tree;
 ghost use Rattle.liquid_evaluation.specs.inside.Comparisons.{truth_beside};
 
 use crate::comparison::ComparisonOperator;
-use liquid_core::{Expression, Near, Result, State, Value};
+use liquid_core::{DirectValue, Expression, Result, State, Value};
 use std::alloc::Global;
 use std::fmt;
 use std::fmt::{Formatter, Write};
@@ -79,17 +79,17 @@ impl Atom {
             (atom_truth (atom_view self.now) (environment_of state.now)) }
     {
         match self {
-            Atom::Bare(value) => match value.near(state) {
-                Near::Held(found) => Ok(found.is_truthy()),
-                Near::Truth(found) => Ok(found),
+            Atom::Bare(value) => match value.direct_value(state) {
+                DirectValue::Held(found) => Ok(found.is_truthy()),
+                DirectValue::Truth(found) => Ok(found),
                 _ => bare_holds(alloc, value, state),
             },
             Atom::Compared(left, operator, right) => {
-                match left.near(state) {
-                    Near::Held(left) => {
+                match left.direct_value(state) {
+                    DirectValue::Held(left) => {
                         return holds_beside(alloc, left, *operator, right, state);
                     }
-                    Near::Number(n) => {
+                    DirectValue::Number(n) => {
                         let left = Value::Integer(n);
                         let held = holds_beside(alloc, &left, *operator, right, state);
                         drop(left);
@@ -130,7 +130,7 @@ fn holds_beside(
         (expression_view right.now)
         (environment_of state.now)) }
 {
-    if let Near::Held(right) = right.near(state) {
+    if let DirectValue::Held(right) = right.direct_value(state) {
         return operator.holds(alloc, left, right);
     }
     let right = right.evaluate(alloc, state)?;

@@ -7,7 +7,7 @@ ghost use Rattle.liquid_core.specs.States.{environment_of};
 ghost use Rattle.liquid_model.specs.View.{view};
 ghost use Rattle.liquid_evaluation.specs.Calls.{applied, call_of};
 
-use crate::arguments::{evaluate_all, lent_arguments};
+use crate::arguments::{borrowed_arguments, evaluate_all};
 use liquid_core::{Expression, Filter, Result, State, Value, ValueCow};
 use std::alloc::Global;
 
@@ -40,7 +40,7 @@ pub fn apply_filters<F: Filter>(
     apply_to(alloc, ValueCow::Owned(entry), calls, state)?.into_owned(alloc)
 }
 
-/// `apply_filters` over an entry that may be lent, which without calls is answered as it was.
+/// `apply_filters` over an entry that may be borrowed, which without calls is answered as it was.
 pub fn apply_to<'v, F: Filter>(
     alloc: Global,
     entry: ValueCow<'v>,
@@ -51,7 +51,7 @@ pub fn apply_to<'v, F: Filter>(
     ensures value { AnswersIf (list_all (λ c. F.within c.filter) calls.now) cow_view result
         (applied (map (λ c. call_of (F.answer c.filter) c.args.now) calls.now)
         (cow_view entry.entry) (environment_of state.now)) }
-    ensures lent { calls.now ≡ [] → result ≡ Ok entry.entry }
+    ensures without_calls { calls.now ≡ [] → result ≡ Ok entry.entry }
 {
     let mut value = entry;
     for call in calls {
@@ -60,7 +60,7 @@ pub fn apply_to<'v, F: Filter>(
     Ok(value)
 }
 
-/// `apply_filters` of one call, over a value that is lent.
+/// `apply_filters` of one call, over a borrowed value.
 pub(crate) fn apply_one<F: Filter>(
     alloc: Global,
     input: &Value,
@@ -72,8 +72,8 @@ pub(crate) fn apply_one<F: Filter>(
         (applied (call_of (F.answer call.now.filter) call.now.args.now ∷ []) (view input.now)
         (environment_of state.now)) }
 {
-    if let Some(lent) = lent_arguments(call.args, state) {
-        return call.filter.evaluate(alloc, input, lent);
+    if let Some(borrowed) = borrowed_arguments(call.args, state) {
+        return call.filter.evaluate(alloc, input, borrowed);
     }
     let arguments = evaluate_all(alloc, call.args, state)?;
     let answer = call.filter.evaluate(alloc, input, arguments.as_slice());

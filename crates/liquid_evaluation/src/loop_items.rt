@@ -1,4 +1,4 @@
-//! The items of a loop, lent where the data holds them.
+//! The items of a loop, borrowed where the data holds them.
 ghost use Rattle.std.specs.Prelude.{◌≡◌, ◌≤◌, IfOk, length, map};
 ghost use Rattle.liquid_model.specs.Answer.{Answers, IsValueOrMemory};
 ghost use Rattle.liquid_model.specs.Found.{found_view};
@@ -25,8 +25,8 @@ pub struct LoopItems<'d> {
 }
 
 impl RangeExpression {
-    /// The items of the source. A list that is lent for the whole run stays lent, and any other is
-    /// copied, for the body of a loop may set the name that holds it.
+    /// The items of the source. A list that is borrowed for the whole run stays so, and any other
+    /// is copied, for the body of a loop may set the name that holds it.
     ///
     /// The faults are those of `evaluate` and then those of `Range::evaluate`.
     #[tactic(auto, unfolding(crate::specs::Evaluation::source_items))]
@@ -55,7 +55,7 @@ fn resolved_items<'d>(alloc: Global, resolved: Resolved<'_, 'd>) -> Result<LoopI
     ensures within { IfOk result (λ r. r.count ≤ 9223372036854775807) }
 {
     match resolved {
-        Resolved::Lent(found) => found_items(alloc, found),
+        Resolved::Borrowed(found) => found_items(alloc, found),
         other => {
             let value = other.into_value(alloc)?;
             owned_items(alloc, value.as_value())
@@ -63,7 +63,7 @@ fn resolved_items<'d>(alloc: Global, resolved: Resolved<'_, 'd>) -> Result<LoopI
     }
 }
 
-/// The items of what is lent for the whole run.
+/// The items of what is borrowed for the whole run.
 fn found_items<'d>(alloc: Global, found: Found<'d>) -> Result<LoopItems<'d>>
     ensures items { Answers (λ r. all_items r.items) result
         (range_items (items_in (found_view found.entry))) }
@@ -71,13 +71,13 @@ fn found_items<'d>(alloc: Global, found: Found<'d>) -> Result<LoopItems<'d>>
     ensures within { IfOk result (λ r. r.count ≤ 9223372036854775807) }
 {
     match found {
-        Found::Held(value) => lent_items(alloc, value),
+        Found::Held(value) => borrowed_items(alloc, value),
         other => owned_items(alloc, other.into_value().as_value()),
     }
 }
 
-/// The items of a value, of which a list is lent.
-fn lent_items<'d>(alloc: Global, value: &'d Value) -> Result<LoopItems<'d>>
+/// The items of a value, of which a list is borrowed.
+fn borrowed_items<'d>(alloc: Global, value: &'d Value) -> Result<LoopItems<'d>>
     ensures items { Answers (λ r. all_items r.items) result
         (range_items (items_in (view value.now))) }
     ensures count { IfOk result (λ r. r.count ≡ length (all_items r.items)) }
@@ -86,7 +86,7 @@ fn lent_items<'d>(alloc: Global, value: &'d Value) -> Result<LoopItems<'d>>
     match value {
         Value::Array(items) => {
             let count = checked_count(alloc, items.len() as u128)?;
-            let items = Items::Lent(items.as_slice());
+            let items = Items::Borrowed(items.as_slice());
             Ok(LoopItems { items, count })
         }
         _ => owned_items(alloc, value),

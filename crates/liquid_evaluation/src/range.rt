@@ -32,7 +32,7 @@ pub enum Range<'r> {
 const MOST_ITEMS: u128 = 9223372036854775807;
 
 impl<'r> Range<'r> {
-    /// The items, in their order. Those of a list are lent.
+    /// The items, in their order. Those of a list are borrowed.
     ///
     /// `UnexpectedValue` where the value is no list, no map and not nil; `RangeTooLong` where there
     /// are more than 9223372036854775807 items.
@@ -62,8 +62,8 @@ impl<'r> Range<'r> {
     }
 
     /// Item `place`, counted from 0, or nil where there is none: a number is computed, and an item
-    /// of a list is lent. The pair of a map is made, which alone takes memory, and found by a walk
-    /// from the first one.
+    /// of a list is borrowed. The pair of a map is made, which alone takes memory, and found by a
+    /// walk from the first one.
     pub fn item(&self, alloc: Global, place: usize) -> Result<ValueCow<'_>>
         ensures { IsValueOrMemory cow_view result (range_item (range_view self.now) place) }
     {
@@ -73,7 +73,7 @@ impl<'r> Range<'r> {
         }
     }
 
-    /// An equal range. A value that is lent stays lent, and any other is copied.
+    /// An equal range. A borrowed value stays borrowed, and any other is copied.
     pub fn copy(&self, alloc: Global) -> Result<Range<'r>>
         ensures { IsValueOrMemory range_view result (range_view self.now) }
     {
@@ -92,13 +92,13 @@ impl<'r> Range<'r> {
 
 // ---- the items of a value
 
-/// The items of a list, lent, the pairs of a map, or the none of nil.
+/// The items of a list, borrowed, the pairs of a map, or the none of nil.
 fn value_items(alloc: Global, value: &Value) -> Result<Vec<ValueCow<'_>>>
     ensures { Answers (λ v. map cow_view v.items) result (value_items (view value.now)) }
 {
     match value {
         Value::Nil => Ok(Vec::new(alloc)),
-        Value::Array(items) => lent(alloc, items),
+        Value::Array(items) => borrowed_values(alloc, items),
         Value::Object(pairs) => pair_lists(alloc, pairs),
         _ => Err(without_items(alloc, value)),
     }
@@ -128,7 +128,7 @@ fn value_item(alloc: Global, value: &Value, place: usize) -> Result<ValueCow<'_>
     }
 }
 
-/// The item at this place, lent, or nil.
+/// The item at this place, borrowed, or nil.
 fn item_at<'a>(items: &'a Vec<Value>, place: usize) -> ValueCow<'a>
     ensures { cow_view result ≡ get_or (map view items.now.items) place nil }
 {
@@ -139,8 +139,8 @@ fn item_at<'a>(items: &'a Vec<Value>, place: usize) -> ValueCow<'a>
     }
 }
 
-/// The items, lent.
-fn lent<'a>(alloc: Global, items: &'a Vec<Value>) -> Result<Vec<ValueCow<'a>>>
+/// The items, borrowed.
+fn borrowed_values<'a>(alloc: Global, items: &'a Vec<Value>) -> Result<Vec<ValueCow<'a>>>
     ensures { IsValueOrMemory (λ v. map cow_view v.items) result (map view items.now.items) }
 {
     let mut values = Vec::with_capacity(alloc, items.len())?;

@@ -33,8 +33,8 @@ impl Drop for RangeExpression {
 }
 
 impl RangeExpression {
-    /// What the loop goes over in this state. A value is lent by what holds it. The ends of a range
-    /// are evaluated in turn, and each is converted before the next is evaluated.
+    /// What the loop goes over in this state. A value is borrowed from what holds it. The ends of
+    /// a range are evaluated in turn, and each is converted before the next is evaluated.
     ///
     /// `UnknownVariable` where an expression has no value, `UnexpectedValue` where the end of a
     /// range has no whole number.

@@ -1,4 +1,4 @@
--- What a filter answers, told by the relation that its answer stands in.
+-- What a filter answers, as the relation that its answer stands in.
 use Rattle.std.specs.Prelude.{MatchBool, ⊤, List, [], ◌∷◌, Result, Ok, Err}
 use Rattle.liquid_model.specs.Data.{Datum}
 use Rattle.liquid_model.specs.ErrorKinds.{is_memory}

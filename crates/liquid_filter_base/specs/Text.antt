@@ -1,4 +1,4 @@
--- Filters that make a text of the input's text, and how their answers are told.
+-- Filters that make a text of the input's text, and what their answers are.
 use Rattle.std.specs.Prelude.{◌≡◌, ℕ, Bool, true, false, ◌&&◌, ◌==◌, List, [], ◌∷◌, Ok}
 use Rattle.liquid_model.specs.Data.{Datum, text, text_of}
 use Rattle.liquid_model.specs.Texts.{Text}

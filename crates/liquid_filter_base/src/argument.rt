@@ -19,7 +19,7 @@ pub fn text_argument(alloc: Global, value: &Value) -> Result<String>
     value.text(alloc)
 }
 
-/// The text of a value, lent where the value is a text already.
+/// The text of a value, borrowed where the value is a text already.
 pub fn text_of<'a>(alloc: Global, value: &'a Value) -> Result<CowStr<'a>>
     ensures { IsValueOrMemory cow_str_bytes result (text_of (view value.now)) }
 {

@@ -15,7 +15,7 @@ use std::fmt::{Formatter, Write};
 
 /// The fault of an input that isn't what is wanted, which a few words with an article name.
 pub fn invalid_input(alloc: Global, wanted: &str, found: &Value) -> Error
-    ensures told { IsKindOrMemory InvalidInput result.kind }
+    ensures kind_or_memory { IsKindOrMemory InvalidInput result.kind }
     ensures message { IsTrue
         (is_line most_bytes (must_be (codes "the input") wanted.now (view found.now)))
         → HasMessageUnlessMemory (must_be (codes "the input") wanted.now (view found.now)) result }
@@ -30,7 +30,7 @@ pub fn invalid_input(alloc: Global, wanted: &str, found: &Value) -> Error
 
 /// The fault of an argument that isn't what is wanted, which a few words with an article name.
 pub fn invalid_argument(alloc: Global, wanted: &str, found: &Value) -> Error
-    ensures told { IsKindOrMemory InvalidArgument result.kind }
+    ensures kind_or_memory { IsKindOrMemory InvalidArgument result.kind }
     ensures message { IsTrue
         (is_line most_bytes (must_be (codes "the argument") wanted.now (view found.now)))
         → HasMessageUnlessMemory (must_be (codes "the argument") wanted.now (view found.now))

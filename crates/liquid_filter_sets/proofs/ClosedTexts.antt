@@ -1,4 +1,4 @@
--- The items of a text with a closer behind it, as tokens.
+-- The items of a text with a closer after it, as tokens.
 use Rattle.std.proofs.Common.{◌≡◌, List, [], ◌∷◌, length, Bool, Some, refl, ap, ◌∙◌}
 use Rattle.std.specs.Option.{option_and_then}
 use Rattle.liquid_model.specs.Texts.{Text}

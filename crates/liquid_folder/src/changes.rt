@@ -104,7 +104,7 @@ fn names_in(rt: &HostRuntime, path: &str) -> std::result::Result<Names, FolderSt
         Ok(entries) => entries,
         Err(refused) => match refused.kind() {
             io::ErrorKind::NotFound => return Ok(Names { names, is_whole }),
-            _ => return Err(FolderStop::unread(rt.alloc(), path, None)),
+            _ => return Err(FolderStop::unreadable(rt.alloc(), path, None)),
         },
     };
     for entry in entries {

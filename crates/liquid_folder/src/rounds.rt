@@ -112,7 +112,7 @@ impl<'r> Rounds<'r> {
 /// All files of the folder, once there is one for the pages' files.
 fn changes_at_first(rt: &HostRuntime, folder: &Folder, out: &str) -> Result<Listing, FolderStop> {
     if fs::create_dir_all(rt, out).is_err() {
-        return Err(FolderStop::unread(rt.alloc(), out, None));
+        return Err(FolderStop::unreadable(rt.alloc(), out, None));
     }
     all_files(rt, folder)
 }
@@ -127,7 +127,7 @@ fn first_site(
         Ok(Some(text)) => Ok(site_of(rt.alloc(), text.as_str())?),
         Ok(None) | Err(DiskFault::Refused) => {
             let path = folder.data.as_str();
-            Err(FolderStop::unread(rt.alloc(), path, reason_of(rt, path)))
+            Err(FolderStop::unreadable(rt.alloc(), path, reason_of(rt, path)))
         }
         Err(DiskFault::Memory) => Err(FolderStop::from(AllocError)),
     }

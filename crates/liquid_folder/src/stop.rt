@@ -15,7 +15,7 @@ pub enum FolderStop {
     /// The folder of this path isn't there.
     Missing(String),
     /// The file or folder of this path can't be read or made, and why, where that is known.
-    Unread(String, Option<Reason>),
+    Unreadable(String, Option<Reason>),
     /// The pages would be written into the folder of this path, where templates are.
     Inside(String),
     /// The data has a fault, or memory ran out.
@@ -26,9 +26,9 @@ pub enum FolderStop {
 
 impl FolderStop {
     /// A path that can't be read.
-    pub fn unread(alloc: Global, path: &str, reason: Option<Reason>) -> FolderStop {
+    pub fn unreadable(alloc: Global, path: &str, reason: Option<Reason>) -> FolderStop {
         match String::from_str(alloc, path) {
-            Ok(path) => FolderStop::Unread(path, reason),
+            Ok(path) => FolderStop::Unreadable(path, reason),
             Err(refused) => FolderStop::from(refused),
         }
     }
@@ -56,7 +56,7 @@ impl FolderStop {
         match self {
             FolderStop::Usage => 2,
             FolderStop::Missing(_)
-            | FolderStop::Unread(_, _)
+            | FolderStop::Unreadable(_, _)
             | FolderStop::Inside(_)
             | FolderStop::Fault(_)
             | FolderStop::Streams(_) => 1,
@@ -79,7 +79,7 @@ impl fmt::Display for FolderStop {
                 let path = shown(path);
                 write!(f, "error: Read: {path}\n  there is no such folder")
             }
-            FolderStop::Unread(path, reason) => {
+            FolderStop::Unreadable(path, reason) => {
                 let path = shown(path);
                 write!(f, "error: Read: {path}")?;
                 match reason {

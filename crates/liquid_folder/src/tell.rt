@@ -41,7 +41,7 @@ fn tell_refusal(rt: &HostRuntime, refusal: &RefusedFile) -> io::Result<()> {
         path: refusal.path.as_str(),
     };
     match &refusal.why {
-        RefusalReason::Unread => {
+        RefusalReason::Unreadable => {
             eprintln!(rt; "error: Read: {path}")?;
             match reason_of(rt, path.path) {
                 Some(reason) => eprintln!(rt; "  {reason}"),

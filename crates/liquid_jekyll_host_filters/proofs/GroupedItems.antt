@@ -29,17 +29,17 @@ or_or : (a b c : Bool) → (a || (b || c)) ≡ ((a || b) || c)
 or_or true b c = refl
 or_or false b c = refl
 
-has_behind : (q : Text) (us : List Text) (t : Text) → has_text q (us ++ t ∷ []) ≡ (has_text q us || same_text q t)
-has_behind q [] t = or_false (same_text q t)
-has_behind q (u ∷ us) t = ap (λ b. same_text q u || b) (has_behind q us t) ∙ or_or (same_text q u) (has_text q us) (same_text q t)
+has_appended : (q : Text) (us : List Text) (t : Text) → has_text q (us ++ t ∷ []) ≡ (has_text q us || same_text q t)
+has_appended q [] t = or_false (same_text q t)
+has_appended q (u ∷ us) t = ap (λ b. same_text q u || b) (has_appended q us t) ∙ or_or (same_text q u) (has_text q us) (same_text q t)
 
 noted_by : (q t : Text) (us : List Text) (b : Bool) → has_text t us ≡ b → has_text q us ≡ true → has_text q (if b then us else us ++ t ∷ []) ≡ true
 noted_by q t us true e h = h
-noted_by q t us false e h = has_behind q us t ∙ ap (λ c. c || same_text q t) h
+noted_by q t us false e h = has_appended q us t ∙ ap (λ c. c || same_text q t) h
 
 pub itself_by : (t : Text) (us : List Text) (b : Bool) → has_text t us ≡ b → has_text t (if b then us else us ++ t ∷ []) ≡ true
 itself_by t us true e = e
-itself_by t us false e = has_behind t us t ∙ ap (λ c. has_text t us || c) (own t) ∙ or_true (has_text t us)
+itself_by t us false e = has_appended t us t ∙ ap (λ c. has_text t us || c) (own t) ∙ or_true (has_text t us)
 
 pub kept : (name q : Text) (us : List Text) (ds : List Datum) → has_text q us ≡ true → has_text q (names_after name us ds) ≡ true
 kept name q us [] h = h
@@ -64,10 +64,10 @@ joins_by : (old : List (Bor Value)) (item : Bor Value) (d : Datum) (b : Bool) �
 joins_by old item d true e = map-append datum_of old (item ∷ []) ∙ ap (λ x. map datum_of old ++ x ∷ []) e
 joins_by old item d false e = map-append datum_of old []
 
--- the same of items that are lent
-pub one_more_member : (old new : List (Bor Value)) (item : Value) (lent : Bor Value) (t u q : Text) → new ≡ old ++ item_if_named t lent q → lent.now ≡ item → t ≡ u → map datum_of new ≡ map datum_of old ++ member_if_named u (view item) q
-one_more_member old new item lent t u q n l e =
-    ap (map datum_of) n ∙ joins_by old lent (view item) (same_text q t) (ap view l) ∙ ap (λ s. map datum_of old ++ member_if_named s (view item) q) e
+-- the same of items that are borrowed
+pub one_more_member : (old new : List (Bor Value)) (item : Value) (borrowed : Bor Value) (t u q : Text) → new ≡ old ++ item_if_named t borrowed q → borrowed.now ≡ item → t ≡ u → map datum_of new ≡ map datum_of old ++ member_if_named u (view item) q
+one_more_member old new item borrowed t u q n l e =
+    ap (map datum_of) n ∙ joins_by old borrowed (view item) (same_text q t) (ap view l) ∙ ap (λ s. map datum_of old ++ member_if_named s (view item) q) e
 
 -- ---- texts that are noted
 pub noted_there : (t : Text) (us : List Text) → has_text t us ≡ true → us ≡ noted t us
@@ -91,4 +91,4 @@ seen_by t q us false e = sym (or_false (has_text q us))
 -- a set with one text more
 pub seen_more : (t : Text) (us : List Text) (q : Text) (old new : Bool) → old ≡ has_text q us → new ≡ cond (same_text t q) true old → new ≡ has_text q (us ++ t ∷ [])
 seen_more t us q old new o n =
-    n ∙ ap (cond (same_text t q) true) o ∙ seen_by t q us (same_text t q) refl ∙ ap (λ b. has_text q us || b) (sym (same_by t q (same_text t q) refl)) ∙ sym (has_behind q us t)
+    n ∙ ap (cond (same_text t q) true) o ∙ seen_by t q us (same_text t q) refl ∙ ap (λ b. has_text q us || b) (sym (same_by t q (same_text t q) refl)) ∙ sym (has_appended q us t)

@@ -28,9 +28,9 @@ reaches_more : (s x : Text) → reaches_colon s ≡ true → reaches_colon (s ++
 reaches_more [] x h = cc
 reaches_more (b ∷ s) x h = reaches_by b s x (b == 58) refl h (reaches_more s x)
 
-behind_address : (address path : Text) → is_absolute address ≡ true → is_absolute (addressed address path) ≡ true
-behind_address [] path h = cc
-behind_address (b ∷ s) path h =
+after_address : (address path : Text) → is_absolute address ≡ true → is_absolute (addressed address path) ≡ true
+after_address [] path h = cc
+after_address (b ∷ s) path h =
     let p = and_parts (is_ascii_alphabetic b) (reaches_colon s) h in
     ap (λ t. t && reaches_colon (s ++ or_slash path)) p.0 ∙ reaches_more s (or_slash path) p.1
 
@@ -58,7 +58,7 @@ twice address base (object ms) again = made_again address base (object ms) (is_a
 
 pub absolute_twice : AbsoluteUrlTwiceIsOnce
 absolute_twice address base d h =
-    twice address base d (λ s. let x = addressed address (relative base s) in ap (λ t. if t then Ok (text x) else Ok (text (addressed address (relative base x)))) (behind_address address (relative base s) h))
+    twice address base d (λ s. let x = addressed address (relative base s) in ap (λ t. if t then Ok (text x) else Ok (text (addressed address (relative base x)))) (after_address address (relative base s) h))
 
 -- ---- what is escaped stays
 abbrev IsGlyph : ℕ → Type 0
@@ -118,25 +118,25 @@ unfolding percent_encode_byte
 byte_on b s = escape_on (digit_glyph true (b / 16 % 16)) (digit_glyph true (b % 16)) s (glyph (b / 16 % 16) (omega arith)) (glyph (b % 16) (omega arith))
 
 -- where digits stand at the start they stand there when what follows is escaped
-abbrev IsKept : ℕ → Type 0
-IsKept h = is_ascii_hexdigit h ≡ true → ((h == 37) ≡ false) × (stays Path h ≡ true)
+abbrev HexdigitStays : ℕ → Type 0
+HexdigitStays h = is_ascii_hexdigit h ≡ true → ((h == 37) ≡ false) × (stays Path h ≡ true)
 
-abbrev is_kept : ℕ → Bool
-is_kept h = cond (is_ascii_hexdigit h) (cond (h == 37) false (stays Path h)) true
+abbrev hexdigit_stays_at : ℕ → Bool
+hexdigit_stays_at h = cond (is_ascii_hexdigit h) (cond (h == 37) false (stays Path h)) true
 
-abbrev all_kept : ℕ → Bool
-all_kept zero = true
-all_kept (suc n) = cond (is_kept n) (all_kept n) false
+abbrev hexdigits_stay_below : ℕ → Bool
+hexdigits_stay_below zero = true
+hexdigits_stay_below (suc n) = cond (hexdigit_stays_at n) (hexdigits_stay_below n) false
 
-kept_if : (t : Bool) (h : ℕ) → is_ascii_hexdigit h ≡ t → is_kept h ≡ true → IsKept h
+kept_if : (t : Bool) (h : ℕ) → is_ascii_hexdigit h ≡ t → hexdigit_stays_at h ≡ true → HexdigitStays h
 kept_if true h e k d = cond_other (h == 37) (stays Path h) (sym (ap (λ t. cond t (cond (h == 37) false (stays Path h)) true) e) ∙ k)
 kept_if false h e k d = absurd (true_not_false (is_ascii_hexdigit h) d e)
 
-kept_below : (n h : ℕ) → all_kept n ≡ true → h < n → IsKept h
+kept_below : (n h : ℕ) → hexdigits_stay_below n ≡ true → h < n → HexdigitStays h
 kept_below zero h k l = absurd (omega arith)
 kept_below (suc n) h k l =
-    let p = cond_parts (is_kept n) (all_kept n) k in
-    below_more IsKept n (λ j. kept_below n j p.1) (kept_if (is_ascii_hexdigit n) n refl p.0) h (omega arith)
+    let p = cond_parts (hexdigit_stays_at n) (hexdigits_stay_below n) k in
+    below_more HexdigitStays n (λ j. kept_below n j p.1) (kept_if (is_ascii_hexdigit n) n refl p.0) h (omega arith)
 
 high_no_digit : (h : ℕ) → 128 ≤ h → is_ascii_hexdigit h ≡ false
 high_no_digit h l =
@@ -145,11 +145,11 @@ high_no_digit h l =
     let b2 : nat_le 65 h ≡ true = grind (arith, nat_tests) in let b3 : nat_le 97 h ≡ true = grind (arith, nat_tests) in
     rw (a1, a2, a3, b1, b2, b3) refl
 
-kept_by : (h : ℕ) (t : Bool) → nat_lt h 128 ≡ t → IsKept h
+kept_by : (h : ℕ) (t : Bool) → nat_lt h 128 ≡ t → HexdigitStays h
 kept_by h true e d = kept_below 128 h refl (grind (arith, nat_tests)) d
 kept_by h false e d = let high : 128 ≤ h = grind (arith, nat_tests) in absurd (true_not_false (is_ascii_hexdigit h) d (high_no_digit h high))
 
-hexdigit_stays : (h : ℕ) → IsKept h
+hexdigit_stays : (h : ℕ) → HexdigitStays h
 hexdigit_stays h = kept_by h (nat_lt h 128) refl
 
 digits_stay : (s : Text) → begins_digits s ≡ true → begins_digits (again s) ≡ true

@@ -18,7 +18,7 @@ abbrev pub has_text : Text → List Text → Bool
 has_text t [] = false
 has_text t (u ∷ us) = same_text t u || has_text t us
 
--- with the text behind them, unless it is among them
+-- with the text after them, unless it is among them
 abbrev pub noted : Text → List Text → List Text
 noted t us = if has_text t us then us else us ++ t ∷ []
 

@@ -16,7 +16,7 @@ abbrev pub sign_bytes : Text → ℕ
 sign_bytes [] = 0
 sign_bytes (b ∷ s) = if b == 45 || b == 43 then 1 else 0
 
--- the digits behind it
+-- the digits after it
 abbrev pub digits_len : Text → ℕ
 digits_len s = prefix_len is_ascii_digit (drop (sign_bytes s) s)
 
@@ -29,7 +29,7 @@ abbrev pub front_number : Text → Result ℤ ErrorKind
 front_number s = if digits_len s == 0 then Ok (pos 0) else number_or_range
     (whole_text (take (sign_bytes s + digits_len s) s))
 
--- behind white space
+-- after white space
 abbrev pub leading_number : Text → Result ℤ ErrorKind
 leading_number s = front_number (drop (prefix_len is_ascii_whitespace s) s)
 

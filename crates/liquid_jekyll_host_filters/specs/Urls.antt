@@ -106,12 +106,12 @@ abbrev pub or_slash : Text → Text
 or_slash [] = codes "/"
 or_slash (b ∷ s) = b ∷ s
 
--- a path behind the address of a site, where the site has one
+-- a path after the address of a site, where the site has one
 abbrev pub addressed : Text → Text → Text
 addressed [] path = path
 addressed (b ∷ address) path = (b ∷ address) ++ or_slash path
 
--- nil stays, and so does an absolute URL; anything else is a path under the base path, behind the
+-- nil stays, and so does an absolute URL; anything else is a path under the base path, after the
 -- address
 abbrev pub site_url : Text → Text → Datum → Answer
 site_url address base nil = Ok nil

@@ -12,7 +12,7 @@ use liquid_core::{Error, ErrorKind, Filter, Result, Value, whole_of};
 use liquid_filter_base::invalid_input;
 use std::alloc::Global;
 
-/// `to_integer`: the whole number that the input's text begins with, behind white space, or 0. True
+/// `to_integer`: the whole number that the input's text begins with, after white space, or 0. True
 /// is 1, false and nil are 0.
 #[derive(Clone, Copy, Drop)]
 pub struct ToInteger;
@@ -44,7 +44,7 @@ fn integer_of(alloc: Global, input: &Value) -> Result<i64>
     }
 }
 
-/// The number that a text begins with, behind white space.
+/// The number that a text begins with, after white space.
 fn leading_number(alloc: Global, text: &str) -> Result<i64>
     ensures { Answers (λ n. n) result (leading_number text.now) }
 {

@@ -18,19 +18,19 @@ abbrev ascii : ℕ → Bool
 ascii = keeps Ascii
 
 -- ---- what hyphens stand between
-abbrev AreKept : List ℕ → Type 0
-AreKept [] = ⊤
-AreKept (c ∷ cs) = ((ascii c || c == 45) ≡ true) × AreKept cs
+abbrev AreAsciiOrHyphens : List ℕ → Type 0
+AreAsciiOrHyphens [] = ⊤
+AreAsciiOrHyphens (c ∷ cs) = ((ascii c || c == 45) ≡ true) × AreAsciiOrHyphens cs
 
 apart : (c : ℕ) → ascii c ≡ true → (c == 45) ≡ false
 apart c h = grind (arith, nat_tests)
 
-kept_by : (b after : Bool) (c : ℕ) (rest : List ℕ) → ascii c ≡ b → AreKept rest → AreKept (slug_character b after c ++ rest)
+kept_by : (b after : Bool) (c : ℕ) (rest : List ℕ) → ascii c ≡ b → AreAsciiOrHyphens rest → AreAsciiOrHyphens (slug_character b after c ++ rest)
 kept_by true after c rest e h = (ap (λ b. b || c == 45) e, h)
 kept_by false true c rest e h = h
 kept_by false false c rest e h = (refl, h)
 
-kept : (after : Bool) (cs : List ℕ) → AreKept (hyphened ascii after cs)
+kept : (after : Bool) (cs : List ℕ) → AreAsciiOrHyphens (hyphened ascii after cs)
 kept after [] = tt
 kept after (c ∷ cs) = kept_by (ascii c) after c (hyphened ascii (not (ascii c)) cs) refl (kept (not (ascii c)) cs)
 
@@ -55,11 +55,11 @@ single after [] = (tt, λ a. tt)
 single after (c ∷ cs) = single_by (ascii c) after c (hyphened ascii (not (ascii c)) cs) refl (single (not (ascii c)) cs)
 
 -- ---- a part of such characters
-kept_after : (xs ys : List ℕ) → AreKept (xs ++ ys) → AreKept ys
+kept_after : (xs ys : List ℕ) → AreAsciiOrHyphens (xs ++ ys) → AreAsciiOrHyphens ys
 kept_after [] ys h = h
 kept_after (x ∷ xs) ys h = kept_after xs ys h.1
 
-kept_front : (xs ys : List ℕ) → AreKept (xs ++ ys) → AreKept xs
+kept_front : (xs ys : List ℕ) → AreAsciiOrHyphens (xs ++ ys) → AreAsciiOrHyphens xs
 kept_front [] ys h = tt
 kept_front (x ∷ xs) ys h = (h.0, kept_front xs ys h.1)
 
@@ -80,7 +80,7 @@ single_front (x ∷ (y ∷ xs)) ys h = (h.0, single_front (y ∷ xs) ys h.1)
 low : (c : ℕ) → (ascii c || c == 45) ≡ true → c < 128
 low c h = grind (arith, nat_tests)
 
-encodes_low : (cs : List ℕ) → AreKept cs → encode_utf8_all cs ≡ cs
+encodes_low : (cs : List ℕ) → AreAsciiOrHyphens cs → encode_utf8_all cs ≡ cs
 encodes_low [] h = refl
 encodes_low (c ∷ cs) h = ap (λ t. t ++ encode_utf8_all cs) (encode_ascii c (low c h.0)) ∙ ap (λ t. c ∷ t) (encodes_low cs h.1)
 
@@ -90,7 +90,7 @@ lower_letter c h = grind (arith, nat_tests)
 lower_hyphen : (c : ℕ) → (to_ascii_lowercase c == 45) ≡ (c == 45)
 lower_hyphen c = grind (arith, nat_tests)
 
-lowered_letters : (cs : List ℕ) → AreKept cs → AreSlugLetters (map to_ascii_lowercase cs)
+lowered_letters : (cs : List ℕ) → AreAsciiOrHyphens cs → AreSlugLetters (map to_ascii_lowercase cs)
 lowered_letters [] h = tt
 lowered_letters (c ∷ cs) h = (lower_letter c h.0, lowered_letters cs h.1)
 
@@ -109,11 +109,11 @@ lowered_single (c ∷ []) h = tt
 lowered_single (c ∷ (d ∷ cs)) h =
     (ap (λ b. b && (to_ascii_lowercase d == 45)) (lower_hyphen c) ∙ ap (λ b. (c == 45) && b) (lower_hyphen d) ∙ h.0, lowered_single (d ∷ cs) h.1)
 
-cut_slug : (ds : List ℕ) → AreKept ds → AreSingle ds → IsSlug (map to_ascii_lowercase (encode_utf8_all (without_outer ds)))
+cut_slug : (ds : List ℕ) → AreAsciiOrHyphens ds → AreSingle ds → IsSlug (map to_ascii_lowercase (encode_utf8_all (without_outer ds)))
 cut_slug ds h k =
     let c = cuts_stand ds in
     let cut = without_outer ds in
-    let all : AreKept cut = kept_front cut c.1 (kept_after c.0 (cut ++ c.1) (subst AreKept c.2 h)) in
+    let all : AreAsciiOrHyphens cut = kept_front cut c.1 (kept_after c.0 (cut ++ c.1) (subst AreAsciiOrHyphens c.2 h)) in
     let one : AreSingle cut = single_front cut c.1 (single_after c.0 (cut ++ c.1) (subst AreSingle c.2 k)) in
     subst (λ t. IsSlug (map to_ascii_lowercase t)) (sym (encodes_low cut all))
     (record { letters = lowered_letters cut all; starts = lowered_starts cut c.5; ends = lowered_ends cut c.6; single = lowered_single cut one })
@@ -134,7 +134,7 @@ letter_plain c h = grind (arith, nat_tests)
 letter_hyphen : (c : ℕ) → is_slug_letter c ≡ true → ascii c ≡ false → c ≡ 45
 letter_hyphen c h k = grind (arith, nat_tests)
 
-letters_kept : (t : List ℕ) → AreSlugLetters t → AreKept t
+letters_kept : (t : List ℕ) → AreSlugLetters t → AreAsciiOrHyphens t
 letters_kept [] h = tt
 letters_kept (c ∷ t) h = (letter_kept c h.0, letters_kept t h.1)
 

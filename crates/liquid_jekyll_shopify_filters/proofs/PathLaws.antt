@@ -25,7 +25,7 @@ literal_takes : (bs : List ℕ) (x : Datum × List ℕ) → literal_at bs ≡ So
 unfolding literal_at
 literal_takes bs x h = literal_takes_by bs (quoted_at bs) x refl h
 
--- with the steps behind it
+-- with the steps after it
 abbrev Leads : List ℕ → Datum × List ℕ → Type 0
 Leads s x = (ds : List Datum) → ArePathSteps ds x.1 → ArePathSteps (x.0 ∷ ds) s
 

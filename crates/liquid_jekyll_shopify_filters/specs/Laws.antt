@@ -1,4 +1,4 @@
--- What each filter's answer is, told without the filter: the relation that holds of it and of
+-- What each filter's answer is, said without the filter: the relation that holds of it and of
 -- nothing else.
 use Rattle.std.specs.Prelude.{◌≡◌, ◌↔◌, ◌==◌, ◌⊎◌, MatchBool, ℤ, pos, List, [], ◌∷◌, ◌++◌, length}
 use Rattle.std.specs.Prelude.{map, codes, Some, None, Result, Ok, Err}

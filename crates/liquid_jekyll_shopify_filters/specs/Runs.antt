@@ -1,4 +1,4 @@
--- What a slug is made of, told by runs of characters.
+-- What a slug is made of: runs of characters.
 use Rattle.std.specs.Prelude.{◌≡◌, ℕ, ◌==◌, ◌&&◌, ◌||◌, nat_le, ⊤, Bool, true, false, List, [], ◌∷◌}
 use Rattle.std.specs.Prelude.{◌++◌, map}
 use Rattle.std.specs.Char.{to_ascii_lowercase}

@@ -16,7 +16,7 @@ pub fn no_json(alloc: Global, text: &str) -> Error
         Some(flaw) => flaw,
         None => Flaw::plain(text, "the data is no JSON"),
     };
-    told(alloc, text, ErrorKind::InvalidInput, &flaw)
+    error_at(alloc, text, ErrorKind::InvalidInput, &flaw)
 }
 
 /// The fault of data that is JSON, with where it stands: at a number that isn't whole, or else at
@@ -29,11 +29,11 @@ pub fn with_place(alloc: Global, text: &str, error: Error) -> Error
         ErrorKind::Float => number_flaw(text),
         _ => no_object(text),
     };
-    told(alloc, text, error.kind, &flaw)
+    error_at(alloc, text, error.kind, &flaw)
 }
 
 /// A fault of this kind that says what is wrong, and where.
-fn told(alloc: Global, text: &str, kind: ErrorKind, flaw: &Flaw<'_>) -> Error
+fn error_at(alloc: Global, text: &str, kind: ErrorKind, flaw: &Flaw<'_>) -> Error
     ensures { IsKindOrMemory kind result.kind }
 {
     match message_of(alloc, flaw) {
@@ -59,8 +59,8 @@ fn no_object(text: &str) -> Flaw<'_> {
 }
 
 /// Where the place with so many bytes left is.
-fn location(text: &str, left: usize) -> Location {
-    let place = liquid_lexer::location(text, left);
+fn location(text: &str, remaining: usize) -> Location {
+    let place = liquid_lexer::location(text, remaining);
     Location {
         origin: Origin::Data,
         line: place.line,

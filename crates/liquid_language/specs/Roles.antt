@@ -1,6 +1,6 @@
 -- What a tag's name is, where the tag stands.
 --     role_of l x w      of the name w in a language, in a context
---     unread_body role      the body after such a tag, where it is a block's that isn't read
+--     verbatim_body role      the body after such a tag, where it is a block's that isn't read
 use Rattle.std.specs.Prelude.{cond, bytes_eq, Option, Some, None, option_map}
 use Rattle.liquid_model.specs.Maps.{listed}
 use Rattle.liquid_model.specs.Texts.{Text}
@@ -40,23 +40,23 @@ role_of l (InBody b) w =
     cond (bytes_eq w (end_word b)) (Some End) (word_or (control_of b w) (registered l w))
 role_of l (InLast b) w = cond (bytes_eq w (end_word b)) (Some End) (registered l w)
 
-abbrev pub unread : BlockKind → Option Body
-unread blocks.Raw = Some bodies.Raw
-unread blocks.Comment = Some bodies.Comment
-unread blocks.If = None
-unread blocks.Unless = None
-unread blocks.Capture = None
-unread blocks.Case = None
-unread blocks.IfChanged = None
-unread blocks.For = None
-unread blocks.TableRow = None
+abbrev pub verbatim_of : BlockKind → Option Body
+verbatim_of blocks.Raw = Some bodies.Raw
+verbatim_of blocks.Comment = Some bodies.Comment
+verbatim_of blocks.If = None
+verbatim_of blocks.Unless = None
+verbatim_of blocks.Capture = None
+verbatim_of blocks.Case = None
+verbatim_of blocks.IfChanged = None
+verbatim_of blocks.For = None
+verbatim_of blocks.TableRow = None
 
-abbrev pub unread_body : Option Role → Option Body
-unread_body None = None
-unread_body (Some End) = None
-unread_body (Some (Word word)) = None
-unread_body (Some (Tag kind)) = None
-unread_body (Some (Start kind)) = unread kind
+abbrev pub verbatim_body : Option Role → Option Body
+verbatim_body None = None
+verbatim_body (Some End) = None
+verbatim_body (Some (Word word)) = None
+verbatim_body (Some (Tag kind)) = None
+verbatim_body (Some (Start kind)) = verbatim_of kind
 
-abbrev pub body_behind : Language → BlockContext → Text → Option Body
-body_behind l x w = unread_body (role_of l x w)
+abbrev pub body_after : Language → BlockContext → Text → Option Body
+body_after l x w = verbatim_body (role_of l x w)

@@ -1,7 +1,7 @@
 //! Blocks that are open while a source is read.
 ghost use Rattle.std.specs.Prelude.{◌≡◌};
 ghost use Rattle.liquid_language.specs.Controls.{control_of, end_word};
-ghost use Rattle.liquid_language.specs.Roles.{body_behind, registered, role_of, unread_body};
+ghost use Rattle.liquid_language.specs.Roles.{body_after, registered, role_of, verbatim_body};
 ghost use Rattle.liquid_lexer.specs.PieceView.{piece_view};
 ghost use Rattle.liquid_lexer.specs.SourceReading.{wanted_body};
 
@@ -104,8 +104,8 @@ fn registered(language: &Language, name: &str) -> Option<Role>
 }
 
 /// The body after a tag, where it is a block's that isn't read.
-pub fn unread_body(role: Option<Role>) -> Option<Body>
-    ensures { result ≡ unread_body role }
+pub fn verbatim_body(role: Option<Role>) -> Option<Body>
+    ensures { result ≡ verbatim_body role }
 {
     match role {
         Some(Role::Block(BlockKind::Raw)) => Some(Body::Raw),
@@ -116,10 +116,10 @@ pub fn unread_body(role: Option<Role>) -> Option<Body>
 
 /// The body after a piece, where it is a tag without items that begins a block whose body isn't
 /// read.
-pub fn body_behind(language: &Language, context: BlockContext, piece: &Piece<'_>) -> Option<Body>
-    ensures { result ≡ wanted_body (body_behind language.now context) (piece_view piece.now) }
+pub fn body_after(language: &Language, context: BlockContext, piece: &Piece<'_>) -> Option<Body>
+    ensures { result ≡ wanted_body (body_after language.now context) (piece_view piece.now) }
 {
-    unread_body(role_of(language, context, bare_name(piece)?))
+    verbatim_body(role_of(language, context, bare_name(piece)?))
 }
 
 /// The tag that ends the block.

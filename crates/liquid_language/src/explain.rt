@@ -3,26 +3,26 @@
 mod blocks;
 mod characters;
 mod filters;
-mod habits;
-mod items;
+mod foreign_syntax;
+mod malformed_piece;
+mod misplaced_items;
 mod names;
-mod near;
 mod numbers;
 mod outline;
 mod parentheses;
 mod phrasing;
-mod unread;
+mod similar;
 mod wanted;
 
 use crate::language::Language;
 use blocks::{missing_end, unknown_tag};
 use filters::{miscounted, unknown_filter};
-use items::misplaced;
 use liquid_lexer::{Fault, FaultKind, PlacedPiece, placed_piece};
+use malformed_piece::malformed;
+use misplaced_items::misplaced;
 use outline::{Outline, outline_at};
 use phrasing::{Phrasing, message_of};
 use std::alloc::{AllocError, Global};
-use unread::unread;
 
 /// What the message says of a fault.
 #[derive(Drop)]
@@ -39,7 +39,7 @@ pub fn explanation_of(
     language: &Language,
     fault: Fault,
 ) -> Result<Explanation, AllocError> {
-    let outline = outline_at(alloc, source, language, fault.left)?;
+    let outline = outline_at(alloc, source, language, fault.remaining)?;
     let piece = placed_piece(alloc, outline.at)?;
     let phrasing = phrasing_of(alloc, language, &fault, &outline, &piece)?;
     let message = message_of(alloc, source, &phrasing)?;
@@ -63,7 +63,7 @@ fn phrasing_of<'s>(
         FaultKind::FilterArguments => miscounted(alloc, &language.filters, piece, outline.at),
         FaultKind::MissingEnd => Ok(missing_end(fault, outline, piece.name)),
         FaultKind::TooNested => Ok(too_nested(outline.from)),
-        FaultKind::Expected if fault.left == outline.at.len() => {
+        FaultKind::Expected if fault.remaining == outline.at.len() => {
             Ok(misplaced(language, fault, piece))
         }
         FaultKind::Unclosed
@@ -71,7 +71,7 @@ fn phrasing_of<'s>(
         | FaultKind::NumberLiteral
         | FaultKind::FloatLiteral
         | FaultKind::StateWord
-        | FaultKind::Expected => Ok(unread(language, fault, outline, piece)),
+        | FaultKind::Expected => Ok(malformed(language, fault, outline, piece)),
     }
 }
 

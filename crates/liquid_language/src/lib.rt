@@ -6,7 +6,7 @@ mod explain;
 mod language;
 mod registered_filter;
 
-pub use block::{Block, BlockContext, Control, Role, body_behind, end_tag, role_of, unread_body};
+pub use block::{Block, BlockContext, Control, Role, body_after, end_tag, role_of, verbatim_body};
 pub use explain::{Explanation, explanation_of};
 pub use language::{BlockKind, Language, Registry, TagKind};
 pub use registered_filter::{FilterRegistry, RegisteredFilter};

@@ -24,9 +24,9 @@ module _ (t : ℕ → List ℕ → Bool) (bs : List ℕ) (n : ℕ) (within : n <
       let f : run_len t (drop n bs) ≡ 0 = here ∙ ap (λ (b : Bool). cond b (suc (run_len t (drop (suc n) bs))) 0) e in
       omega (arith, so_far, f)
 
--- what stands behind a byte, as a slice from the next place on has it
-pub behind_byte : (bs : List ℕ) (n : ℕ) → take (length bs - (n + 1)) (drop (n + 1) bs) ≡ drop (suc n) bs
-behind_byte bs n = let one : n + 1 ≡ suc n = omega arith in take_rest bs (n + 1) ∙ ap (λ k. drop k bs) one
+-- what stands after a byte, as a slice from the next place on has it
+pub after_byte : (bs : List ℕ) (n : ℕ) → take (length bs - (n + 1)) (drop (n + 1) bs) ≡ drop (suc n) bs
+after_byte bs n = let one : n + 1 ≡ suc n = omega arith in take_rest bs (n + 1) ∙ ap (λ k. drop k bs) one
 
 -- ---- marks
 

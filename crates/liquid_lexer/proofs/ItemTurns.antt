@@ -9,56 +9,56 @@ use Rattle.liquid_lexer.specs.declared.item.Delimiter.{Delimiter}
 use Rattle.liquid_lexer.specs.declared.fault.ParseError.{ParseError}
 use Rattle.liquid_lexer.specs.declared.fault.ParseError.TheVariants as errors
 
--- what was read, behind the items done
-pub behind : List Item → Option ReadItems → Option ReadItems
-behind is o = option_map (λ r. (is ++ r.0, r.1, r.2)) o
+-- what was read, after the items done
+pub with_front : List Item → Option ReadItems → Option ReadItems
+with_front is o = option_map (λ r. (is ++ r.0, r.1, r.2)) o
 
-pub behind_nothing : (o : Option ReadItems) → o ≡ behind [] o
-unfolding behind
-behind_nothing None = refl
-behind_nothing (Some x) = refl
+pub after_nothing : (o : Option ReadItems) → o ≡ with_front [] o
+unfolding with_front
+after_nothing None = refl
+after_nothing (Some x) = refl
 
-behind_last : (is : List Item) (i : Item) (o : Option ReadItems) → behind is (option_map (λ r. (i ∷ r.0, r.1, r.2)) o) ≡ behind (is ++ (i ∷ [])) o
-unfolding behind
-behind_last is i None = refl
-behind_last is i (Some x) = ap (λ js. Some (js, x.1, x.2)) (sym (append_assoc is (i ∷ []) x.0))
+after_last : (is : List Item) (i : Item) (o : Option ReadItems) → with_front is (option_map (λ r. (i ∷ r.0, r.1, r.2)) o) ≡ with_front (is ++ (i ∷ [])) o
+unfolding with_front
+after_last is i None = refl
+after_last is i (Some x) = ap (λ js. Some (js, x.1, x.2)) (sym (append_assoc is (i ∷ []) x.0))
 
 module _ (k : Delimiter) where
   Turn : (List ℕ → Option ReadItems) → List Item → List ℕ → Option ReadItems
-  Turn again is bs = behind is (items_by k again (past_white bs) (closer_at k (past_white bs)))
+  Turn again is bs = with_front is (items_by k again (past_white bs) (closer_at k (past_white bs)))
 
-  turned : (again : List ℕ → Option ReadItems) (is : List Item) (bs : List ℕ) (i : Item × List ℕ) → closer_at k (past_white bs) ≡ None → lexed_item (past_white bs) ≡ Some i → Turn again is bs ≡ behind (is ++ (i.0 ∷ [])) (again i.1)
+  turned : (again : List ℕ → Option ReadItems) (is : List Item) (bs : List ℕ) (i : Item × List ℕ) → closer_at k (past_white bs) ≡ None → lexed_item (past_white bs) ≡ Some i → Turn again is bs ≡ with_front (is ++ (i.0 ∷ [])) (again i.1)
   unfolding Turn
   turned again is bs i c h =
-      ap (λ o. behind is (items_by k again (past_white bs) o)) c
-      ∙ ap (λ o. behind is (option_and_then (λ i. option_map (λ r. (i.0 ∷ r.0, r.1, r.2)) (again i.1)) o)) h
-      ∙ behind_last is i.0 (again i.1)
+      ap (λ o. with_front is (items_by k again (past_white bs) o)) c
+      ∙ ap (λ o. with_front is (option_and_then (λ i. option_map (λ r. (i.0 ∷ r.0, r.1, r.2)) (again i.1)) o)) h
+      ∙ after_last is i.0 (again i.1)
 
   ended : (again : List ℕ → Option ReadItems) (is : List Item) (bs : List ℕ) (x : Bool × List ℕ) → closer_at k (past_white bs) ≡ Some x → Turn again is bs ≡ Some (is, x.0, x.1)
-  unfolding Turn behind
-  ended again is bs x c = ap (λ o. behind is (items_by k again (past_white bs) o)) c ∙ ap (λ js. Some (js, x.0, x.1)) (append-nil is)
+  unfolding Turn with_front
+  ended again is bs x c = ap (λ o. with_front is (items_by k again (past_white bs) o)) c ∙ ap (λ js. Some (js, x.0, x.1)) (append-nil is)
 
   stuck : (again : List ℕ → Option ReadItems) (is : List Item) (bs : List ℕ) → closer_at k (past_white bs) ≡ None → lexed_item (past_white bs) ≡ None → Turn again is bs ≡ None
-  unfolding Turn behind
+  unfolding Turn with_front
   stuck again is bs c h =
-      ap (λ o. behind is (items_by k again (past_white bs) o)) c
-      ∙ ap (λ o. behind is (option_and_then (λ i. option_map (λ r. (i.0 ∷ r.0, r.1, r.2)) (again i.1)) o)) h
+      ap (λ o. with_front is (items_by k again (past_white bs) o)) c
+      ∙ ap (λ o. with_front is (option_and_then (λ i. option_map (λ r. (i.0 ∷ r.0, r.1, r.2)) (again i.1)) o)) h
 
-  pub one_more : (n : ℕ) (is : List Item) (bs : List ℕ) (i : Item × List ℕ) → 0 < n → closer_at k (past_white bs) ≡ None → lexed_item (past_white bs) ≡ Some i → behind is (items_at k n bs) ≡ behind (is ++ (i.0 ∷ [])) (items_at k (n - 1) i.1)
+  pub one_more : (n : ℕ) (is : List Item) (bs : List ℕ) (i : Item × List ℕ) → 0 < n → closer_at k (past_white bs) ≡ None → lexed_item (past_white bs) ≡ Some i → with_front is (items_at k n bs) ≡ with_front (is ++ (i.0 ∷ [])) (items_at k (n - 1) i.1)
   unfolding items_at Turn
   one_more zero is bs i some c h = absurd (omega arith)
-  one_more (suc n) is bs i some c h = turned (items_at k n) is bs i c h ∙ ap (λ m. behind (is ++ (i.0 ∷ [])) (items_at k m i.1)) (omega arith)
+  one_more (suc n) is bs i some c h = turned (items_at k n) is bs i c h ∙ ap (λ m. with_front (is ++ (i.0 ∷ [])) (items_at k m i.1)) (omega arith)
 
-  pub no_more : (n : ℕ) (is : List Item) (bs : List ℕ) (x : Bool × List ℕ) → closer_at k (past_white bs) ≡ Some x → behind is (items_at k n bs) ≡ Some (is, x.0, x.1)
+  pub no_more : (n : ℕ) (is : List Item) (bs : List ℕ) (x : Bool × List ℕ) → closer_at k (past_white bs) ≡ Some x → with_front is (items_at k n bs) ≡ Some (is, x.0, x.1)
   unfolding items_at Turn
   no_more zero is bs x c = ended (λ bs. None) is bs x c
   no_more (suc n) is bs x c = ended (items_at k n) is bs x c
 
-  failed : (n : ℕ) (is : List Item) (bs : List ℕ) → closer_at k (past_white bs) ≡ None → lexed_item (past_white bs) ≡ None → behind is (items_at k n bs) ≡ None
+  failed : (n : ℕ) (is : List Item) (bs : List ℕ) → closer_at k (past_white bs) ≡ None → lexed_item (past_white bs) ≡ None → with_front is (items_at k n bs) ≡ None
   unfolding items_at Turn
   failed zero is bs c h = stuck (λ bs. None) is bs c h
   failed (suc n) is bs c h = stuck (items_at k n) is bs c h
 
-  pub item_refused : (e : ParseError) (n : ℕ) (is : List Item) (bs : List ℕ) (whole : Option ReadItems) → closer_at k (past_white bs) ≡ None → Fails e (lexed_item (past_white bs)) → whole ≡ behind is (items_at k n bs) → Fails e whole
+  pub item_refused : (e : ParseError) (n : ℕ) (is : List Item) (bs : List ℕ) (whole : Option ReadItems) → closer_at k (past_white bs) ≡ None → Fails e (lexed_item (past_white bs)) → whole ≡ with_front is (items_at k n bs) → Fails e whole
   item_refused errors.Memory n is bs whole c h g = tt
   item_refused (errors.Fault f) n is bs whole c h g = g ∙ failed n is bs c h

@@ -11,7 +11,7 @@ use Rattle.liquid_lexer.specs.Items.{dash_if}
 use Rattle.liquid_lexer.specs.ItemReading.{closer_at}
 use Rattle.liquid_lexer.specs.Openers.{opener, IsOpener, with_dash, no_dash}
 use Rattle.liquid_lexer.specs.Verbatim.{IsMark, is_mark, NoMark, IsRaw, ends, goes_on}
-use Rattle.liquid_lexer.specs.SourceReading.{dashed, Mark, mark_behind, mark_at, is_named, in_raw, raw_at}
+use Rattle.liquid_lexer.specs.SourceReading.{dashed, Mark, mark_after, mark_at, is_named, in_raw, raw_at}
 use Rattle.liquid_lexer.specs.declared.item.Delimiter.{Delimiter}
 use Rattle.liquid_lexer.specs.declared.item.Delimiter.TheVariants.{Tag}
 use Rattle.liquid_lexer.proofs.WordLaws.{bind_some, map_some, from_some, byte_some, blank_takes, blank_again, blank_shorter, word_takes, word_again, word_shorter}
@@ -46,8 +46,8 @@ opener_shorter (no_dash h) = omega arith
 
 -- ---- marks
 
-mark_behind_takes : (bs : List ℕ) (d : Bool × List ℕ) (x : Mark × List ℕ) → IsOpener Tag d.0 bs d.1 → mark_behind d ≡ Some x → IsMark x.0.name x.0.before x.0.after (123 ∷ bs) x.1
-mark_behind_takes bs d x o h =
+mark_after_takes : (bs : List ℕ) (d : Bool × List ℕ) (x : Mark × List ℕ) → IsOpener Tag d.0 bs d.1 → mark_after d ≡ Some x → IsMark x.0.name x.0.before x.0.after (123 ∷ bs) x.1
+mark_after_takes bs d x o h =
     let w = bind_some (word_at (past_white d.1)) _ x h in
     let c = bind_some (closer_at Tag (past_white w.0.1)) _ x w.2 in
     subst (λ (x : Mark × List ℕ). IsMark x.0.name x.0.before x.0.after (123 ∷ bs) x.1) (from_some c.2)
@@ -60,16 +60,16 @@ mark_takes bs x h =
     let b = bind_some (past_byte 37 a.0) _ x a.2 in
     let e : bs ≡ 123 ∷ 37 ∷ b.0 = byte_some 123 bs a.0 a.1 ∙ ap (λ (l : List ℕ). 123 ∷ l) (byte_some 37 a.0 b.0 b.1) in
     subst (λ (l : List ℕ). IsMark x.0.name x.0.before x.0.after l x.1) (sym e)
-    (mark_behind_takes (37 ∷ b.0) (dashed b.0 (past_byte 45 b.0)) x (dash_takes Tag b.0 (past_byte 45 b.0) refl) b.2)
+    (mark_after_takes (37 ∷ b.0) (dashed b.0 (past_byte 45 b.0)) x (dash_takes Tag b.0 (past_byte 45 b.0) refl) b.2)
 
-mark_opened : (cs : List ℕ) → mark_at (123 ∷ 37 ∷ cs) ≡ mark_behind (dashed cs (past_byte 45 cs))
+mark_opened : (cs : List ℕ) → mark_at (123 ∷ 37 ∷ cs) ≡ mark_after (dashed cs (past_byte 45 cs))
 unfolding mark_at
 mark_opened cs = refl
 
 pub mark_again : {w bs rest : List ℕ} {before after : Bool} → IsMark w before after bs rest → mark_at bs ≡ Some (record { name = w; before = before; after = after }, rest)
 mark_again (is_mark {before = before} {after = after} {w = w} {bs = bs} {inside = inside} {from = from} {next = next} {until = until} {rest = rest} o a n b c) =
     let f = opener_again o in
-    ap (λ (l : List ℕ). mark_at (123 ∷ l)) f.1 ∙ mark_opened f.0 ∙ ap mark_behind f.2
+    ap (λ (l : List ℕ). mark_at (123 ∷ l)) f.1 ∙ mark_opened f.0 ∙ ap mark_after f.2
     ∙ rw (blank_again inside from a, word_again w from next n, blank_again next until b, c, closer_again Tag after rest) refl
 
 pub mark_shorter : {w bs rest : List ℕ} {before after : Bool} → IsMark w before after bs rest → length rest < length bs

@@ -30,7 +30,7 @@ opener_takes_by bs None k e h = let r = map_some (past_byte 37 bs) _ k h in subs
 opener_takes : (bs : List ℕ) (k : Delimiter × List ℕ) → opener_at bs ≡ Some k → bs ≡ opener k.0 ∷ k.1
 opener_takes bs k h = opener_takes_by bs (past_byte 123 bs) k refl h
 
--- what stands behind a `{`, before it is known whether a body follows
+-- what stands after a `{`, before it is known whether a body follows
 Opened : Bool → Piece → Bool → List ℕ → List ℕ → Type 0
 Opened before (output is) after bs rest = (inside : List ℕ) × IsOpener Output before bs inside × AreItems Output is after inside rest
 Opened before (tag w is) after bs rest = IsTag before w is after bs rest

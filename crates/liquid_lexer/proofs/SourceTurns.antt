@@ -12,41 +12,41 @@ use Rattle.liquid_lexer.specs.declared.piece.Body.{Body}
 use Rattle.liquid_lexer.proofs.WordLaws.{byte_some, byte_again, run_stops}
 use Rattle.liquid_lexer.proofs.SourceLaws.{not_plain, body_takes, markup_shorter}
 
-nothing_behind : (behind : List ℕ) → passes plain behind ≡ false → past_byte 123 behind ≡ None → behind ≡ []
-nothing_behind [] s h = refl
-nothing_behind (b ∷ bs) s h = absurd (none-some bs (sym h ∙ ap (λ (c : ℕ). past_byte 123 (c ∷ bs)) (not_plain b bs s) ∙ byte_again 123 bs))
+nothing_after : (following : List ℕ) → passes plain following ≡ false → past_byte 123 following ≡ None → following ≡ []
+nothing_after [] s h = refl
+nothing_after (b ∷ bs) s h = absurd (none-some bs (sym h ∙ ap (λ (c : ℕ). past_byte 123 (c ∷ bs)) (not_plain b bs s) ∙ byte_again 123 bs))
 
--- the text `t` up to the leftmost opener of bs, and what stands behind it
-module _ (bs t behind : List ℕ) (cut : (t, behind) ≡ text_at bs) where
-  behind_stops : passes plain behind ≡ false
-  behind_stops = ap (λ (x : List ℕ × List ℕ). passes plain x.1) cut ∙ run_stops plain bs
+-- the text `t` up to the leftmost opener of bs, and what stands after it
+module _ (bs t following : List ℕ) (cut : (t, following) ≡ text_at bs) where
+  following_stops : passes plain following ≡ false
+  following_stops = ap (λ (x : List ℕ × List ℕ). passes plain x.1) cut ∙ run_stops plain bs
 
-  behind_shorter : length behind ≤ length bs
-  behind_shorter =
+  following_shorter : length following ≤ length bs
+  following_shorter =
       let l = ap (λ (x : List ℕ × List ℕ). length (x.0 ++ x.1)) cut ∙ ap (length {A = ℕ}) (take-append-drop (run_len plain bs) bs) in
-      omega (arith, l, length-append t behind)
+      omega (arith, l, length-append t following)
 
   module _ {S : Type 0} (wants : S → List ℕ → Option Body) (step : S → Piece → Option S) (n : ℕ) (front : Bool) (s : S) where
-    a_turn : (again : Goes wants step) × (source_at wants step n front s bs ≡ turn wants step again front s (t, behind)) × (0 < n → again ≡ source_at wants step (n - 1))
+    a_turn : (again : Goes wants step) × (source_at wants step n front s bs ≡ turn wants step again front s (t, following)) × (0 < n → again ≡ source_at wants step (n - 1))
     unfolding source_at
     a_turn = by_bound n
       where
-        by_bound : (n : ℕ) → (again : Goes wants step) × (source_at wants step n front s bs ≡ turn wants step again front s (t, behind)) × (0 < n → again ≡ source_at wants step (n - 1))
+        by_bound : (n : ℕ) → (again : Goes wants step) × (source_at wants step n front s bs ≡ turn wants step again front s (t, following)) × (0 < n → again ≡ source_at wants step (n - 1))
         by_bound zero = ((λ front s bs. None), ap (turn wants step (λ front s bs. None) front s) (sym cut), λ h. absurd (omega (arith, h)))
         by_bound (suc n) = (source_at wants step n, ap (turn wants step (source_at wants step n) front s) (sym cut), λ h. ap (source_at wants step) (omega arith))
 
     -- no opener follows: the text is the last piece
-    pub last_turn : past_byte 123 behind ≡ None → source_at wants step n front s bs ≡ text_step step (stripped front t false) s
-    last_turn h = a_turn.1 ∙ ap (λ (l : List ℕ). turn wants step a_turn.0 front s (t, l)) (nothing_behind behind behind_stops h)
+    pub last_turn : past_byte 123 following ≡ None → source_at wants step n front s bs ≡ text_step step (stripped front t false) s
+    last_turn h = a_turn.1 ∙ ap (λ (l : List ℕ). turn wants step a_turn.0 front s (t, l)) (nothing_after following following_stops h)
 
-    module _ (inside : List ℕ) (opened : past_byte 123 behind ≡ Some inside) where
+    module _ (inside : List ℕ) (opened : past_byte 123 following ≡ Some inside) where
       at_markup : (o : Option (Markup × List ℕ)) → markup_at inside ≡ o
           → source_at wants step n front s bs ≡ option_and_then (λ m. option_and_then (λ now. marked wants step a_turn.0 now m) (text_step step (stripped front t m.0.before) s)) o
       at_markup o e =
-          a_turn.1 ∙ ap (λ (l : List ℕ). turn wants step a_turn.0 front s (t, l)) (byte_some 123 behind inside opened)
+          a_turn.1 ∙ ap (λ (l : List ℕ). turn wants step a_turn.0 front s (t, l)) (byte_some 123 following inside opened)
           ∙ ap (option_and_then (λ m. option_and_then (λ now. marked wants step a_turn.0 now m) (text_step step (stripped front t m.0.before) s))) e
 
-      -- no output and no tag is read behind the opener
+      -- no output and no tag is read after the opener
       pub no_markup : markup_at inside ≡ None → source_at wants step n front s bs ≡ None
       no_markup h = at_markup None h
 
@@ -77,9 +77,9 @@ module _ (bs t behind : List ℕ) (cut : (t, behind) ≡ text_at bs) where
 
             pub turn_shorter : length whole.1 < length bs
             turn_shorter =
-                let b = ap (length {A = ℕ}) (byte_some 123 behind inside opened) in
+                let b = ap (length {A = ℕ}) (byte_some 123 following inside opened) in
                 let c = markup_shorter (body_takes (wants now) inside m whole found closed) in
-                omega (arith, behind_shorter, b, c)
+                omega (arith, following_shorter, b, c)
 
             -- the piece is taken
             pub next_turn : length bs ≤ n → (next : S) → step now whole.0.piece ≡ Some next → source_at wants step n front s bs ≡ source_at wants step (n - 1) whole.0.after next whole.1

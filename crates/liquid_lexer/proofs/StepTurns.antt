@@ -12,9 +12,9 @@ append : List Expression → Steps → Steps
 append [] ws = ws
 append (v ∷ vs) ws = step v (append vs ws)
 
--- what was read, behind the steps vs
-pub behind : List Expression → Option (Steps × List ℕ) → Option (Steps × List ℕ)
-behind vs o = option_map (λ x. (append vs x.0, x.1)) o
+-- what was read, after the steps vs
+pub with_front : List Expression → Option (Steps × List ℕ) → Option (Steps × List ℕ)
+with_front vs o = option_map (λ x. (append vs x.0, x.1)) o
 
 append_last : (vs : List Expression) (v : Expression) (ws : Steps) → append (vs ++ (v ∷ [])) ws ≡ append vs (step v ws)
 unfolding append
@@ -26,33 +26,33 @@ unfolding append
 append_none [] = refl
 append_none (u ∷ vs) = ap (step u) (append_none vs)
 
-pub behind_nothing : (o : Option (Steps × List ℕ)) → o ≡ behind [] o
-unfolding behind append
-behind_nothing None = refl
-behind_nothing (Some x) = refl
+pub after_nothing : (o : Option (Steps × List ℕ)) → o ≡ with_front [] o
+unfolding with_front append
+after_nothing None = refl
+after_nothing (Some x) = refl
 
-behind_last : (vs : List Expression) (v : Expression) (o : Option (Steps × List ℕ)) → behind vs (option_map (λ ws. (step v ws.0, ws.1)) o) ≡ behind (vs ++ (v ∷ [])) o
-unfolding behind
-behind_last vs v None = refl
-behind_last vs v (Some x) = ap (λ ws. Some (ws, x.1)) (sym (append_last vs v x.0))
+after_last : (vs : List Expression) (v : Expression) (o : Option (Steps × List ℕ)) → with_front vs (option_map (λ ws. (step v ws.0, ws.1)) o) ≡ with_front (vs ++ (v ∷ [])) o
+unfolding with_front
+after_last vs v None = refl
+after_last vs v (Some x) = ap (λ ws. Some (ws, x.1)) (sym (append_last vs v x.0))
 
 module _ (inner : Reads Expression) where
   -- one turn, with n turns left
-  pub one_more : (n : ℕ) (vs : List Expression) (bs : List ℕ) (v : Expression × List ℕ) → 0 < n → step_at inner bs ≡ Some (Some v) → behind vs (steps_at inner n bs) ≡ behind (vs ++ (v.0 ∷ [])) (steps_at inner (n - 1) v.1)
+  pub one_more : (n : ℕ) (vs : List Expression) (bs : List ℕ) (v : Expression × List ℕ) → 0 < n → step_at inner bs ≡ Some (Some v) → with_front vs (steps_at inner n bs) ≡ with_front (vs ++ (v.0 ∷ [])) (steps_at inner (n - 1) v.1)
   unfolding steps_at
   one_more zero vs bs v some h = absurd (omega arith)
-  one_more (suc n) vs bs v some h = ap (λ o. behind vs (option_and_then (more_steps inner (steps_at inner n) bs) o)) h ∙ behind_last vs v.0 (steps_at inner n v.1) ∙ ap (λ k. behind (vs ++ (v.0 ∷ [])) (steps_at inner k v.1)) (omega arith)
+  one_more (suc n) vs bs v some h = ap (λ o. with_front vs (option_and_then (more_steps inner (steps_at inner n) bs) o)) h ∙ after_last vs v.0 (steps_at inner n v.1) ∙ ap (λ k. with_front (vs ++ (v.0 ∷ [])) (steps_at inner k v.1)) (omega arith)
 
-  pub no_more : (n : ℕ) (vs : List Expression) (bs : List ℕ) → step_at inner bs ≡ Some None → behind vs (steps_at inner n bs) ≡ Some (steps_of vs, bs)
-  unfolding steps_at behind
-  no_more zero vs bs h = ap (λ o. behind vs (option_and_then (more_steps inner (λ bs. None) bs) o)) h ∙ ap (λ ws. Some (ws, bs)) (append_none vs)
-  no_more (suc n) vs bs h = ap (λ o. behind vs (option_and_then (more_steps inner (steps_at inner n) bs) o)) h ∙ ap (λ ws. Some (ws, bs)) (append_none vs)
+  pub no_more : (n : ℕ) (vs : List Expression) (bs : List ℕ) → step_at inner bs ≡ Some None → with_front vs (steps_at inner n bs) ≡ Some (steps_of vs, bs)
+  unfolding steps_at with_front
+  no_more zero vs bs h = ap (λ o. with_front vs (option_and_then (more_steps inner (λ bs. None) bs) o)) h ∙ ap (λ ws. Some (ws, bs)) (append_none vs)
+  no_more (suc n) vs bs h = ap (λ o. with_front vs (option_and_then (more_steps inner (steps_at inner n) bs) o)) h ∙ ap (λ ws. Some (ws, bs)) (append_none vs)
 
-  pub failed : (n : ℕ) (vs : List Expression) (bs : List ℕ) → step_at inner bs ≡ None → behind vs (steps_at inner n bs) ≡ None
-  unfolding steps_at behind
-  failed zero vs bs h = ap (λ o. behind vs (option_and_then (more_steps inner (λ bs. None) bs) o)) h
-  failed (suc n) vs bs h = ap (λ o. behind vs (option_and_then (more_steps inner (steps_at inner n) bs) o)) h
+  pub failed : (n : ℕ) (vs : List Expression) (bs : List ℕ) → step_at inner bs ≡ None → with_front vs (steps_at inner n bs) ≡ None
+  unfolding steps_at with_front
+  failed zero vs bs h = ap (λ o. with_front vs (option_and_then (more_steps inner (λ bs. None) bs) o)) h
+  failed (suc n) vs bs h = ap (λ o. with_front vs (option_and_then (more_steps inner (steps_at inner n) bs) o)) h
 
-  pub refused : (e : ParseError) (n : ℕ) (vs : List Expression) (bs : List ℕ) (whole : Option (Steps × List ℕ)) → Fails e (step_at inner bs) → whole ≡ behind vs (steps_at inner n bs) → Fails e whole
+  pub refused : (e : ParseError) (n : ℕ) (vs : List Expression) (bs : List ℕ) (whole : Option (Steps × List ℕ)) → Fails e (step_at inner bs) → whole ≡ with_front vs (steps_at inner n bs) → Fails e whole
   refused errors.Memory n vs bs whole h k = tt
   refused (errors.Fault f) n vs bs whole h k = k ∙ failed n vs bs h

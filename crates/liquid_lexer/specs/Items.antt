@@ -41,10 +41,10 @@ pub record IsSymbol (s : Symbol) (bs rest : List ℕ) : Type 0 where
 
 -- `(value..value)` after its `(`, whitespace allowed around each value
 pub data IsRange : Expression → Expression → List ℕ → List ℕ → Type 0 where
-  is_range : {first second : Expression} {inside from until after next behind rest : List ℕ}
+  is_range : {first second : Expression} {inside from until after next following rest : List ℕ}
       → Blank inside from → IsValue 200 first from until → Blank until (dot ∷ dot ∷ after)
-      → Blank after next → IsValue 200 second next behind →
-      Blank behind (close_parenthesis ∷ rest) → IsRange first second inside rest
+      → Blank after next → IsValue 200 second next following →
+      Blank following (close_parenthesis ∷ rest) → IsRange first second inside rest
 
 pub data IsItem : Item → List ℕ → List ℕ → Type 0 where
   is_symbol : {s : Symbol} {bs rest : List ℕ} → IsSymbol s bs rest → IsItem (symbol s) bs rest

@@ -34,20 +34,20 @@ kind_of faults.Expected = kinds.Expected
 kind_of faults.MissingEnd = kinds.MissingEnd
 kind_of faults.TooNested = kinds.TooNested
 
--- a want of memory is told as that; a fault by its kind, unless there is no memory for its message
+-- a want of memory is reported as such; a fault by its kind, unless its message has no room
 abbrev pub TellsOf : ParseError → ErrorKind → Type 0
-TellsOf errors.Memory told = told ≡ Memory
-TellsOf (errors.Fault f) told = (told ≡ kind_of f.kind) ⊎ (told ≡ Memory)
+TellsOf errors.Memory reported = reported ≡ Memory
+TellsOf (errors.Fault f) reported = (reported ≡ kind_of f.kind) ⊎ (reported ≡ Memory)
 
 -- a fault of this kind, and no want of memory
 abbrev pub IsOfKind : FaultKind → ParseError → Type 0
 IsOfKind kind errors.Memory = ⊥
 IsOfKind kind (errors.Fault f) = f.kind ≡ kind
 
--- a fault at the place with so many bytes of the source left, and no want of memory
+-- a fault at the place with so many bytes of the source remaining, and no want of memory
 abbrev pub IsAt : ℕ → ParseError → Type 0
-IsAt left errors.Memory = ⊥
-IsAt left (errors.Fault f) = f.left ≡ left
+IsAt remaining errors.Memory = ⊥
+IsAt remaining (errors.Fault f) = f.remaining ≡ remaining
 
 -- the name of the tag that is wanted as the end of a block, where one is
 abbrev pub end_of : Expectation → Text

@@ -25,8 +25,8 @@ pub record Mark : Type 0 where
   pub before : Bool
   pub after : Bool
 
-abbrev pub mark_behind : Bool × List ℕ → Option (Mark × List ℕ)
-mark_behind d = do
+abbrev pub mark_after : Bool × List ℕ → Option (Mark × List ℕ)
+mark_after d = do
   w ← word_at (past_white d.1)
   c ← closer_at Tag (past_white w.1)
   Some (record { name = w.0; before = d.0; after = c.0 }, c.1)
@@ -36,7 +36,7 @@ unfoldable pub mark_at : Reads Mark
 mark_at bs = do
   brace ← past_byte open_brace bs
   inside ← past_byte percent brace
-  mark_behind (dashed inside (past_byte dash inside))
+  mark_after (dashed inside (past_byte dash inside))
 
 abbrev pub is_named : List ℕ → Option (Mark × List ℕ) → Bool
 is_named w None = false

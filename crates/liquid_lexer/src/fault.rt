@@ -61,27 +61,27 @@ impl FaultKind {
 #[derive(Clone, Copy, Debug, PartialEq, Eq)]
 pub struct Fault {
     pub kind: FaultKind,
-    /// How many bytes of the source are left from the place on: where an item can't be read, or
+    /// How many bytes of the source remain from the place on: where an item can't be read, or
     /// else where the piece opens.
-    pub left: usize,
+    pub remaining: usize,
     /// What is wanted at the place.
     pub wanted: Expectation,
-    /// Of a piece whose items are read but aren't allowed: how many of them are left from the one
-    /// on that is wrong. With 0 it is the closer, before which another is wanted.
-    pub items_left: usize,
+    /// Of a piece whose items are read but aren't allowed: how many of them remain from the one
+    /// that is wrong. With 0 it is the closer, before which another is wanted.
+    pub items_remaining: usize,
 }
 
 impl Fault {
     /// A fault where the rest of the source is `text`.
     pub fn new(kind: FaultKind, text: &str, wanted: Expectation) -> Fault
         ensures kind { result.kind ≡ kind }
-        ensures place { result.left ≡ length text.now }
+        ensures place { result.remaining ≡ length text.now }
     {
         Fault {
             kind,
-            left: text.len(),
+            remaining: text.len(),
             wanted,
-            items_left: 0,
+            items_remaining: 0,
         }
     }
 }

@@ -105,7 +105,7 @@ pub fn closer(text: &str, kind: Delimiter) -> Option<(bool, &str)>
 /// The fault of a source that ends where an item or the closer is wanted.
 fn unclosed() -> Fault
     ensures kind { result.kind ≡ FaultKind.Unclosed }
-    ensures place { result.left ≡ 0 }
+    ensures place { result.remaining ≡ 0 }
 {
     Fault::new(FaultKind::Unclosed, "", Expectation::ItemOrCloser)
 }

@@ -3,9 +3,9 @@ use liquid_core::{Location, Origin};
 
 /// The line and the column, in characters and each from 1, of the place with `left` bytes of the
 /// source after it. A byte order mark at the start of the source is no column.
-pub fn location(source: &str, left: usize) -> Location {
+pub fn location(source: &str, remaining: usize) -> Location {
     let front = source
-        .get(..source.len().saturating_sub(left))
+        .get(..source.len().saturating_sub(remaining))
         .unwrap_or(source);
     let lines = front.as_bytes().iter().filter(|b| **b == b'\n').count();
     let line = match front.rfind('\n') {

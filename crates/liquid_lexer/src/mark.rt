@@ -1,7 +1,7 @@
 //! Marks, and the bodies of `raw` and `comment`, which run up to one.
 ghost use Rattle.std.specs.Prelude.{◌≡◌, length, drop};
 ghost use Rattle.std.specs.Option.{option_map};
-ghost use Rattle.liquid_lexer.specs.SourceReading.{mark_at, mark_behind, dashed, goes_on, in_body};
+ghost use Rattle.liquid_lexer.specs.SourceReading.{mark_at, mark_after, dashed, goes_on, in_body};
 ghost use Rattle.liquid_lexer.specs.SourceReading.{in_comment, raw_at, comment_at};
 ghost use Rattle.liquid_lexer.specs.ValueReading.{past_byte, run_len};
 ghost use Rattle.liquid_lexer.specs.PieceView.{mark_view};
@@ -36,12 +36,12 @@ fn read_mark(text: &str) -> Option<(Mark, &str)>
     ensures { option_map (λ x. (mark_view x.0, x.1.now)) result ≡ mark_at text.now }
 {
     let (before, inside) = dashed(past_byte(past_byte(text, b'{')?, b'%')?);
-    mark_behind(before, inside)
+    mark_after(before, inside)
 }
 
 /// The mark after its opener, and what follows it; `before` tells whether the opener has a dash.
-fn mark_behind(before: bool, inside: &str) -> Option<(Mark, &str)>
-    ensures { option_map (λ x. (mark_view x.0, x.1.now)) result ≡ mark_behind (before, inside.now) }
+fn mark_after(before: bool, inside: &str) -> Option<(Mark, &str)>
+    ensures { option_map (λ x. (mark_view x.0, x.1.now)) result ≡ mark_after (before, inside.now) }
 {
     let (name, rest) = word(past_white(inside))?;
     let (after, rest) = closer(past_white(rest), Delimiter::Tag)?;

@@ -99,7 +99,7 @@ pub fn read_markup<'s>(alloc: Global, text: &'s str) -> Result<(Markup<'s>, &'s 
 fn no_name(text: &str) -> Fault
     ensures unclosed { text.now ≡ [] → result.kind ≡ FaultKind.Unclosed }
     ensures expected { (text.now ≡ [] → ⊥) → result.kind ≡ FaultKind.Expected }
-    ensures place { result.left ≡ length text.now }
+    ensures place { result.remaining ≡ length text.now }
 {
     if text.is_empty() {
         Fault::new(FaultKind::Unclosed, text, Expectation::TagName)
@@ -135,7 +135,7 @@ fn tag_name<'s>(piece: Piece<'s>) -> &'s str
 /// The fault of a body that doesn't end, at the end of the source.
 fn without_end(end: Expectation) -> Fault
     ensures kind { result.kind ≡ FaultKind.MissingEnd }
-    ensures place { result.left ≡ 0 }
+    ensures place { result.remaining ≡ 0 }
 {
     Fault::new(FaultKind::MissingEnd, "", end)
 }

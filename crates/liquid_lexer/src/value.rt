@@ -47,7 +47,7 @@ fn word_kind(word: &str) -> WordKind
 #[tactic(auto, using(crate::proofs::Cuts::number_cut))]
 fn no_value(text: &str) -> Fault
     ensures kind { result.kind ≡ value_fault text.now }
-    ensures place { result.left ≡ length text.now }
+    ensures place { result.remaining ≡ length text.now }
 {
     let (digits, after) = text.split_at(number_len(text.as_bytes()));
     match text.as_bytes() {
@@ -61,7 +61,7 @@ fn no_value(text: &str) -> Fault
 /// The fault of a number that isn't taken; `digits` are its bytes, and `after` is what follows it.
 fn no_number(text: &str, digits: &str, after: &[u8]) -> Fault
     ensures kind { result.kind ≡ number_fault (whole_text digits.now) after.now }
-    ensures place { result.left ≡ length text.now }
+    ensures place { result.remaining ≡ length text.now }
 {
     match after {
         _ if whole_of(digits).is_none() => Fault::new(
@@ -199,7 +199,7 @@ fn read_step(
 pub fn unexpected(text: &str, wanted: Expectation) -> Fault
     ensures unclosed { text.now ≡ [] → result.kind ≡ FaultKind.Unclosed }
     ensures bad_item { (text.now ≡ [] → ⊥) → result.kind ≡ FaultKind.BadItem }
-    ensures place { result.left ≡ length text.now }
+    ensures place { result.remaining ≡ length text.now }
 {
     if text.is_empty() {
         Fault::new(FaultKind::Unclosed, text, wanted)

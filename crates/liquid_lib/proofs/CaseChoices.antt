@@ -126,7 +126,7 @@ module _ (ns : List Node) (e : Environment) (names : List Text) (meant : Meant) 
     pub stands : IsForestAt ns from nodes arm.end
     pub its_values : values ≡ values_in arm
     pub its_body : body ≡ nodes_of nodes
-    pub behind : CaseStands ns arm.end arms last more otherwise
+    pub after : CaseStands ns arm.end arms last more otherwise
     pub within : (N : Names) → Within N names → Within N (whens_names (tree.when values body more)) × Within N (nodes_names otherwise)
     pub same : (setting : Setting) (deeper : tree.Nodes → Run Nothing) → meant setting deeper e ≡ whens_meaning setting deeper (tree.when values body more) target (nodes_meaning setting deeper otherwise) e
 
@@ -136,7 +136,7 @@ module _ (ns : List Node) (e : Environment) (names : List Text) (meant : Meant) 
       on : (ws : tree.Whens) → CaseStands ns from (arm ∷ arms) last ws x.otherwise → ((N : Names) → Within N names → Within N (whens_names ws) × Within N (nodes_names x.otherwise))
           → ((setting : Setting) (deeper : tree.Nodes → Run Nothing) → meant setting deeper e ≡ whens_meaning setting deeper ws target (nodes_meaning setting deeper x.otherwise) e) → Part
       on tree.no_whens s within same = absurd s
-      on (tree.when values body more) (f, stands, vs, is, behind) within same = record { values = values; body = body; more = more; otherwise = x.otherwise; nodes = f; stands = stands; its_values = vs; its_body = is; behind = behind; within = within; same = same }
+      on (tree.when values body more) (f, stands, vs, is, after) within same = record { values = values; body = body; more = more; otherwise = x.otherwise; nodes = f; stands = stands; its_values = vs; its_body = is; after = after; within = within; same = same }
 
   module _ (x : CaseLeft ns e names meant target (arm ∷ arms) from last) where
     part : Part
@@ -159,7 +159,7 @@ module _ (ns : List Node) (e : Environment) (names : List Text) (meant : Meant) 
         (left N (nodes_names part.body) (whens_names part.more) both, right N (nodes_names part.body) (whens_names part.more) both)
 
     pub arm_ordered : (from ≤ arm.end) × (arm.end ≤ last)
-    arm_ordered = (Stands-le (flats ns) from part.nodes arm.end part.stands, case_le ns arm.end arms last part.more part.otherwise part.behind)
+    arm_ordered = (Stands-le (flats ns) from part.nodes arm.end part.stands, case_le ns arm.end arms last part.more part.otherwise part.after)
 
     -- none of its values does: on with the next part
     pub arm_passed : equal_among target (values_in arm) e ≡ Ok false → CaseLeft ns e names meant target arms arm.end last
@@ -167,7 +167,7 @@ module _ (ns : List Node) (e : Environment) (names : List Text) (meant : Meant) 
     arm_passed is = record {
       whens = part.more;
       otherwise = part.otherwise;
-      stands = part.behind;
+      stands = part.after;
       within = λ N h. ((part_names N h).1, (part.within N h).1);
       same = λ setting deeper. by_part setting deeper ∙ hit_met target (values_in arm) (by_hit setting deeper) e false is;
     }

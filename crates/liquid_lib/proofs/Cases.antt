@@ -15,7 +15,7 @@ use Rattle.liquid_syntax.proofs.Places.{one_body}
 use Rattle.liquid_lib.specs.inside.Choices.{CaseStands, HasCaseAt}
 use Rattle.liquid_lib.specs.inside.Engine.{node_meant}
 use Rattle.liquid_lib.specs.Silent.{IsSilent}
-use Rattle.liquid_lib.specs.Kept.{Keeps, IsRenderNode}
+use Rattle.liquid_lib.specs.StateKept.{Keeps, IsRenderNode}
 use Rattle.liquid_lib.specs.Performs.{Configuration, Performs}
 use Rattle.liquid_meaning.specs.Meaning.{Setting}
 use Rattle.liquid_lib.proofs.CaseChoices.{case_le}
@@ -42,7 +42,7 @@ module _ (ns : List Node) (at : ℕ) (target : Expression) (arms : List Arm) (la
       let (ws, o, stands, is, over) = case_bodies ns (at + 1) arms last bs inner in
       (ws, o, stands, made ∙ is (λ ws o. case_of target ws o), ends ∙ over)
 
-  -- its parts stand behind it, and inside of the range
+  -- its parts stand after it, and inside of the range
   pub the_case : HasCaseAt ns (at + 1) arms last × (at < last) × (last ≤ to)
   the_case =
       let (n, next, there, le) = req in

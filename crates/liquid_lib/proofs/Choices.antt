@@ -17,7 +17,7 @@ use Rattle.liquid_evaluation.specs.Tree as tree
 use Rattle.liquid_evaluation.specs.declared.condition.Condition.{Condition}
 use Rattle.liquid_syntax.specs.declared.node.Node.{Node}
 use Rattle.liquid_syntax.specs.declared.node.Node.TheVariants.{If}
-use Rattle.liquid_syntax.specs.declared.node.TwoBodies.{TwoBodies}
+use Rattle.liquid_syntax.specs.declared.node.BodyEnds.{BodyEnds}
 use Rattle.liquid_syntax.proofs.Places.{Stands-le, first-within, nothing_left}
 use Rattle.liquid_lib.specs.inside.Choices.{Meant, Chosen, Refused, ComesTo}
 use Rattle.liquid_lib.specs.inside.Engine.{nodes_meant}
@@ -190,7 +190,7 @@ comes_on : (ns : List Node) (e : Environment) (nodes : tree.Nodes) (at to : ℕ)
 comes_on ns e nodes at to r x h = comes_as ns e _ _ (list_meant (nodes_of x.nodes)) (list_meant nodes) r x.within x.same h
 
 -- the node at `at` is an `if` that ends where the range does
-module _ (ns : List Node) (e : Environment) (nodes : tree.Nodes) (at to : ℕ) (condition : Condition) (bodies : TwoBodies) (r : Node) (x : Comes ns e nodes at to)
+module _ (ns : List Node) (e : Environment) (nodes : tree.Nodes) (at to : ℕ) (condition : Condition) (bodies : BodyEnds) (r : Node) (x : Comes ns e nodes at to)
     (lt : at < to) (read : r ≡ get_or ns at r) (is : r ≡ If condition bodies) (ends : bodies.last_end ≡ to) where
   abbrev c : tree.Condition
   c = condition_view condition

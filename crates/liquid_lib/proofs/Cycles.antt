@@ -26,8 +26,8 @@ use Rattle.liquid_meaning.specs.Runs.{Nothing, Run, change, ◌>>=◌}
 
 -- no values
 pub cycle_without : (group : Text) (values : List Expression) (e : Error) (p : Configuration) → length values ≡ 0 → IsKindOrMemory CycleBounds e.kind → Performs (Err e) (cycle_meaning group values) p p
-cycle_without group [] e p none told = fault_met CycleBounds e p refl told
-cycle_without group (x ∷ xs) e p none told = absurd (omega (arith, none))
+cycle_without group [] e p none kind = fault_met CycleBounds e p refl kind
+cycle_without group (x ∷ xs) e p none kind = absurd (omega (arith, none))
 
 -- the index moves on, and what is at the old one decides
 pub cycle_met : (group : Text) (values : List Expression) (r : Result (Unit {0}) Error) (i : ℕ) (s t : Sink) (e g h : Environment) → 0 < length values → i ≡ cycle_index group e
@@ -47,8 +47,8 @@ cycle_met group (x ∷ xs) r i s t e g h some is moved done =
 
 -- no value stands there
 pub none_there : (item : Option Expression) (e : Error) (p : Configuration) → item ≡ None → IsKindOrMemory CycleBounds e.kind → Performs (Err e) (write_item item) p p
-none_there (Some x) e p is told = absurd cc
-none_there None e p is told = fault_met CycleBounds e p refl told
+none_there (Some x) e p is kind = absurd cc
+none_there None e p is kind = fault_met CycleBounds e p refl kind
 
 -- a value stands there
 pub one_there : (item : Option Expression) (x : Expression) (r : Result (Unit {0}) Error) (p q : Configuration) → item ≡ Some x → Performs r (write_item (Some x)) p q → Performs r (write_item item) p q

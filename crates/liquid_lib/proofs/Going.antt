@@ -18,7 +18,7 @@ use Rattle.liquid_syntax.specs.declared.node.Node.{Node}
 use Rattle.liquid_syntax.proofs.Places.{Stands-le, StandBodies-le, one_body, two_bodies, nothing_left}
 use Rattle.liquid_meaning.specs.Within.{Within}
 use Rattle.liquid_core.specs.States.{layers_of}
-use Rattle.liquid_lib.specs.Kept.{Keeps, IsRenderNode, AreRenderNodes}
+use Rattle.liquid_lib.specs.StateKept.{Keeps, IsRenderNode, AreRenderNodes}
 use Rattle.liquid_lib.specs.Performs.{Configuration, Performs}
 use Rattle.liquid_lib.specs.inside.Engine.{node_meant, nodes_meant}
 use Rattle.liquid_meaning.specs.Meaning.{Setting, deeper_meaning}

@@ -16,17 +16,17 @@ use Rattle.liquid_lib.specs.LimitedPages.{PageWithin}
 use Rattle.liquid_lib.specs.Pages.{ended_page, page_view, shown}
 use Rattle.liquid_lib.specs.Performs.{Performs}
 use Rattle.liquid_lib.specs.declared.limits.LimitReached.{LimitReached}
-use Rattle.liquid_lib.specs.declared.page.Page.{Page}
+use Rattle.liquid_lib.specs.declared.rendered_page.Page.{Page}
 use Rattle.liquid_lib.proofs.LimitedPages.{page_within, within_limits}
 
 pub hosted_within : (text : Text) (refused : ℕ) (last : LimitReached) (named : Text → FilterAnswer) (depth : ℕ) (partials : List (Text × Nodes)) («data» : Map Datum) (nodes : Nodes)
-    (was : Layers) (g : Environment) (page : Page) (start : ℕ) (told : Option LimitReached) (answer : Result (Unit {0}) Error)
-    → was ≡ new_layers «data» → start ≡ 0 → told ≡ cond (eqb refused 0) None (Some last)
+    (was : Layers) (g : Environment) (page : Page) (start : ℕ) (reached_limit : Option LimitReached) (answer : Result (Unit {0}) Error)
+    → was ≡ new_layers «data» → start ≡ 0 → reached_limit ≡ cond (eqb refused 0) None (Some last)
     → Performs answer (meaning (setting_with named partials) depth nodes) (within_limits [] start (merged_layers was)) (within_limits text refused g)
     → page_view page ≡ ended_page text answer → IfErr answer (λ x. is_memory x.kind ≡ false)
-    → PageWithin (hosted_page named depth partials «data» nodes) (record { page = page; limit = told })
+    → PageWithin (hosted_page named depth partials «data» nodes) (record { page = page; limit = reached_limit })
 unfolding hosted_page
-hosted_within text refused last named depth partials «data» nodes was g page start told answer same none is_told performs is ran =
+hosted_within text refused last named depth partials «data» nodes was g page start reached_limit answer same none same_limit performs is ran =
     let run = meaning (setting_with named partials) depth nodes in
-    subst (λ l. PageWithin (shown (run (merged_layers l))) (record { page = page; limit = told })) same
-    (page_within text refused last run (merged_layers was) g page start told answer none is_told performs is ran)
+    subst (λ l. PageWithin (shown (run (merged_layers l))) (record { page = page; limit = reached_limit })) same
+    (page_within text refused last run (merged_layers was) g page start reached_limit answer none same_limit performs is ran)

@@ -68,7 +68,7 @@ bind_faulted va vb e m k p q (inr x) = inr (record { cause = x.cause; adds = par
 
 -- ---- want of memory
 
--- the same, with every argument told by the goal
+-- the same, with every argument inferred from the goal
 pub memory_at : {V A : Type 0} {view : V → A} {o : Outcome A} {s : Sink} {h : Environment} (e : Error) → e.kind ≡ Memory → MeetsAt view (Err e) o s s h
 memory_at e is = inr (record { cause = inl (is, inl refl); adds = AddsPart-none _ _ })
 
@@ -91,8 +91,8 @@ no_value_met view e f p h = on (is_memory e.kind) refl h
     on false is h = inl (record { end = sym h.0; within = h.1; adds = Adds-nil p.sink; none_failed = refl; same = refl })
 
 -- a fault of this kind
-pub told_as : {X Y : Type 0} (view : X → Y) (wanted : ErrorKind) (e : Error) → is_refusal wanted ≡ false → IsKindOrMemory wanted e.kind → Answers view (Err e) (Err wanted)
-told_as {Y = Y} view wanted e within h = on (is_memory e.kind) h
+pub answers_fault : {X Y : Type 0} (view : X → Y) (wanted : ErrorKind) (e : Error) → is_refusal wanted ≡ false → IsKindOrMemory wanted e.kind → Answers view (Err e) (Err wanted)
+answers_fault {Y = Y} view wanted e within h = on (is_memory e.kind) h
   where
     err : ErrorKind → Result Y ErrorKind
     err k = Err k
@@ -103,7 +103,7 @@ told_as {Y = Y} view wanted e within h = on (is_memory e.kind) h
 
 pub fault_met : (wanted : ErrorKind) (e : Error) (p : Configuration) → is_refusal wanted ≡ false → IsKindOrMemory wanted e.kind → Performs (Err e) (fault wanted) p p
 unfolding fault evaluate
-fault_met wanted e p within h = no_value_met {V = Unit {0}} unit e (λ g. Err wanted) p (told_as {X = Unit {0}} unit wanted e within h)
+fault_met wanted e p within h = no_value_met {V = Unit {0}} unit e (λ g. Err wanted) p (answers_fault {X = Unit {0}} unit wanted e within h)
 
 -- a value, and what followed it
 pub given_met : {V A U B : Type 0} (va : V → A) (vb : U → B) (value : V) (r : Result U Error) (f : Environment → Result A ErrorKind) (k : A → Run B) (p u : Configuration)

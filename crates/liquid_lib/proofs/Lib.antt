@@ -1,5 +1,6 @@
 pub mod Added
 pub mod Apart
+pub mod BorrowedData
 pub mod Bound
 pub mod CaseChoices
 pub mod Cases
@@ -11,8 +12,7 @@ pub mod HostedPages
 pub mod Interrupts
 pub mod ItemRuns
 pub mod Joined
-pub mod Kept
-pub mod LentData
+pub mod StateKept
 pub mod LimitedPages
 pub mod LoopItems
 pub mod LoopMeanings
@@ -22,7 +22,7 @@ pub mod Pieces
 pub mod RenderEach
 pub mod RenderKinds
 pub mod Renderings
-pub mod Retold
+pub mod SameKindOrMemory
 pub mod Silent
 pub mod Sinks
 pub mod SourceRuns

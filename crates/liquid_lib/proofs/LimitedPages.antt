@@ -14,7 +14,7 @@ use Rattle.liquid_lib.specs.LimitedParts.{both}
 use Rattle.liquid_lib.specs.Pages.{ended_page, fault_of, page_view, shown, Shown}
 use Rattle.liquid_lib.specs.Performs.{Configuration, Performs}
 use Rattle.liquid_lib.specs.declared.limits.LimitReached.{LimitReached}
-use Rattle.liquid_lib.specs.declared.page.Page.{Page}
+use Rattle.liquid_lib.specs.declared.rendered_page.Page.{Page}
 use Rattle.liquid_lib.proofs.Taken.{none_refused, one_refused}
 
 -- into a buffer, beside a writer that a limit has refused so often
@@ -45,9 +45,9 @@ module _ (text : Text) (refused : ℕ) (last : LimitReached) (m : Run Nothing) (
           inr (some failed.1, ap Some failed.0, (y.adds.rest, ap (λ l. l ++ y.adds.rest) front ∙ y.adds.whole))
 
   -- the page of what a run wrote within limits
-  pub page_within : (start : ℕ) (told : Option LimitReached) (answer : Result (Unit {0}) Error) → start ≡ 0 → told ≡ limit
+  pub page_within : (start : ℕ) (reached_limit : Option LimitReached) (answer : Result (Unit {0}) Error) → start ≡ 0 → reached_limit ≡ limit
       → Performs answer m (within_limits [] start e) (within_limits text refused g) → page_view page ≡ ended_page text answer → IfErr answer (λ x. is_memory x.kind ≡ false)
-      → PageWithin (shown (m e)) (record { page = page; limit = told })
-  page_within start told answer none is_told performs is ran =
+      → PageWithin (shown (m e)) (record { page = page; limit = reached_limit })
+  page_within start reached_limit answer none same_limit performs is ran =
       let there = subst (λ n. Performs answer m (within_limits [] n e) (within_limits text refused g)) none performs in
-      subst (λ l. PageWithin (shown (m e)) (record { page = page; limit = l })) (sym is_told) (subst Is (sym is) (seen answer there ran))
+      subst (λ l. PageWithin (shown (m e)) (record { page = page; limit = l })) (sym same_limit) (subst Is (sym is) (seen answer there ran))

@@ -12,7 +12,7 @@ use Rattle.liquid_meaning.specs.Runs.{Nothing, Run}
 use Rattle.liquid_lib.specs.Failures.{OneFailed, AtMostOneFailed}
 use Rattle.liquid_lib.specs.Pages.{ended_page, fault_of, page_view, shown}
 use Rattle.liquid_lib.specs.Performs.{Performs}
-use Rattle.liquid_lib.specs.declared.page.Page.{Page}
+use Rattle.liquid_lib.specs.declared.rendered_page.Page.{Page}
 use Rattle.liquid_lib.specs.inside.Engine.{in_buffer}
 use Rattle.liquid_lib.proofs.Written.{never_failed}
 

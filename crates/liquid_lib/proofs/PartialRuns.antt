@@ -13,7 +13,7 @@ use Rattle.liquid_model.specs.declared.error.ErrorKind.{ErrorKind}
 use Rattle.liquid_model.specs.declared.error.ErrorKind.TheVariants.{Memory, TooDeep, UnknownPartial}
 use Rattle.liquid_core.specs.Environment.{Environment, Names, local_of, new_environment}
 use Rattle.liquid_core.specs.Expression.{Expression}
-use Rattle.liquid_core.specs.States.{Layers, merged_layers, scopes_behind, with_scope_popped, with_scope_pushed}
+use Rattle.liquid_core.specs.States.{Layers, merged_layers, enclosing_scopes, with_scope_popped, with_scope_pushed}
 use Rattle.liquid_core.specs.declared.interrupt.Interrupt.{Interrupt}
 use Rattle.liquid_evaluation.specs.Evaluation.{bound_values}
 use Rattle.liquid_evaluation.specs.Tree as tree
@@ -31,7 +31,7 @@ use Rattle.liquid_core.specs.FilterAnswers.{FilterAnswer}
 use Rattle.liquid_evaluation.specs.Evaluation.{answers_with}
 use Rattle.liquid_lib.specs.declared.context.RunContext.{RunContext}
 use Rattle.liquid_lib.specs.inside.Engine.{nodes_meant, setting_of}
-use Rattle.liquid_lib.specs.Kept.{LayersKept}
+use Rattle.liquid_lib.specs.StateKept.{LayersKept}
 use Rattle.liquid_lib.specs.inside.Partials.{bound_as, depth_left, entry_at, entry_of, include_entry, item_entry, jekyll_entry, left_with, named_entry, render_environment, partial_of, render_entry, render_partial}
 use Rattle.liquid_lib.specs.Performs.{Configuration, Meets, MeetsAt, Performs, unit}
 use Rattle.liquid_lib.specs.Sinks.{Sink}
@@ -136,8 +136,8 @@ made_is over more bindings e made bound =
 abbrev packed : {S : Type 0} → S → tree.Nodes → ℕ → S × (tree.Nodes × ℕ)
 packed made partial left = (made, (partial, left))
 
-abbrev told_with : {S : Type 0} → Text → S × (tree.Nodes × ℕ) → S × (Text × (tree.Nodes × ℕ))
-told_with name entry = (entry.0, (name, entry.1))
+abbrev with_partial_name : {S : Type 0} → Text → S × (tree.Nodes × ℕ) → S × (Text × (tree.Nodes × ℕ))
+with_partial_name name entry = (entry.0, (name, entry.1))
 
 entry_found : {S : Type 0} (over : List (Text × Datum) → S) (b : Result (List (Text × Datum)) ErrorKind) (look : Result tree.Nodes ErrorKind) (d : Result ℕ ErrorKind) (made : S) (partial : tree.Nodes) (left : ℕ)
     → ((b >>= (λ pairs. Ok (over pairs))) >>= (λ m. look >>= (λ p. d >>= (λ l. Ok (packed m p l))))) ≡ Ok (packed made partial left) → look ≡ Ok partial
@@ -162,15 +162,15 @@ include_found partials depth x bindings e scope name partial left h = named (par
     at : Text → Result (Map Datum × (tree.Nodes × ℕ)) ErrorKind
     at n = entry_of pairs_scope (partial_of partials n) depth bindings e
 
-    told : (n : Text) (r : Result (Map Datum × (tree.Nodes × ℕ)) ErrorKind) → at n ≡ r → (r >>= (λ entry. Ok (told_with n entry))) ≡ Ok (told_with name (packed scope partial left)) → listed partials name ≡ Some partial
-    told n (Ok s) is k =
-        let same : told_with n s ≡ told_with name (packed scope partial left) = from_ok k in
+    at_name : (n : Text) (r : Result (Map Datum × (tree.Nodes × ℕ)) ErrorKind) → at n ≡ r → (r >>= (λ entry. Ok (with_partial_name n entry))) ≡ Ok (with_partial_name name (packed scope partial left)) → listed partials name ≡ Some partial
+    at_name n (Ok s) is k =
+        let same : with_partial_name n s ≡ with_partial_name name (packed scope partial left) = from_ok k in
         subst (λ m. listed partials m ≡ Some partial) (ap (λ (t : Map Datum × (Text × (tree.Nodes × ℕ))). t.1.0) same)
         (found_some (listed partials n) UnknownPartial partial (entry_found pairs_scope (bound_values bindings e) (partial_of partials n) (depth_left depth) scope partial left (is ∙ ap (λ (t : Map Datum × (Text × (tree.Nodes × ℕ))). Ok (packed t.0 t.1.1.0 t.1.1.1)) same)))
-    told n (Err kind) is k = absurd cc
+    at_name n (Err kind) is k = absurd cc
 
-    named : (r : Result Text ErrorKind) → (r >>= (λ n. at n >>= (λ entry. Ok (told_with n entry)))) ≡ Ok (told_with name (packed scope partial left)) → listed partials name ≡ Some partial
-    named (Ok n) k = told n (at n) refl k
+    named : (r : Result Text ErrorKind) → (r >>= (λ n. at n >>= (λ entry. Ok (with_partial_name n entry)))) ≡ Ok (with_partial_name name (packed scope partial left)) → listed partials name ≡ Some partial
+    named (Ok n) k = at_name n (at n) refl k
     named (Err kind) k = absurd cc
 
 -- ---- what a tag that runs a partial means, by what the partial is entered with
@@ -208,11 +208,11 @@ module _ {S A : Type 0} (over : List (Text × Datum) → S) (enter : S → Run N
 -- a name before that, and what is made of how the run ended
 named_at : {S A B : Type 0} (more : Outcome A → Outcome B) (at : Text → Result (S × (tree.Nodes × ℕ)) ErrorKind) (run : Text → Run A) (inner : S × (tree.Nodes × ℕ) → Run A) (e : Environment)
     → ((kind : ErrorKind) → more (ended e kind) ≡ ended e kind) → ((name : Text) → run name e ≡ go_on inner [] e (at name)) → (n : Result Text ErrorKind)
-    → go_on (λ (name : Text) (g : Environment). more (run name g)) [] e n ≡ go_on (λ (s : S × (Text × (tree.Nodes × ℕ))) (g : Environment). more (inner (s.0, s.1.1) g)) [] e (n >>= (λ name. at name >>= (λ entry. Ok (told_with name entry))))
+    → go_on (λ (name : Text) (g : Environment). more (run name g)) [] e n ≡ go_on (λ (s : S × (Text × (tree.Nodes × ℕ))) (g : Environment). more (inner (s.0, s.1.1) g)) [] e (n >>= (λ name. at name >>= (λ entry. Ok (with_partial_name name entry))))
 unfolding go_on
 named_at {S} {A} {B} more at run inner e faulted same (Ok name) = ap more (same name) ∙ on (at name)
   where
-    on : (r : Result (S × (tree.Nodes × ℕ)) ErrorKind) → more (go_on inner [] e r) ≡ go_on (λ (s : S × (Text × (tree.Nodes × ℕ))) (g : Environment). more (inner (s.0, s.1.1) g)) [] e (r >>= (λ entry. Ok (told_with name entry)))
+    on : (r : Result (S × (tree.Nodes × ℕ)) ErrorKind) → more (go_on inner [] e r) ≡ go_on (λ (s : S × (Text × (tree.Nodes × ℕ))) (g : Environment). more (inner (s.0, s.1.1) g)) [] e (r >>= (λ entry. Ok (with_partial_name name entry)))
     on (Ok s) = refl
     on (Err kind) = faulted kind
 named_at more at run inner e faulted same (Err kind) = refl
@@ -346,7 +346,7 @@ kept_around N scope l p q m pushed kept popped = subst (LayersKept N l) (sym pop
     on : (p : Layers) → p ≡ with_scope_pushed scope l → LayersKept N p q → LayersKept N l (with_scope_popped q)
     on p is k =
         let s : LayersKept N (with_scope_pushed scope l) q = subst (λ z. LayersKept N z q) is k in
-        record { scopes = ap scopes_behind s.scopes; globals = s.globals; assigned = s.assigned; counters = s.counters }
+        record { scopes = ap enclosing_scopes s.scopes; globals = s.globals; assigned = s.assigned; counters = s.counters }
 
 -- a run over a scope that was pushed before it and is popped after it
 pub partial_met : (scope : Map Datum) (r : Result (Unit {0}) Error) (m : Run Nothing) (s t : Sink) (l p q z : Layers) → p ≡ with_scope_pushed scope l → q.scopes ≡ p.scopes → z ≡ with_scope_popped q
@@ -355,7 +355,7 @@ pub partial_met : (scope : Map Datum) (r : Result (Unit {0}) Error) (m : Run Not
 partial_met scope r m s t l p q z pushed kept popped h =
     let inside : Performs r m (record { sink = s; environment = merged_layers (with_scope_pushed scope l) }) (record { sink = t; environment = merged_layers q }) =
     subst (λ y. Performs r m (record { sink = s; environment = merged_layers y }) (record { sink = t; environment = merged_layers q })) pushed h in
-    let loc : local_of l.scopes ≡ local_of (scopes_behind q.scopes) = sym (ap (λ x. local_of (scopes_behind x)) (kept ∙ ap (λ y. y.scopes) pushed)) in
+    let loc : local_of l.scopes ≡ local_of (enclosing_scopes q.scopes) = sym (ap (λ x. local_of (enclosing_scopes x)) (kept ∙ ap (λ y. y.scopes) pushed)) in
     let with_local : Map Datum → Environment = λ x. record { local = x; assigned = q.assigned; counters = q.counters; globals = q.globals; registers = q.registers } in
     let back : with_local (local_of l.scopes) ≡ merged_layers z = ap with_local loc ∙ sym (ap merged_layers popped) in
     subst (λ g. Performs r (with_scope scope m) (record { sink = s; environment = merged_layers l }) (record { sink = t; environment = g })) back

@@ -27,8 +27,8 @@ use Rattle.liquid_filters.proofs.Ended.{kind_in}
 
 -- ---- what filters of a host answer
 
-known : {A : Type 0} (told : ErrorKind) → T (nat_le (number_of told) 17) → EndsWithHost {A = A} (Err told)
-known told within kind is = subst (λ k. T (nat_le (number_of k) 17)) (ap kind_in is) within
+known : {A : Type 0} (reported : ErrorKind) → T (nat_le (number_of reported) 17) → EndsWithHost {A = A} (Err reported)
+known reported within kind is = subst (λ k. T (nat_le (number_of k) 17)) (ap kind_in is) within
 
 replaced : (kind : ErrorKind) → T (nat_le (number_of (as_of_run kind)) 17)
 replaced kind = on (nat_le (number_of kind) 17) refl
@@ -39,7 +39,7 @@ replaced kind = on (nat_le (number_of kind) 17) refl
 
 of_host_ends : (x : Result Datum ErrorKind) → EndsWithHost (of_host x)
 of_host_ends (Ok d) kind is = cc
-of_host_ends (Err told) kind is = known (as_of_run told) (replaced told) kind is
+of_host_ends (Err reported) kind is = known (as_of_run reported) (replaced reported) kind is
 
 host_ends : {X : Type 0} (counts : X → ℕ → Bool) (answer : X → FilterAnswer) (o : Option X) (d : Datum) (ds : List Datum) → EndsWithHost (host_answer counts answer o d ds)
 host_ends counts answer None d ds kind is = known Unsupported tt kind is
@@ -73,9 +73,9 @@ performed_kinds (Ok value) m before after ends performs = tt
 performed_kinds (Err e) m before after ends (inl exact) = below_18 (number_of e.kind) (ends e.kind (sym exact.end))
 performed_kinds (Err e) m before after ends (inr cut) = cut_kinds e.kind cut.cause
 
-told_kinds : (t : Text) (kind : ErrorKind) (end : Result Nothing ErrorKind) → EndsWithHost end → ended_with t end ≡ Err kind → T (is_rendering_kind kind)
-told_kinds t kind (Ok a) ends is = absurd cc
-told_kinds t kind (Err told) ends is = below_18 (number_of kind) (known told (ends told refl) kind is)
+ended_kinds : (t : Text) (kind : ErrorKind) (end : Result Nothing ErrorKind) → EndsWithHost end → ended_with t end ≡ Err kind → T (is_rendering_kind kind)
+ended_kinds t kind (Ok a) ends is = absurd cc
+ended_kinds t kind (Err reported) ends is = below_18 (number_of kind) (known reported (ends reported refl) kind is)
 
 pub answered_kinds : {V : Type 0} (view : V → Text) (r : Result V Error) (t : Text) (end : Result Nothing ErrorKind) → EndsWithHost end → Answers view r (ended_with t end) → IfErr r (λ e. T (is_rendering_kind e.kind))
 answered_kinds view (Ok value) t end ends answers = tt
@@ -83,4 +83,4 @@ answered_kinds view (Err e) t end ends answers = on (is_memory e.kind) refl answ
   where
     on : (memory : Bool) → is_memory e.kind ≡ memory → MatchBool memory ⊤ ((ended_with t end ≡ Err e.kind) × (is_refusal e.kind ≡ false)) → T (is_rendering_kind e.kind)
     on true is h = subst (λ k. T (is_rendering_kind k)) (sym (memory_of e.kind is)) tt
-    on false is h = told_kinds t e.kind end ends h.0
+    on false is h = ended_kinds t e.kind end ends h.0

@@ -5,7 +5,7 @@ use Rattle.std.proofs.KnownBytes.{Appends-trans, Appends-nil}
 use Rattle.liquid_lib.specs.Sinks.{Sink, growing_contents, held_in, Adds, AddsPart}
 
 pub Adds-nil : (s : Sink) → Adds s s []
-Adds-nil s = record { added = Appends-nil (growing_contents s); same_place = refl; behind = λ _. refl }
+Adds-nil s = record { added = Appends-nil (growing_contents s); same_place = refl; unwritten = λ _. refl }
 
 IsSome-same : {A : Type 0} (a b : Option A) → is_some b ≡ is_some a → IsSome a → IsSome b
 IsSome-same a b e h = cc
@@ -14,7 +14,7 @@ pub Adds-trans : (s t u : Sink) (xs ys : List ℕ) → Adds s t xs → Adds t u 
 Adds-trans s t u xs ys p q = record {
   added = Appends-trans (growing_contents s) (growing_contents t) (growing_contents u) xs ys p.added q.added;
   same_place = q.same_place ∙ p.same_place;
-  behind = λ inside. q.behind (IsSome-same s.buffer t.buffer p.same_place inside) ∙ p.behind inside;
+  unwritten = λ inside. q.unwritten (IsSome-same s.buffer t.buffer p.same_place inside) ∙ p.unwritten inside;
 }
 
 pub AddsPart-after : (s t u : Sink) (xs ys : List ℕ) → Adds s t xs → AddsPart t u ys → AddsPart s u (xs ++ ys)
@@ -42,7 +42,7 @@ pub Adds-same : (s u : Sink) → u.buffer ≡ s.buffer → u.contents ≡ s.cont
 Adds-same s u b k = record {
   added = subst (λ v. Appends (growing_contents s) v []) (ap (λ x. held_in x s.contents) (sym b) ∙ ap (held_in u.buffer) (sym k)) (Appends-nil (growing_contents s));
   same_place = ap is_some b;
-  behind = λ inside. k;
+  unwritten = λ inside. k;
 }
 
 -- s before a buffer is opened, p with the empty buffer, q after the body, u with the buffer closed
@@ -60,7 +60,7 @@ IsSome-of o x e = ap is_some e
 
 pub around-adds : (s p q u : Sink) (text front : List ℕ) → Around s p q u text → Adds p q front → Adds s u []
 around-adds s p q u text front around a =
-    let inside = a.behind (IsSome-of p.buffer [] around.opened) in
+    let inside = a.unwritten (IsSome-of p.buffer [] around.opened) in
     Adds-same s u around.back (around.contents_out ∙ inside ∙ around.contents_in)
 
 pub around-text : (s p q u : Sink) (text front : List ℕ) → Around s p q u text → Adds p q front → text ≡ front

@@ -7,7 +7,7 @@ use Rattle.liquid_core.specs.Environment.{Environment, Names, local_of}
 use Rattle.liquid_core.specs.Held.{held}
 use Rattle.liquid_core.specs.Loops.{loop_scope}
 use Rattle.liquid_core.specs.Places.{place_of}
-use Rattle.liquid_core.specs.States.{Layers, layers_of, loops_of, merged_layers, scopes_behind, with_interrupt, with_scope_popped, with_scope_pushed, with_frame_at}
+use Rattle.liquid_core.specs.States.{Layers, layers_of, loops_of, merged_layers, enclosing_scopes, with_interrupt, with_scope_popped, with_scope_pushed, with_frame_at}
 use Rattle.liquid_core.specs.LoopFrames.{EndsIn, GoesOn, IsNext, WentOn, item_of, loop_name, loop_object, standing, frame_item_at, frame_map_at, without_innermost}
 use Rattle.liquid_core.specs.declared.interrupt.Interrupt.{Interrupt}
 use Rattle.liquid_core.specs.declared.state.State.{State}
@@ -21,13 +21,13 @@ use Rattle.liquid_evaluation.specs.Names.{node_names, nodes_names, optional_name
 use Rattle.liquid_evaluation.specs.Tree.{Nodes, Source, Window, for_each, tablerow}
 use Rattle.liquid_meaning.specs.Within.{Within}
 use Rattle.liquid_meaning.proofs.Within.{left, right}
-use Rattle.liquid_lib.specs.Kept.{LayersKept}
+use Rattle.liquid_lib.specs.StateKept.{LayersKept}
 use Rattle.liquid_lib.specs.inside.LoopRuns.{StartsAt, cells_meant, one_cell, one_turn, turns_meant}
 use Rattle.liquid_lib.specs.inside.LoopTurns.{each_from}
 use Rattle.liquid_lib.specs.Performs.{Configuration, Meets, Performs, WritesText, unit}
 use Rattle.liquid_lib.specs.Sinks.{Sink}
 use Rattle.liquid_lib.proofs.Joined.{by_rule, bind_met, bind_faulted, change_met, done_met, read_met, write_met}
-use Rattle.liquid_lib.proofs.Kept.{kept_after, kept_interrupt}
+use Rattle.liquid_lib.proofs.StateKept.{kept_after, kept_interrupt}
 use Rattle.liquid_lib.proofs.LoopItems.{each_more, each_none}
 use Rattle.liquid_lib.proofs.PartialRuns.{partial_met}
 use Rattle.liquid_lib.proofs.Sinks.{Adds-nil}
@@ -153,7 +153,7 @@ module _ (t : LoopFrame) (k : ℕ) (local : Map Datum) (body : Run Nothing) (s u
       → Meets (λ (i : Option Interrupt). i) (Err e) (one_turn t local body k (frame_item_at t k)) (before s) after
   turn_faulted e h = bind_faulted unit (λ (i : Option Interrupt). i) e (with_scope (frame_map_at t k local) body) (λ a. take_interrupt) (before s) after (ran_in (Err e) h)
 
-  -- what a cell does behind its beginning
+  -- what a cell does after its beginning
   abbrev inside : ℕ → Nothing → Run Nothing
   inside columns a = with_scope (frame_map_at t k local) body >>= (λ b. write (cell_end k t.count columns))
 
@@ -218,27 +218,27 @@ module _ (before : List Scope) (t : LoopFrame) where
   innermost_layers u s e =
       let outer = reverse (map held s.scopes.items) in
       let was : standing s.frames.items outer ≡ frame_map_at u u.at (local_of (standing before outer)) ∷ standing before outer = ap (λ l. standing l outer) e ∙ standing_last before (variants.LoopFrame u) outer in
-      let again : standing s.frames.items outer ≡ frame_map_at u u.at (local_of (scopes_behind (standing s.frames.items outer))) ∷ scopes_behind (standing s.frames.items outer) =
-      was ∙ sym (ap (λ l. frame_map_at u u.at (local_of (scopes_behind l)) ∷ scopes_behind l) was) in
+      let again : standing s.frames.items outer ≡ frame_map_at u u.at (local_of (enclosing_scopes (standing s.frames.items outer))) ∷ enclosing_scopes (standing s.frames.items outer) =
+      was ∙ sym (ap (λ l. frame_map_at u u.at (local_of (enclosing_scopes l)) ∷ enclosing_scopes l) was) in
       λ i. record (layers_of s) { scopes = again i }
 
-  -- it stands over the scopes that are behind it
-  pub at_pushed : (k : ℕ) (s : State) (scopes : List (Map Datum)) → AtTurn before t k s → scopes_behind (layers_of s).scopes ≡ scopes
+  -- it stands over the scopes that are after it
+  pub at_pushed : (k : ℕ) (s : State) (scopes : List (Map Datum)) → AtTurn before t k s → enclosing_scopes (layers_of s).scopes ≡ scopes
       → layers_of s ≡ with_scope_pushed (frame_map_at t k (local_of scopes)) (with_scope_popped (layers_of s))
   at_pushed k s scopes a over =
       innermost_layers a.now s a.innermost
       ∙ (λ i. with_frame_at a.now (a.at i) (layers_of s))
-      ∙ (λ i. with_scope_pushed (a.binds k (local_of (scopes_behind (layers_of s).scopes)) i) (with_scope_popped (layers_of s)))
+      ∙ (λ i. with_scope_pushed (a.binds k (local_of (enclosing_scopes (layers_of s).scopes)) i) (with_scope_popped (layers_of s)))
       ∙ (λ i. with_scope_pushed (frame_map_at t k (local_of (over i))) (with_scope_popped (layers_of s)))
 
 -- the next turn stands over the same scopes
-pub advanced_behind : (t : LoopFrame) (k : ℕ) (l n : Layers) → n ≡ with_frame_at t k l → with_scope_popped n ≡ with_scope_popped l
-advanced_behind t k l n is = ap with_scope_popped is
+pub enclosing_after_advance : (t : LoopFrame) (k : ℕ) (l n : Layers) → n ≡ with_frame_at t k l → with_scope_popped n ≡ with_scope_popped l
+enclosing_after_advance t k l n is = ap with_scope_popped is
 
 -- ---- what is kept
 
 pub kept_inside : (N : Names) (p q : Layers) → LayersKept N p q → LayersKept N (with_scope_popped p) (with_scope_popped q)
-kept_inside N p q k = record { scopes = ap scopes_behind k.scopes; globals = k.globals; assigned = k.assigned; counters = k.counters }
+kept_inside N p q k = record { scopes = ap enclosing_scopes k.scopes; globals = k.globals; assigned = k.assigned; counters = k.counters }
 
 -- a further turn: l at the start, p before it, q after its body, w after the interrupt was cleared
 pub kept_turn : (N : Names) (l p q w : Layers) → LayersKept N (with_scope_popped l) (with_scope_popped p) → LayersKept N p q → w ≡ with_interrupt None q → LayersKept N (with_scope_popped l) (with_scope_popped w)
@@ -252,14 +252,14 @@ kept_cell N l p q before body = kept_after N _ _ _ before (kept_inside N p q bod
 
 -- l before it is pushed, p after that, q after its turns, z after it is popped
 module _ (scope : Map Datum) (l p q z : Layers) (pushed : p ≡ with_scope_pushed scope l) (popped : z ≡ with_scope_popped q) where
-  pub from_behind : (r : Result (Unit {0}) Error) (m : Map Datum → Run Nothing) (s u : Sink) → Performs r (m (local_of (scopes_behind p.scopes))) (record { sink = s; environment = merged_layers (with_scope_popped p) }) (record { sink = u; environment = merged_layers (with_scope_popped q) })
+  pub from_enclosing : (r : Result (Unit {0}) Error) (m : Map Datum → Run Nothing) (s u : Sink) → Performs r (m (local_of (enclosing_scopes p.scopes))) (record { sink = s; environment = merged_layers (with_scope_popped p) }) (record { sink = u; environment = merged_layers (with_scope_popped q) })
       → Performs r (m (local_of l.scopes)) (record { sink = s; environment = merged_layers l }) (record { sink = u; environment = merged_layers z })
-  from_behind r m s u h =
+  from_enclosing r m s u h =
       subst (λ n. Performs r (m (local_of l.scopes)) (record { sink = s; environment = merged_layers l }) (record { sink = u; environment = merged_layers n })) (sym popped)
-      (subst (λ n. Performs r (m (local_of (scopes_behind n.scopes))) (record { sink = s; environment = merged_layers (with_scope_popped n) }) (record { sink = u; environment = merged_layers (with_scope_popped q) })) pushed h)
+      (subst (λ n. Performs r (m (local_of (enclosing_scopes n.scopes))) (record { sink = s; environment = merged_layers (with_scope_popped n) }) (record { sink = u; environment = merged_layers (with_scope_popped q) })) pushed h)
 
-  pub kept_from_behind : (N : Names) → LayersKept N (with_scope_popped p) (with_scope_popped q) → LayersKept N l z
-  kept_from_behind N k = subst (LayersKept N l) (sym popped) (subst (λ n. LayersKept N (with_scope_popped n) (with_scope_popped q)) pushed k)
+  pub kept_from_enclosing : (N : Names) → LayersKept N (with_scope_popped p) (with_scope_popped q) → LayersKept N l z
+  kept_from_enclosing N k = subst (LayersKept N l) (sym popped) (subst (λ n. LayersKept N (with_scope_popped n) (with_scope_popped q)) pushed k)
 
 -- ---- the names of the bodies
 

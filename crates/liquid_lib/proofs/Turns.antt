@@ -14,7 +14,7 @@ use Rattle.liquid_lib.proofs.Sinks.{AddsPart-longer, Adds-same, part-of_none}
 use Rattle.liquid_meaning.specs.Runs.{Nothing, Run}
 
 pub refused_cut : {V : Type 0} (e : Error) (s u : Sink) → IsKindOrMemory Write e.kind → OneFailed s.failures u.failures → u.buffer ≡ s.buffer → u.contents ≡ s.contents → Cut {V = V} (Err e) [] s u
-refused_cut {V} e s u told failed buffer contents = record { cause = on (is_memory e.kind) refl told; adds = part-of_none s u [] (Adds-same s u buffer contents) }
+refused_cut {V} e s u kind failed buffer contents = record { cause = on (is_memory e.kind) refl kind; adds = part-of_none s u [] (Adds-same s u buffer contents) }
   where
     on : (b : Bool) → is_memory e.kind ≡ b → MatchBool b ⊤ (Write ≡ e.kind) → IsCut {V = V} (Err e) s.failures u.failures
     on true is k = inl (memory_of e.kind is, inr failed)

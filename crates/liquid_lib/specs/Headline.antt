@@ -7,8 +7,8 @@ use Rattle.liquid_syntax.specs.Parsing.{IsOnlyTree, HasNoTree, IsOfSource}
 use Rattle.liquid_language.specs.declared.language.Language.{Language}
 use Rattle.liquid_evaluation.specs.Tree.{Nodes}
 
--- The source has one tree, whose run is as told; or it has none, which a kind of a source tells,
--- and all is as it was; or memory ran out before the run, and all is as it was.
+-- The source has one tree, of which `runs` holds; or it has none, which the kind says, and all is
+-- as it was; or memory ran out before the run, and all is as it was.
 pub data RendersSource (l : Language) (source : Text) (r : Result (Unit {0}) Error) (runs : Nodes →
     Type 0) (as_it_was : Type 0) : Type 0 where
   ran : (nodes : Nodes) → IsOnlyTree l nodes source → runs nodes →

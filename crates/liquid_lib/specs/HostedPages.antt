@@ -11,7 +11,7 @@ use Rattle.liquid_evaluation.specs.Evaluation.{answers_with}
 use Rattle.liquid_evaluation.specs.Tree.{Nodes}
 use Rattle.liquid_meaning.specs.Meaning.{Setting, meaning}
 use Rattle.liquid_lib.specs.Pages.{Shown, fresh, shown}
-use Rattle.liquid_lib.specs.declared.page.Page.{Page}
+use Rattle.liquid_lib.specs.declared.rendered_page.Page.{Page}
 
 -- the partials by name, and what the filters of a host answer by name
 abbrev pub setting_with : (Text → FilterAnswer) → List (Text × Nodes) → Setting

@@ -4,7 +4,7 @@ pub mod Failures
 pub mod Forloop
 pub mod Headline
 pub mod HostedPages
-pub mod Kept
+pub mod StateKept
 pub mod LimitedPages
 pub mod LimitedParts
 pub mod Limits

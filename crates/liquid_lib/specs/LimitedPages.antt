@@ -3,7 +3,7 @@ use Rattle.std.specs.Prelude.{◌≡◌, ◌++◌, ◌⊎◌, Some, None, IsSome
 use Rattle.liquid_model.specs.Texts.{Text}
 use Rattle.liquid_model.specs.declared.error.ErrorKind.TheVariants.{Write}
 use Rattle.liquid_lib.specs.Pages.{Shown, page_view}
-use Rattle.liquid_lib.specs.declared.page.LimitedPage.{LimitedPage}
+use Rattle.liquid_lib.specs.declared.rendered_page.LimitedPage.{LimitedPage}
 
 -- a beginning of a text
 abbrev pub IsPrefixOf : Text → Text → Type 0

@@ -34,4 +34,4 @@ module _ {W : Type 0} where
     pub inner : limited_inner new ≡ limited_inner old
     pub left : limited_left new ≡ limited_left old
     pub counted : refusals new ≡ raised (refusals old)
-    pub told : reached new ≡ Some limit
+    pub limit_reached : reached new ≡ Some limit

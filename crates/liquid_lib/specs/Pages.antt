@@ -17,7 +17,7 @@ use Rattle.liquid_evaluation.specs.Tree.{Nodes}
 use Rattle.liquid_meaning.specs.Runs.{Nothing, Outcome}
 use Rattle.liquid_meaning.specs.Meaning.{Setting, meaning}
 use Rattle.liquid_lib.specs.Performs.{answer_of, unit}
-use Rattle.liquid_lib.specs.declared.page.Page.{Page}
+use Rattle.liquid_lib.specs.declared.rendered_page.Page.{Page}
 
 -- a page: its text, and the kind of the fault that it ends by, where there is one
 pub record Shown : Type 0 where

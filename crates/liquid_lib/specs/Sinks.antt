@@ -32,7 +32,7 @@ pub record Adds (old new : Sink) (text : List ℕ) : Type 0 where
   pub added : Appends (growing_contents old) (growing_contents new) text
   pub same_place : is_some new.buffer ≡ is_some old.buffer
   -- while a buffer is open nothing reaches the caller's writer
-  pub behind : IsSome old.buffer → new.contents ≡ old.contents
+  pub unwritten : IsSome old.buffer → new.contents ≡ old.contents
 
 -- a beginning of text was added
 pub record AddsPart (old new : Sink) (text : List ℕ) : Type 0 where

@@ -7,4 +7,4 @@ pub mod LoopRuns
 pub mod LoopTurns
 pub mod Partials
 pub mod Puts
-pub mod Retold
+pub mod SameKindOrMemory

@@ -16,7 +16,7 @@ ghost use Rattle.liquid_lib.specs.inside.Choices.{CaseStands, HasCaseAt, CaseLef
 use crate::context::Places;
 use crate::fault_location::located_elsif;
 use liquid_core::{Expression, Result, State, Value};
-use liquid_syntax::{Arm, Condition, Node, TwoBodies};
+use liquid_syntax::{Arm, BodyEnds, Condition, Node};
 use std::alloc::Global;
 
 /// The range that the `if` at `at` runs: its body, where the condition holds, else what its
@@ -27,7 +27,7 @@ pub(crate) fn chosen_range(
     nodes: &[Node],
     at: usize,
     condition: &Condition,
-    bodies: TwoBodies,
+    bodies: BodyEnds,
     places: &Places<'_>,
     state: &State<'_>,
 ) -> Result<(usize, usize)>
@@ -61,7 +61,7 @@ pub(crate) fn unless_range(
     nodes: &[Node],
     at: usize,
     condition: &Condition,
-    bodies: TwoBodies,
+    bodies: BodyEnds,
     state: &State<'_>,
 ) -> Result<(usize, usize)>
     requires body { IsNodeRange nodes.now (at + 1) bodies.first_end }

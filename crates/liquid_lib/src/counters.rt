@@ -9,7 +9,7 @@ ghost use Rattle.liquid_evaluation.specs.Names.{node_names};
 ghost use Rattle.liquid_evaluation.specs.Tree as tree;
 ghost use Rattle.liquid_lib.specs.inside.Counters.{in_i64, shown_and_stored};
 ghost use Rattle.liquid_lib.specs.inside.Engine.{setting_of, node_in};
-ghost use Rattle.liquid_lib.specs.Kept.{Keeps, LayersKept};
+ghost use Rattle.liquid_lib.specs.StateKept.{Keeps, LayersKept};
 ghost use Rattle.liquid_lib.specs.Performs.{Performs, configuration_of};
 ghost use Rattle.liquid_meaning.specs.Effects.{counter_number};
 

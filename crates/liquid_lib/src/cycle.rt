@@ -7,7 +7,7 @@ ghost use Rattle.liquid_core.specs.States.{environment_of, layers_of, loops_of, 
 ghost use Rattle.liquid_evaluation.specs.Names.{node_names};
 ghost use Rattle.liquid_evaluation.specs.Tree as tree;
 ghost use Rattle.liquid_lib.specs.inside.Engine.{setting_of, node_in};
-ghost use Rattle.liquid_lib.specs.Kept.{Keeps};
+ghost use Rattle.liquid_lib.specs.StateKept.{Keeps};
 ghost use Rattle.liquid_lib.specs.Performs.{Performs, configuration_of};
 ghost use Rattle.liquid_meaning.specs.Effects.{cycle_index};
 

@@ -267,7 +267,7 @@ fn with_words(alloc: Global, fault: Error, words: &str) -> Error
         return fault;
     };
     match format!(in alloc; "{front}; {words}") {
-        Ok(message) => fault.retold(message),
+        Ok(message) => fault.reworded(message),
         Err(refused) => Error::from(refused),
     }
 }

@@ -1,6 +1,6 @@
 //! Where the faults of a run stand. What is done for that is done only where a run ends by a fault.
 ghost use Rattle.liquid_model.specs.ErrorKinds.{IsKindOrMemory};
-ghost use Rattle.liquid_lib.specs.inside.Retold.{Retold};
+ghost use Rattle.liquid_lib.specs.inside.SameKindOrMemory.{SameKindOrMemory};
 
 use crate::context::{Places, RunContext};
 use crate::fault_item::{item_of_condition, item_of_node, with_missing_entry};
@@ -22,7 +22,7 @@ pub(crate) fn located<H: NamedFilters>(
 ) -> Error
     ensures { IsKindOrMemory fault.kind result.kind }
 {
-    if is_settled(&fault) {
+    if is_complete(&fault) {
         return fault;
     }
     let Some(node) = nodes.get(at) else {
@@ -30,8 +30,8 @@ pub(crate) fn located<H: NamedFilters>(
     };
     match item_of_node(alloc, node, state, context.host, fault.kind) {
         Ok(item) => {
-            let told = with_missing_entry(alloc, node, item, state, fault);
-            at_item(alloc, context.places, at, item, told)
+            let fault_with_entry = with_missing_entry(alloc, node, item, state, fault);
+            at_item(alloc, context.places, at, item, fault_with_entry)
         }
         Err(_) => Error::from(AllocError),
     }
@@ -49,7 +49,7 @@ pub(crate) fn located_elsif(
 ) -> Error
     ensures { IsKindOrMemory fault.kind result.kind }
 {
-    if is_settled(&fault) {
+    if is_complete(&fault) {
         return fault;
     }
     match item_of_condition(alloc, condition, state) {
@@ -59,7 +59,7 @@ pub(crate) fn located_elsif(
 }
 
 /// Whether nothing is to be added to a fault.
-fn is_settled(fault: &Error) -> bool {
+fn is_complete(fault: &Error) -> bool {
     fault.location.is_some() || matches!(fault.kind, ErrorKind::Memory | ErrorKind::Write)
 }
 
@@ -67,7 +67,7 @@ fn is_settled(fault: &Error) -> bool {
 fn at_item(alloc: Global, places: Places<'_>, at: usize, item: PieceItem, fault: Error) -> Error
     ensures { IsKindOrMemory fault.kind result.kind }
 {
-    if is_settled(&fault) {
+    if is_complete(&fault) {
         return fault;
     }
     match location_of(alloc, places, at, item) {
@@ -103,7 +103,7 @@ fn location_of(
 /// says its name.
 #[inline(never)]
 pub(crate) fn in_partial<T: Drop>(alloc: Global, name: &str, answer: Result<T>) -> Result<T>
-    ensures { Retold answer result }
+    ensures { SameKindOrMemory answer result }
 {
     match answer {
         Ok(value) => Ok(value),

@@ -8,12 +8,12 @@ ghost use Rattle.liquid_lib.specs.LimitedPages.{PageWithin};
 ghost use Rattle.liquid_lib.specs.Performs.{Performs};
 ghost use Rattle.liquid_lib.specs.inside.Engine.{beside, nodes_in};
 
+use crate::borrowed_data::run_with_borrowed_data;
 use crate::context::{Places, RunContext};
 use crate::counted::{CountedWrite, NoWriter};
-use crate::lent::run_lent;
 use crate::limits::{Limited, Limits};
 use crate::output::Output;
-use crate::page::{LimitedPage, page_of_end, state_over};
+use crate::rendered_page::{LimitedPage, page_of_end, state_over};
 use liquid_core::{ErrorKind, NamedFilters, Object, Result, State};
 use liquid_syntax::{Partials, Template};
 use std::alloc::Global;
@@ -30,7 +30,7 @@ pub struct Surroundings<'p> {
 }
 
 /// The page of a template in a new run over this data, with filters of a host and within limits.
-/// The data is lent, so that nothing of it is copied.
+/// The data is borrowed, so that nothing of it is copied.
 ///
 /// Where no limit is reached it is the whole page. Else it has a beginning of its text, and tells
 /// which limit ended it. The answer is `Memory` where a growth was refused and where a filter of
@@ -81,7 +81,7 @@ fn text_with<W: CountedWrite, H: NamedFilters>(
         writer,
         buffer: Some(String::new(alloc)),
     };
-    let answer = run_lent(alloc, template, context, &mut out, state);
+    let answer = run_with_borrowed_data(alloc, template, context, &mut out, state);
     let text = out.close(None);
     let Output {
         writer: left,

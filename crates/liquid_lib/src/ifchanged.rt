@@ -3,7 +3,7 @@ ghost use Rattle.std.specs.Prelude.{◌≡◌, string_bytes};
 ghost use Rattle.liquid_core.specs.Environment.{Names};
 ghost use Rattle.liquid_core.specs.States.{environment_of, layers_of, loops_of};
 ghost use Rattle.liquid_lib.specs.inside.Changed.{shown_if_changed, written_unless_last};
-ghost use Rattle.liquid_lib.specs.Kept.{LayersKept};
+ghost use Rattle.liquid_lib.specs.StateKept.{LayersKept};
 ghost use Rattle.liquid_lib.specs.Performs.{Performs, configuration_of};
 ghost use Rattle.liquid_meaning.specs.Effects.{is_last_text};
 

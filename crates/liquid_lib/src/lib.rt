@@ -5,6 +5,7 @@
 //! [extra].
 #![tactic(auto)]
 
+mod borrowed_data;
 mod choice;
 mod context;
 mod counted;
@@ -17,22 +18,21 @@ mod fault_location;
 mod fault_tag;
 mod hosted_page;
 mod ifchanged;
+mod isolated_scope;
 pub mod jekyll;
-mod leaves;
-mod lent;
 mod limits;
-mod loop_turns;
-mod near_partial;
-mod nodes;
+mod loop_setup;
+mod node_ends;
 mod output;
-mod own_state;
-mod page;
+mod output_and_assign;
 mod partial;
 mod push_value;
 mod render;
+mod rendered_page;
 mod runtime;
 mod runtime_calls;
 pub mod shopify;
+mod similar_partial;
 mod source;
 mod standard;
 pub mod stdlib;
@@ -49,10 +49,10 @@ pub use liquid_filters::FilterKind;
 pub use liquid_meaning::{
     isolation_laws, loop_laws, reading_laws, run_laws, worked_names, worked_runs, worked_uses,
 };
-pub use liquid_syntax::{Language, Partials, Template, parse, parse_kept};
+pub use liquid_syntax::{Language, Partials, Template, parse, parse_with_source};
 pub use liquid_tags::{BlockReflection, TagReflection};
-pub use page::{LimitedPage, Page, render_page, render_page_within};
 pub use render::Renderable;
+pub use rendered_page::{LimitedPage, Page, render_page, render_page_within};
 pub use runtime::{DEFAULT_DEPTH, Runtime, RuntimeBuilder};
 pub use source::render_source;
 pub use standard::{STANDARD_FILTERS, language};

@@ -115,7 +115,7 @@ impl<W: CountedWrite> CountedWrite for Limited<W> {
         // what is longer than the bytes left is refused, and all else is up to the writer
         ensures refused { is_within_limit (length bytes.now) (limited_left self.old).bytes ≡ false →
             IsErr result }
-        ensures told { is_within_limit (length bytes.now) (limited_left self.old).bytes ≡ false →
+        ensures reached { is_within_limit (length bytes.now) (limited_left self.old).bytes ≡ false →
             Refuses Bytes self.old self.new }
         ensures passed { is_within_limit (length bytes.now) (limited_left self.old).bytes ≡ true →
             refusals self.new ≡ refusals self.old }
@@ -147,7 +147,7 @@ impl<W: CountedWrite> CountedWrite for Limited<W> {
         ensures kept { result ≡ false → limited_left self.new ≡ limited_left self.old }
         // where no turn is left it is refused, and else it is the writer's to grant
         ensures spent { is_within_limit 1 (limited_left self.old).turns ≡ false → result ≡ false }
-        ensures told { is_within_limit 1 (limited_left self.old).turns ≡ false →
+        ensures reached { is_within_limit 1 (limited_left self.old).turns ≡ false →
             Refuses Turns self.old self.new }
         ensures passed { is_within_limit 1 (limited_left self.old).turns ≡ true →
             refusals self.new ≡ refusals self.old }
@@ -175,7 +175,7 @@ impl<W: CountedWrite> CountedWrite for Limited<W> {
         // as of a write
         ensures full { is_within_limit bytes (limited_left self.old).bytes ≡ false → result ≡
             false }
-        ensures told { is_within_limit bytes (limited_left self.old).bytes ≡ false →
+        ensures reached { is_within_limit bytes (limited_left self.old).bytes ≡ false →
             Refuses Bytes self.old self.new }
         ensures passed { is_within_limit bytes (limited_left self.old).bytes ≡ true →
             refusals self.new ≡ refusals self.old }

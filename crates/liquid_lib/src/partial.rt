@@ -15,7 +15,7 @@ ghost use Rattle.liquid_lib.specs.inside.Partials.{jekyll_entry, partial_of, ren
 ghost use Rattle.liquid_meaning.specs.Meaning.{partial_name_text};
 
 use crate::context::RunContext;
-use crate::near_partial::unknown;
+use crate::similar_partial::unknown;
 use liquid_core::{Error, ErrorKind, Expression, Object, Result, State, Value, store};
 use liquid_syntax::{Binding, Partials, Template};
 use std::alloc::Global;

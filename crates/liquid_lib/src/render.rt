@@ -10,7 +10,7 @@ ghost use Rattle.liquid_lib.specs.Added.{AppendsPart};
 ghost use Rattle.liquid_lib.specs.inside.Engine.{in_buffer, beside};
 ghost use Rattle.liquid_lib.specs.Failures.{OneFailed, AtMostOneFailed};
 ghost use Rattle.liquid_meaning.specs.Isolation.{changes};
-ghost use Rattle.liquid_lib.specs.Kept.{LayersKept, AreRenderNodes};
+ghost use Rattle.liquid_lib.specs.StateKept.{LayersKept, AreRenderNodes};
 ghost use Rattle.liquid_lib.specs.Performs.{Performs, answer_of, is_refused, unit};
 ghost use Rattle.liquid_lib.specs.Rendered.{PerformsForCut, run_in, outcome_in, names_in};
 ghost use Rattle.liquid_lib.specs.Rendered.{at_writer, is_rendering_kind};
@@ -18,8 +18,8 @@ ghost use Rattle.liquid_meaning.specs.Runs.{ended_with};
 ghost use Rattle.liquid_lib.specs.RuntimeView.{SettingKept, layers_in, environment_in};
 ghost use Rattle.liquid_lib.specs.Silent.{AreSilent, IsDoneOrStopped};
 
+use crate::borrowed_data::run_template;
 use crate::counted::{CountedWrite, NoWriter};
-use crate::lent::run_template;
 use crate::output::Output;
 use crate::runtime::Runtime;
 use liquid_core::{ErrorKind, Result};

@@ -5,7 +5,7 @@ ghost use Rattle.liquid_core.specs.States.{loops_of};
 use liquid_core::{HostFilters, Object, State};
 use liquid_syntax::Partials;
 
-/// How many partials may be nested in a runtime whose builder isn't told.
+/// How many partials may be nested in a runtime whose builder sets no depth.
 pub const DEFAULT_DEPTH: u32 = 32;
 
 /// Makes a runtime.

@@ -2,7 +2,7 @@
 ghost use Rattle.std.specs.Prelude.{◌≡◌, ◌<◌, ◌⊎◌, IfErr, IsErrAnd};
 ghost use Rattle.liquid_lib.specs.Failures.{OneFailed, AtMostOneFailed};
 ghost use Rattle.liquid_lib.specs.Headline.{RendersSource};
-ghost use Rattle.liquid_lib.specs.Kept.{LayersKept};
+ghost use Rattle.liquid_lib.specs.StateKept.{LayersKept};
 ghost use Rattle.liquid_lib.specs.Rendered.{PerformsForCut, run_in, names_in, at_writer};
 ghost use Rattle.liquid_lib.specs.RuntimeView.{SettingKept, layers_in, environment_in};
 

@@ -1,4 +1,4 @@
--- A list turned round, told by places.
+-- A list turned round, place by place.
 use Rattle.std.proofs.Common.{◌≡◌, ℕ, suc, ◌-◌, ◌<◌, List, [], ◌∷◌, length, slice_get, reverse, Some, ap, refl, sym, ◌∙◌, arith}
 use Rattle.std.proofs.lemmas.List.{get_or-reverse, length-reverse}
 use Rattle.std.proofs.lemmas.Option.{slice_get-get_or}

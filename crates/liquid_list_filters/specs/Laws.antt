@@ -1,4 +1,4 @@
--- What each list filter's answer is, told without the filter: the relation that holds of it and of
+-- What each list filter's answer is, said without the filter: the relation that holds of it and of
 -- nothing else.
 use Rattle.std.specs.Prelude.{◌≡◌, ◌≢◌, ℕ, IsTrue, MatchBool, List, [], ◌∷◌, map, codes, Option}
 use Rattle.std.specs.Prelude.{Some, None, Ok, Err}

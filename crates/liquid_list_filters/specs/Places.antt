@@ -1,4 +1,4 @@
--- Lists made from lists, told place by place.
+-- Lists made from lists, place by place.
 use Rattle.std.specs.Prelude.{◌≡◌, ℕ, ◌-◌, ◌<◌, ◌⊎◌, List, [], ◌∷◌, ◌++◌, length, take, drop}
 use Rattle.std.specs.Prelude.{slice_get, Option, Some, None}
 use Rattle.liquid_model.specs.Data.{Datum}

@@ -14,7 +14,7 @@ use Rattle.liquid_meaning.specs.Runs.{Nothing, Run, done, fault, read_environmen
 use Rattle.liquid_meaning.specs.Effects.{assigned_to, is_break, if_none, unless_interrupted}
 use Rattle.liquid_meaning.specs.Loops.{until_break, for_all, needs_columns, loop, rows, columns_of}
 use Rattle.liquid_meaning.specs.Meaning.{Setting, node_meaning, nodes_meaning, deeper_meaning, meaning}
-use Rattle.liquid_meaning.specs.Assigning.{RanAmong, RanIn, RanAtItem, RanInCell, at_first, behind, the_assign, in_if, in_unless, in_capture, in_ifchanged, in_for, in_tablerow, at_item, at_later, in_cell, in_later, loop_turn, cell, for_scope, row_scope, AssignedAnywhere}
+use Rattle.liquid_meaning.specs.Assigning.{RanAmong, RanIn, RanAtItem, RanInCell, at_first, after, the_assign, in_if, in_unless, in_capture, in_ifchanged, in_for, in_tablerow, at_item, at_later, in_cell, in_later, loop_turn, cell, for_scope, row_scope, AssignedAnywhere}
 use Rattle.liquid_meaning.proofs.Stays.{Stays, stays_bind, stays_done, stays_cond, stays_with_scope, stays_until_break, stays_take_interrupt, stays_unless, stays_read, stays_change, stays_write, stays_assign, stays_for_all, nodes_stay, deeper_stays}
 
 -- under the name something stands after m
@@ -98,7 +98,7 @@ module _ (name : Text) (setting : Setting) (deeper : Nodes → Run Nothing) (kep
 
     among : {nodes : Nodes} {e : Environment} → RanAmong setting deeper name nodes e → IsSome ((nodes_meaning setting deeper nodes e).environment.assigned name)
     among (at_first {n = n} {more = more} {e = e} r) = held_then name (node_meaning setting deeper n) _ e (λ a. stays_unless (nodes_stay setting deeper kept more)) (inside r)
-    among (behind {n = n} {more = more} {e = e} ended free r) =
+    among (after {n = n} {more = more} {e = e} ended free r) =
         held_after name (node_meaning setting deeper n) _ e tt ended (held_unless name (nodes_meaning setting deeper more) (node_meaning setting deeper n e).environment free (among r))
 
     inside : {n : Node} {e : Environment} → RanIn setting deeper name n e → IsSome ((node_meaning setting deeper n e).environment.assigned name)

@@ -51,7 +51,7 @@ module _ (setting : Setting) (deeper : Nodes → Run Nothing) (name : Text) wher
     -- in the first node, or in one after it where that ended by a value and left no interrupt
     pub data RanAmong : Nodes → Environment → Type 0 where
       at_first : {n : Node} {more : Nodes} {e : Environment} → RanIn n e → RanAmong (node n more) e
-      behind : {n : Node} {more : Nodes} {e : Environment}
+      after : {n : Node} {more : Nodes} {e : Environment}
           → (node_meaning setting deeper n e).end ≡ Ok tt →
           (node_meaning setting deeper n e).environment.registers.interrupt ≡ None
           → RanAmong more (node_meaning setting deeper n e).environment → RanAmong (node n more) e

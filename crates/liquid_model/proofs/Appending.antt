@@ -8,7 +8,7 @@ use Rattle.liquid_model.specs.View.{view, pairs_view}
 use Rattle.liquid_model.specs.declared.value.Value.{Value}
 use Rattle.liquid_model.specs.declared.error.Error.{Error}
 
--- here is what was there with a part of the text behind it, and rest is what is left of the text
+-- here is what was there with a part of the text after it, and rest is what is left of the text
 pub record Going (old here text rest : Text) : Type 0 where
   pub front : Text
   pub whole : front ++ rest ≡ text

@@ -127,38 +127,38 @@ through_place d e true rest here is equal h = ((same_Decides d e).0 is, h)
 through_place d e false rest here is equal h = let k : same d e ≡ true = (same_Decides d e).1 (equal h) in cc
 
 mutual
-  told_equal : (d e : Datum) → compare d e ≡ Some Equal → d ≡ e
-  told_equal nil _ h = cc
-  told_equal (truth a) (truth b) h = order_same (truth a) (truth b) (cc)
-  told_equal (truth a) _ h = cc
-  told_equal (number x) (number y) h = order_same (number x) (number y) (cc)
-  told_equal (number x) _ h = cc
-  told_equal (text s) (text t) h = order_same (text s) (text t) (cc)
-  told_equal (text s) _ h = cc
-  told_equal (array ds) (array es) h = ap array (items_told_equal ds es h)
-  told_equal (array ds) _ h = cc
-  told_equal (object ms) (object ns) h = ap object (pairs_told_equal ms ns h)
-  told_equal (object ms) _ h = cc
+  compare_equal : (d e : Datum) → compare d e ≡ Some Equal → d ≡ e
+  compare_equal nil _ h = cc
+  compare_equal (truth a) (truth b) h = order_same (truth a) (truth b) (cc)
+  compare_equal (truth a) _ h = cc
+  compare_equal (number x) (number y) h = order_same (number x) (number y) (cc)
+  compare_equal (number x) _ h = cc
+  compare_equal (text s) (text t) h = order_same (text s) (text t) (cc)
+  compare_equal (text s) _ h = cc
+  compare_equal (array ds) (array es) h = ap array (items_compare_equal ds es h)
+  compare_equal (array ds) _ h = cc
+  compare_equal (object ms) (object ns) h = ap object (pairs_compare_equal ms ns h)
+  compare_equal (object ms) _ h = cc
 
-  items_told_equal : (ds es : Items) → items_compare ds es ≡ Some Equal → ds ≡ es
-  items_told_equal no_items no_items h = refl
-  items_told_equal no_items (item e es) h = cc
-  items_told_equal (item d ds) no_items h = cc
-  items_told_equal (item d ds) (item e es) h =
-      let p = through_place d e (same d e) (items_compare ds es) (compare d e) refl (told_equal d e) h in
-      ap (λ x. item x ds) p.0 ∙ ap (item e) (items_told_equal ds es p.1)
+  items_compare_equal : (ds es : Items) → items_compare ds es ≡ Some Equal → ds ≡ es
+  items_compare_equal no_items no_items h = refl
+  items_compare_equal no_items (item e es) h = cc
+  items_compare_equal (item d ds) no_items h = cc
+  items_compare_equal (item d ds) (item e es) h =
+      let p = through_place d e (same d e) (items_compare ds es) (compare d e) refl (compare_equal d e) h in
+      ap (λ x. item x ds) p.0 ∙ ap (item e) (items_compare_equal ds es p.1)
 
-  pairs_told_equal : (ms ns : Pairs) → pairs_compare ms ns ≡ Some Equal → ms ≡ ns
-  pairs_told_equal no_pairs no_pairs h = refl
-  pairs_told_equal no_pairs (pair l e ns) h = cc
-  pairs_told_equal (pair k d ms) no_pairs h = cc
-  pairs_told_equal (pair k d ms) (pair l e ns) h =
+  pairs_compare_equal : (ms ns : Pairs) → pairs_compare ms ns ≡ Some Equal → ms ≡ ns
+  pairs_compare_equal no_pairs no_pairs h = refl
+  pairs_compare_equal no_pairs (pair l e ns) h = cc
+  pairs_compare_equal (pair k d ms) no_pairs h = cc
+  pairs_compare_equal (pair k d ms) (pair l e ns) h =
       let p = through_keys (slice_cmp nat_cmp k l) (cond (same d e) (pairs_compare ms ns) (compare d e)) h in
-      let q = through_place d e (same d e) (pairs_compare ms ns) (compare d e) refl (told_equal d e) p.1 in
-      ap (λ x. pair x d ms) (same_keys k l p.0) ∙ ap (λ x. pair l x ms) q.0 ∙ ap (pair l e) (pairs_told_equal ms ns q.1)
+      let q = through_place d e (same d e) (pairs_compare ms ns) (compare d e) refl (compare_equal d e) p.1 in
+      ap (λ x. pair x d ms) (same_keys k l p.0) ∙ ap (λ x. pair l x ms) q.0 ∙ ap (pair l e) (pairs_compare_equal ms ns q.1)
 
 pub compare_agrees_with_equality : CompareAgreesWithEquality
-compare_agrees_with_equality d e o h = (λ k. told_equal d e (h ∙ ap Some k), λ k. with_itself d o (ap (compare d) k ∙ h))
+compare_agrees_with_equality d e o h = (λ k. compare_equal d e (h ∙ ap Some k), λ k. with_itself d o (ap (compare d) k ∙ h))
 
 longer_compares : (ds : List Datum) (e : Datum) (es : List Datum) → compare (array_of ds) (array_of (ds ++ e ∷ es)) ≡ Some Less
 longer_compares [] e es = refl

@@ -233,6 +233,6 @@ unless_memory false p = p
 
 pub message_written : (o : Option (List ℕ)) (kind : ErrorKind) (w : String Global) (e : Error) → IfSome o (λ t. string_bytes w ≡ t)
     → (IsTrue (is_message kind (string_bytes w)) → e.message ≡ Some w) → IfSome o (λ t. IsTrue (is_message kind t) → HasMessageUnlessMemory t e)
-message_written None kind w e is told = tt
-message_written (Some t) kind w e is told = λ fits.
-    unless_memory (is_memory e.kind) (ap (option_map string_bytes) (told (subst (λ s. IsTrue (is_message kind s)) (sym is) fits)) ∙ ap Some is)
+message_written None kind w e is says = tt
+message_written (Some t) kind w e is says = λ fits.
+    unless_memory (is_memory e.kind) (ap (option_map string_bytes) (says (subst (λ s. IsTrue (is_message kind s)) (sym is) fits)) ∙ ap Some is)

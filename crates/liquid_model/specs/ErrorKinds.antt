@@ -30,9 +30,9 @@ is_refusal Memory = true
 is_refusal Write = true
 is_refusal _ = false
 
--- the kind told is the wanted one, unless memory ran out
+-- the reported kind is the wanted one, unless memory ran out
 abbrev pub IsKindOrMemory : ErrorKind → ErrorKind → Type 0
-IsKindOrMemory wanted told = MatchBool (is_memory told) ⊤ (wanted ≡ told)
+IsKindOrMemory wanted reported = MatchBool (is_memory reported) ⊤ (wanted ≡ reported)
 
 -- 1 to 18 are kinds of a run, 21 to 31 of a source
 abbrev pub number_of : ErrorKind → ℕ

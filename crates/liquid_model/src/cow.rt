@@ -8,7 +8,7 @@ use crate::error::Result;
 use crate::value::Value;
 use std::alloc::Global;
 
-/// A value that is owned, or lent by what holds it.
+/// A value that is owned, or borrowed from what holds it.
 #[derive(Drop)]
 pub enum ValueCow<'a> {
     /// A value of its own, as a length that was counted.
@@ -18,7 +18,7 @@ pub enum ValueCow<'a> {
 }
 
 impl<'a> ValueCow<'a> {
-    /// The value, lent.
+    /// The value, borrowed.
     pub fn as_value(&self) -> &Value
         ensures { view result.now ≡ cow_view self.now }
     {

@@ -192,7 +192,7 @@ impl Error {
     /// A fault of this kind with this message, or `Memory` where there is no room for the message.
     /// Of a message that is no short line the beginning that is one stays (`line_of`).
     pub fn new(alloc: Global, kind: ErrorKind, message: &str) -> Error
-        ensures told { IsKindOrMemory kind result.kind }
+        ensures kind_or_memory { IsKindOrMemory kind result.kind }
         ensures message { IsTrue (is_message kind message.now) →
             HasMessageUnlessMemory message.now result }
     {
@@ -217,7 +217,7 @@ impl Error {
     }
 
     /// The same fault with this message in place of its own, as by `with_message`.
-    pub fn retold(self, message: String) -> Error
+    pub fn reworded(self, message: String) -> Error
         ensures kind { result.kind ≡ self.kind }
         ensures message { IsTrue (is_message self.kind (string_bytes message)) → result.message ≡
             Some message }
@@ -239,7 +239,7 @@ impl Error {
     /// where there is no room for the message. Of a message that is no short line the beginning
     /// that is one stays (`line_of`).
     pub fn formatted<M: fmt::Display + Drop>(alloc: Global, kind: ErrorKind, message: M) -> Error
-        ensures told { IsKindOrMemory kind result.kind }
+        ensures kind_or_memory { IsKindOrMemory kind result.kind }
         ensures message { IfSome (M.output message) (λ written. IsTrue (is_message kind written) →
             HasMessageUnlessMemory written result) }
     {
@@ -252,10 +252,10 @@ impl Error {
     /// The same fault with where it stands. One that says where it stands already keeps that.
     /// `Memory`, without a message, where there is no room for the location.
     pub fn located(self, alloc: Global, location: Location) -> Error
-        ensures told { IsKindOrMemory self.kind result.kind }
+        ensures kind_or_memory { IsKindOrMemory self.kind result.kind }
         ensures whole { is_memory result.kind ≡ false → (result.message ≡ self.message)
-            × IsSomeAnd result.location (λ told. (self.location ≡ Some told) ⊎
-            (told.value ≡ location)) }
+            × IsSomeAnd result.location (λ known. (self.location ≡ Some known) ⊎
+            (known.value ≡ location)) }
         ensures kept { IfSome self.location (λ known. result ≡ self) }
     {
         if self.location.is_some() {
@@ -280,7 +280,7 @@ impl Error {
     /// text, its location says so now.
     /// `Memory`, without a message, where there is no room for that.
     pub fn in_partial(self, alloc: Global, name: &str) -> Error
-        ensures told { IsKindOrMemory self.kind result.kind }
+        ensures kind_or_memory { IsKindOrMemory self.kind result.kind }
         ensures message { is_memory result.kind ≡ false → result.message ≡ self.message }
         ensures location { is_memory result.kind ≡ false →
             option_map (λ l. location_text l.value) result.location ≡

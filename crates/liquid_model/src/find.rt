@@ -21,7 +21,7 @@ use std::alloc::Global;
 /// length.
 #[derive(Drop)]
 pub enum Found<'a> {
-    /// A value that is lent.
+    /// A borrowed value.
     Held(&'a Value),
     /// A whole number that was counted, as a length.
     Integer(i64),
@@ -41,7 +41,7 @@ impl Value {
     /// alone is found: the number of bytes of its text. A step that is no scalar finds nothing.
     /// Lengths beyond 9223372036854775807 count as that.
     ///
-    /// What is found is lent, and a length is owned. It takes no memory and is never refused,
+    /// What is found is borrowed, and a length is owned. It takes no memory and is never refused,
     /// though the signature leaves room for it.
     pub fn find<'a>(&'a self, _alloc: Global, path: &[Value]) -> Result<Option<ValueCow<'a>>>
         ensures value { IsValueOrMemory (λ r. option_map cow_view r) result
@@ -52,7 +52,7 @@ impl Value {
     }
 
     /// One step on, where it is the key of a map, or leads to an item of a list. None says nothing.
-    pub fn near_part<'a>(&'a self, part: &Value) -> Option<&'a Value>
+    pub fn direct_part<'a>(&'a self, part: &Value) -> Option<&'a Value>
         ensures { IfSome result (λ v. Some (view v.now) ≡ step (view self.now) (view part.now)) }
     {
         match self {
@@ -92,7 +92,7 @@ impl<'a> Found<'a> {
         }
     }
 
-    /// The value, lent where it is held.
+    /// The value, borrowed where it is held.
     pub fn into_value(self) -> ValueCow<'a>
         ensures { cow_view result ≡ found_view self.entry }
     {

@@ -30,7 +30,7 @@ impl Location {
     /// The same location, seen from outside the partial of this name: its own text is that of the
     /// partial.
     pub(crate) fn in_partial(self, alloc: Global, name: &str) -> Result<Location, AllocError>
-        ensures { IfOk result (λ told. location_text told ≡ partial_location_text name.now self) }
+        ensures { IfOk result (λ named. location_text named ≡ partial_location_text name.now self) }
     {
         let Location {
             origin,

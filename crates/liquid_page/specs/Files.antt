@@ -9,7 +9,7 @@ use Rattle.liquid_model.specs.declared.error.ErrorKind.TheVariants.{Memory}
 use Rattle.liquid_page.specs.Words.{NamedTexts, NamedFiles, page_call}
 use Rattle.liquid_page.specs.Written.{IsBegun, IsPageWritten}
 use Rattle.liquid_page.specs.declared.outcome.Outcome.{Outcome}
-use Rattle.liquid_page.specs.declared.outcome.Outcome.TheVariants.{Done, Usage, Unread, Fault}
+use Rattle.liquid_page.specs.declared.outcome.Outcome.TheVariants.{Done, Usage, Unreadable, Fault}
 use Rattle.liquid_page_texts.specs.Page.{Sources, PageTexts}
 
 -- the text of the file at each path, where it can be read
@@ -19,7 +19,7 @@ ReadableFiles = Text → Option Text
 -- why no page is begun
 pub data Stop : Type 0 where
   no_call : Stop
-  unread : Text → Stop
+  unreadable : Text → Stop
 
 infixl 10 ◌>>=◌
 abbrev pub ◌>>=◌ : {A B : Type 0} → Result A Stop → (A → Result B Stop) → Result B Stop
@@ -27,7 +27,7 @@ abbrev pub ◌>>=◌ : {A B : Type 0} → Result A Stop → (A → Result B Stop
 ◌>>=◌ (Err stop) k = Err stop
 
 abbrev pub file_text : ReadableFiles → Text → Result Text Stop
-file_text files path = ok_or (files path) (unread path)
+file_text files path = ok_or (files path) (unreadable path)
 
 -- the texts of named files, in order, after those that are read
 abbrev pub sources_from : ReadableFiles → NamedTexts → Sources → Result Sources Stop
@@ -52,7 +52,7 @@ abbrev pub Finds : {X A : Type 0} → (X → A) → Result A Stop → Result X O
 Finds view wanted (Ok x) = wanted ≡ Ok (view x)
 Finds view wanted (Err Done) = ⊥
 Finds view wanted (Err Usage) = wanted ≡ Err no_call
-Finds view wanted (Err (Unread file)) = wanted ≡ Err (unread (string_bytes file))
+Finds view wanted (Err (Unreadable file)) = wanted ≡ Err (unreadable (string_bytes file))
 Finds view wanted (Err (Fault e)) = e.kind ≡ Memory
 
 -- how a call ends by the texts that it is to read, unless memory ran out or the writer refused
@@ -60,7 +60,8 @@ abbrev pub EndsCall : Result PageTexts Stop → Outcome → Option (List ℕ) �
 EndsCall wanted Done old new = (texts : PageTexts) × (wanted ≡ Ok texts) ×
     IsPageWritten texts (Ok tt) old new
 EndsCall wanted Usage old new = (wanted ≡ Err no_call) × Keeps old new
-EndsCall wanted (Unread file) old new = (wanted ≡ Err (unread (string_bytes file))) × Keeps old new
+EndsCall wanted (Unreadable file) old new =
+    (wanted ≡ Err (unreadable (string_bytes file))) × Keeps old new
 EndsCall wanted (Fault e) old new = MatchBool (is_refusal e.kind) ⊤ ((texts : PageTexts) ×
     (wanted ≡ Ok texts) × IsPageWritten texts (Err e) old new)
 

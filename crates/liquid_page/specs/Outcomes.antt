@@ -4,19 +4,19 @@ use Rattle.liquid_model.specs.Errors.{error_text}
 use Rattle.liquid_model.specs.declared.error.ErrorKind.TheVariants.{Memory}
 use Rattle.liquid_excerpts.specs.Paths.{shown_path}
 use Rattle.liquid_page.specs.declared.outcome.Outcome.{Outcome}
-use Rattle.liquid_page.specs.declared.outcome.Outcome.TheVariants.{Done, Usage, Unread, Fault}
+use Rattle.liquid_page.specs.declared.outcome.Outcome.TheVariants.{Done, Usage, Unreadable, Fault}
 
 abbrev pub outcome_status : Outcome → ℕ
 outcome_status Done = 0
-outcome_status (Unread file) = 1
+outcome_status (Unreadable file) = 1
 outcome_status (Fault e) = 1
 outcome_status Usage = 2
 
-abbrev pub told : Outcome → List ℕ
-told Done = []
-told (Unread file) = codes "error: Read: " ++ shown_path (string_bytes file)
-told (Fault e) = codes "error: " ++ error_text e
-told Usage = codes "usage: liquid_page TEMPLATE DATA [NAME=FILE ..]"
+abbrev pub outcome_line : Outcome → List ℕ
+outcome_line Done = []
+outcome_line (Unreadable file) = codes "error: Read: " ++ shown_path (string_bytes file)
+outcome_line (Fault e) = codes "error: " ++ error_text e
+outcome_line Usage = codes "usage: liquid_page TEMPLATE DATA [NAME=FILE ..]"
 
 -- memory ran out
 abbrev pub IsOutOfMemory : Outcome → Type 0

@@ -23,8 +23,8 @@ named_texts_from (word ∷ words) done = option_and_then (λ p.
     named_texts_from words (done ++ p ∷ []))
     (pair_of word)
 
-abbrev pub lent : Bor (List ℕ) × Bor (List ℕ) → List ℕ × List ℕ
-lent p = (p.0.now, p.1.now)
+abbrev pub borrowed_pair : Bor (List ℕ) × Bor (List ℕ) → List ℕ × List ℕ
+borrowed_pair p = (p.0.now, p.1.now)
 
 pub record NamedFiles : Type 0 where
   pub template : List ℕ
@@ -35,7 +35,7 @@ abbrev pub call_view : CommandLine → NamedFiles
 call_view c = record {
   template = c.template.now;
   «data» = c.«data».now;
-  partials = map lent c.partials.items;
+  partials = map borrowed_pair c.partials.items;
 }
 
 abbrev pub page_call : List (List ℕ) → Option NamedFiles

@@ -57,7 +57,7 @@ impl<W: Write> Buffered<W> {
         ensures bytes { Keeps (buffered_contents W.contents self.old)
             (buffered_contents W.contents self.new) }
         ensures empty { OnOk result (self.new.held.items ≡ []) }
-        ensures told { self.new.failed ≡ is_err result }
+        ensures failure_noted { self.new.failed ≡ is_err result }
         ensures stopped { self.old.failed ≡ true → self.new ≡ self.old }
     {
         if self.failed {

@@ -3,11 +3,11 @@
 
 mod buffered;
 mod outcome;
-mod page;
+mod page_from_files;
 mod words;
 
 use crate::outcome::Outcome;
-use crate::page::{ReadFiles, Texts, Unreadable, page};
+use crate::page_from_files::{ReadError, ReadFiles, Texts, page};
 use liquid_excerpts::{Excerpt, Reason};
 pub use liquid_page_texts::{data_from_json, run};
 use std::alloc::AllocError;
@@ -25,19 +25,19 @@ struct DiskFiles<'r> {
 }
 
 impl<'r> Texts for DiskFiles<'r> {
-    fn text_at(&mut self, path: &str) -> Result<String, Unreadable> {
+    fn text_at(&mut self, path: &str) -> Result<String, ReadError> {
         let reason = match bytes_at(self.rt, path) {
             Ok(bytes) => match String::from_utf8(bytes) {
                 Ok(text) => return Ok(text),
                 Err(refused) => Reason::of_bytes(&refused),
             },
             Err(refused) if refused.kind() == io::ErrorKind::OutOfMemory => {
-                return Err(Unreadable::Memory);
+                return Err(ReadError::Memory);
             }
             Err(refused) => Reason::from(refused.kind()),
         };
         self.reason = Some(reason);
-        Err(Unreadable::File)
+        Err(ReadError::File)
     }
 }
 
@@ -61,7 +61,7 @@ fn main(rt: HostRuntime) -> ExitCode {
     if status != 0 {
         let _ = eprintln!(rt; "{outcome}");
     }
-    if let (Outcome::Unread(_), Some(reason)) = (&outcome, files.reason) {
+    if let (Outcome::Unreadable(_), Some(reason)) = (&outcome, files.reason) {
         let _ = eprintln!(rt; "  {reason}");
     }
     if let Some(excerpt) = excerpt_of(&outcome, &read) {

@@ -1,6 +1,6 @@
 //! How a call of the program ends.
 ghost use Rattle.std.specs.Prelude.{◌≡◌, Some, MatchResult};
-ghost use Rattle.liquid_page.specs.Outcomes.{IsOutOfMemory, outcome_status, told};
+ghost use Rattle.liquid_page.specs.Outcomes.{IsOutOfMemory, outcome_line, outcome_status};
 ghost use Rattle.liquid_page.specs.declared.outcome.Outcome.TheVariants.{Done, Fault};
 
 use liquid_core::{Error, Result};
@@ -16,7 +16,7 @@ pub enum Outcome {
     /// The words are no call.
     Usage,
     /// The file of this name can't be read, or isn't UTF-8.
-    Unread(String),
+    Unreadable(String),
     /// The page ended by a fault.
     Fault(Error),
 }
@@ -28,7 +28,7 @@ impl Outcome {
     {
         match self {
             Outcome::Done => 0,
-            Outcome::Unread(_) | Outcome::Fault(_) => 1,
+            Outcome::Unreadable(_) | Outcome::Fault(_) => 1,
             Outcome::Usage => 2,
         }
     }
@@ -36,13 +36,13 @@ impl Outcome {
 
 /// What goes to standard error: nothing where the page is written.
 impl fmt::Display for Outcome {
-    ghost output = { λ outcome. Some (told outcome) };
+    ghost output = { λ outcome. Some (outcome_line outcome) };
 
     fn fmt<W: fmt::Write>(&self, f: &mut fmt::Formatter<W>) -> fmt::Result {
         match self {
             Outcome::Done => Ok(()),
             Outcome::Usage => f.write_str("usage: liquid_page TEMPLATE DATA [NAME=FILE ..]"),
-            Outcome::Unread(file) => {
+            Outcome::Unreadable(file) => {
                 let path = ShownPath {
                     path: file.as_str(),
                 };

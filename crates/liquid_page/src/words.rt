@@ -1,7 +1,7 @@
 //! The words of a call.
 ghost use Rattle.std.specs.Prelude.{◌≡◌, map, option_map, string_bytes, Ok};
 ghost use Rattle.liquid_model.specs.Answer.{Answers};
-ghost use Rattle.liquid_page.specs.Words.{pair_of, lent, page_call, call_view};
+ghost use Rattle.liquid_page.specs.Words.{pair_of, borrowed_pair, page_call, call_view};
 
 use liquid_core::Result;
 use std::alloc::Global;
@@ -16,7 +16,7 @@ pub struct CommandLine<'w> {
 
 /// The name and the file of a word `NAME=FILE`.
 pub fn pair_of(word: &str) -> Option<(&str, &str)>
-    ensures { option_map lent result ≡ pair_of word.now }
+    ensures { option_map borrowed_pair result ≡ pair_of word.now }
 {
     match word.split_once('=') {
         Some((name, file)) => if name.is_empty() {

@@ -91,28 +91,28 @@ pub partial_refused : (l : Language) (sources left : Sources) (source : List ℕ
 partial_refused l sources left source e parses kinds bad = unless_either (is_memory e.kind) parses kinds (λ none kind. (bad none, kind))
 
 -- a fault of the same kind, unless memory ran out for its message
-told_by : (l : Language) (source : List ℕ) (e f : Error) (b : Bool) → is_memory f.kind ≡ b → MatchBool b ⊤ (e.kind ≡ f.kind) → ParsesTo l source (Err e) → MatchBool b ⊤ (HasNoTree l source)
-told_by l source e f true is same h = tt
-told_by l source e f false is same h = subst (λ b. MatchBool b ⊤ (HasNoTree l source)) (ap is_memory same ∙ is) h
+parses_again_by : (l : Language) (source : List ℕ) (e f : Error) (b : Bool) → is_memory f.kind ≡ b → MatchBool b ⊤ (e.kind ≡ f.kind) → ParsesTo l source (Err e) → MatchBool b ⊤ (HasNoTree l source)
+parses_again_by l source e f true is same h = tt
+parses_again_by l source e f false is same h = subst (λ b. MatchBool b ⊤ (HasNoTree l source)) (ap is_memory same ∙ is) h
 
-pub told_parses : (l : Language) (source : List ℕ) (e f : Error) → IsKindOrMemory e.kind f.kind → ParsesTo l source (Err e) → ParsesTo l source (Err f)
-told_parses l source e f same h = told_by l source e f (is_memory f.kind) refl same h
+pub parses_again : (l : Language) (source : List ℕ) (e f : Error) → IsKindOrMemory e.kind f.kind → ParsesTo l source (Err e) → ParsesTo l source (Err f)
+parses_again l source e f same h = parses_again_by l source e f (is_memory f.kind) refl same h
 
-told_source_by : (e f : Error) (b : Bool) → is_memory f.kind ≡ b → MatchBool b ⊤ (e.kind ≡ f.kind) → MayRefuse e.kind → MatchBool b ⊤ (IsOfSource f.kind)
-told_source_by e f true is same h = tt
-told_source_by e f false is same h = subst (λ b. MatchBool b ⊤ (IsOfSource f.kind)) is (subst MayRefuse same h)
+refuses_again_by : (e f : Error) (b : Bool) → is_memory f.kind ≡ b → MatchBool b ⊤ (e.kind ≡ f.kind) → MayRefuse e.kind → MatchBool b ⊤ (IsOfSource f.kind)
+refuses_again_by e f true is same h = tt
+refuses_again_by e f false is same h = subst (λ b. MatchBool b ⊤ (IsOfSource f.kind)) is (subst MayRefuse same h)
 
-pub told_source : (e f : Error) → IsKindOrMemory e.kind f.kind → MayRefuse e.kind → MayRefuse f.kind
-told_source e f same h = told_source_by e f (is_memory f.kind) refl same h
+pub refuses_again : (e f : Error) → IsKindOrMemory e.kind f.kind → MayRefuse e.kind → MayRefuse f.kind
+refuses_again e f same h = refuses_again_by e f (is_memory f.kind) refl same h
 
 -- ---- the page
 
-ToldBy : Language → PageTexts → Result (Unit {0}) Error → Option (List ℕ) → Type 0
-ToldBy l texts r o = RanOut r o o ⊎ ((x : Language) × IsStandard x × Shows x texts r o o)
+RanOutOrShows : Language → PageTexts → Result (Unit {0}) Error → Option (List ℕ) → Type 0
+RanOutOrShows l texts r o = RanOut r o o ⊎ ((x : Language) × IsStandard x × Shows x texts r o o)
 
-refused_by : (l : Language) (texts : PageTexts) (e : Error) (o : Option (List ℕ)) (b : Bool) → IsStandard l → is_memory e.kind ≡ b → MatchBool b ⊤ (RefusesTexts l texts e.kind × (is_refusal e.kind ≡ false)) → ToldBy l texts (Err e) o
-unfolding ToldBy
-refused_by l texts e o true standard is h = inl (record { told = memory_of e.kind is; kept = Keeps-refl o })
+refused_by : (l : Language) (texts : PageTexts) (e : Error) (o : Option (List ℕ)) (b : Bool) → IsStandard l → is_memory e.kind ≡ b → MatchBool b ⊤ (RefusesTexts l texts e.kind × (is_refusal e.kind ≡ false)) → RanOutOrShows l texts (Err e) o
+unfolding RanOutOrShows
+refused_by l texts e o true standard is h = inl (record { memory = memory_of e.kind is; kept = Keeps-refl o })
 refused_by l texts e o false standard is h =
     inr (
       l,
@@ -128,7 +128,7 @@ refused_by l texts e o false standard is h =
     )
 
 pub refused_shown : (l : Language) (texts : PageTexts) (e : Error) (o : Option (List ℕ)) → IsStandard l → ReadsPageTexts l texts (Err e) → RanOut (Err e) o o ⊎ ((x : Language) × IsStandard x × Shows x texts (Err e) o o)
-unfolding ToldBy
+unfolding RanOutOrShows
 refused_shown l texts e o standard h = refused_by l texts e o (is_memory e.kind) standard refl h
 
 pub page_shown : (l : Language) (texts : PageTexts) (r : PageInputs) (answer : Result (Unit {0}) Error) (old new : Option (List ℕ)) → IsStandard l → ShowsPageOf l texts r

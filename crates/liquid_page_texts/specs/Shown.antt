@@ -23,7 +23,7 @@ use Rattle.liquid_meaning.specs.Runs.{Nothing}
 use Rattle.liquid_page_texts.specs.Page.{Sources, PageTexts, TemplateTrees, ArePartials}
 use Rattle.liquid_page_texts.specs.Page.{HasBadPartial, PageInputs}
 use Rattle.liquid_page_texts.specs.Page.{IsRead, RefusesTexts, IsPage, page_outcome}
-use Rattle.liquid_page_texts.specs.declared.page.ReadTexts.{ReadTexts}
+use Rattle.liquid_page_texts.specs.declared.page_from_texts.ReadTexts.{ReadTexts}
 
 abbrev pub page_inputs_view : ReadTexts → PageInputs
 page_inputs_view r = record {
@@ -83,5 +83,5 @@ ShowsStandard texts r old new = (l : Language) × IsStandard l × Shows l texts 
 
 -- before anything was written, memory ran out
 pub record RanOut (r : Result (Unit {0}) Error) (old new : Option (List ℕ)) : Type 0 where
-  pub told : IsErrAnd r (λ e. e.kind ≡ Memory)
+  pub memory : IsErrAnd r (λ e. e.kind ≡ Memory)
   pub kept : Keeps old new

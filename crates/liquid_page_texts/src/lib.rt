@@ -2,8 +2,8 @@
 #![tactic(auto)]
 
 mod laws;
-mod page;
+mod page_from_texts;
 
 pub use laws::page_law;
 pub use liquid_json::data_from_json;
-pub use page::{run, run_last};
+pub use page_from_texts::{run, run_without_cleanup};

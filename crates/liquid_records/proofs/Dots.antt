@@ -4,7 +4,7 @@ use Rattle.std.specs.List.{list_all}
 use Rattle.std.proofs.lemmas.List.Folds.{list_all-append}
 use mathlib.Core.Path.{refl, sym, ap, ◌∙◌}
 use Rattle.liquid_model.specs.Texts.{Text}
-use Rattle.liquid_records.specs.FileNames.{parts_behind, only_dots, is_path_part}
+use Rattle.liquid_records.specs.FileNames.{path_parts_after, only_dots, is_path_part}
 use Rattle.liquid_records.specs.inside.Dots.{ends_well}
 
 and_true : (b : Bool) → b && true ≡ b
@@ -15,15 +15,15 @@ and_true false = refl
 one_more : (part : Text) (b : _) → only_dots (part ++ b ∷ []) ≡ (only_dots part && b == 46)
 one_more part b = list_all-append (λ x. x == 46) part (b ∷ []) ∙ ap (λ t. only_dots part && t) (and_true (b == 46))
 
-pub read_behind : (part bs : Text) → ends_well (only_dots part) bs ≡ list_all is_path_part (parts_behind part bs)
-read_behind part [] = sym (and_true (not (only_dots part)))
-read_behind part (b ∷ bs) = at (b == 47) (read_behind [] bs) (ap (λ t. ends_well t bs) (sym (one_more part b)) ∙ read_behind (part ++ b ∷ []) bs)
+pub read_after : (part bs : Text) → ends_well (only_dots part) bs ≡ list_all is_path_part (path_parts_after part bs)
+read_after part [] = sym (and_true (not (only_dots part)))
+read_after part (b ∷ bs) = at (b == 47) (read_after [] bs) (ap (λ t. ends_well t bs) (sym (one_more part b)) ∙ read_after (part ++ b ∷ []) bs)
   where
-    ended : (dots : Bool) → ends_well true bs ≡ list_all is_path_part (parts_behind [] bs) → cond dots false (ends_well true bs) ≡ (not dots && list_all is_path_part (parts_behind [] bs))
+    ended : (dots : Bool) → ends_well true bs ≡ list_all is_path_part (path_parts_after [] bs) → cond dots false (ends_well true bs) ≡ (not dots && list_all is_path_part (path_parts_after [] bs))
     ended true h = refl
     ended false h = h
 
-    at : (slash : Bool) → ends_well true bs ≡ list_all is_path_part (parts_behind [] bs) → ends_well (only_dots part && b == 46) bs ≡ list_all is_path_part (parts_behind (part ++ b ∷ []) bs)
-        → cond slash (cond (only_dots part) false (ends_well true bs)) (ends_well (only_dots part && b == 46) bs) ≡ list_all is_path_part (cond slash (part ∷ parts_behind [] bs) (parts_behind (part ++ b ∷ []) bs))
+    at : (slash : Bool) → ends_well true bs ≡ list_all is_path_part (path_parts_after [] bs) → ends_well (only_dots part && b == 46) bs ≡ list_all is_path_part (path_parts_after (part ++ b ∷ []) bs)
+        → cond slash (cond (only_dots part) false (ends_well true bs)) (ends_well (only_dots part && b == 46) bs) ≡ list_all is_path_part (cond slash (part ∷ path_parts_after [] bs) (path_parts_after (part ++ b ∷ []) bs))
     at true h k = ended (only_dots part) h
     at false h k = k

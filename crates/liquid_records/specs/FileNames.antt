@@ -5,13 +5,13 @@ use Rattle.std.specs.List.{list_all}
 use Rattle.liquid_model.specs.Texts.{Text}
 
 -- the parts of a text, after what is read of the first of them
-abbrev pub parts_behind : Text → Text → List Text
-parts_behind part [] = part ∷ []
-parts_behind part (b ∷ bs) =
-    cond (b == 47) (part ∷ parts_behind [] bs) (parts_behind (part ++ b ∷ []) bs)
+abbrev pub path_parts_after : Text → Text → List Text
+path_parts_after part [] = part ∷ []
+path_parts_after part (b ∷ bs) =
+    cond (b == 47) (part ∷ path_parts_after [] bs) (path_parts_after (part ++ b ∷ []) bs)
 
 abbrev pub path_parts : Text → List Text
-path_parts name = parts_behind [] name
+path_parts name = path_parts_after [] name
 
 -- nothing but dots: no text, `.`, `..` or more of them
 abbrev pub only_dots : Text → Bool

@@ -2,6 +2,6 @@ pub mod FileNames
 pub mod Records
 pub mod Runs
 pub mod Steps
-pub mod Told
+pub mod Messages
 pub mod Views
 pub mod inside

@@ -7,7 +7,7 @@ mod file_name;
 mod job;
 mod laws;
 mod merge;
-mod told;
+mod messages;
 
 pub use file_name::is_file_name;
 pub use job::{Job, Made, RecordResult, Why};

@@ -27,8 +27,8 @@ text_there line t h = h.0 ∙ sym (ap (λ b. cond b line []) (is_utf8-from_IsUtf
 pub text_lacking : (line : Text) → (IsUtf8 line → ⊥) → [] ≡ line_text line
 text_lacking line h = sym (ap (λ b. cond b line []) (no_utf8 line h))
 
-pub unread : (form : DataForm) (line : Text) → (IsUtf8 line → ⊥) → not_utf8 ≡ line_reading form line
-unread form line h = sym (ap (λ b. cond b (text_reading form line) not_utf8) (no_utf8 line h))
+pub invalid_utf8 : (form : DataForm) (line : Text) → (IsUtf8 line → ⊥) → not_utf8 ≡ line_reading form line
+invalid_utf8 form line h = sym (ap (λ b. cond b (text_reading form line) not_utf8) (no_utf8 line h))
 
 as_text : (form : DataForm) (line : Text) → IsUtf8 line → line_reading form line ≡ text_reading form line
 as_text form line h = ap (λ b. cond b (text_reading form line) not_utf8) (is_utf8-from_IsUtf8 line h)

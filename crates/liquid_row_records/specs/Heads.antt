@@ -55,7 +55,7 @@ names_alone (Err fault) = Err fault
 abbrev pub column_names : List Text → Result (List Text) HeadFault
 column_names cells = names_alone (all_named (Ok none_named) cells)
 
--- ---- what is told of a fault
+-- ---- what the message says of a fault
 
 abbrev pub head_fault_text : HeadFault → Text
 head_fault_text (NotUtf8 column) = codes "the name of column " ++ (decimal column

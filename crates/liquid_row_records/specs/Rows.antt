@@ -36,7 +36,7 @@ abbrev pub row_view : Result (BTreeMap (String Global) Value) RowFault → Resul
 row_view (Ok found) = Ok (pairs_view found.entries)
 row_view (Err fault) = Err fault
 
--- ---- what is told of a fault
+-- ---- what the message says of a fault
 
 -- a row of one cell, and a table of one column, in their own words
 abbrev pub cells_text : ℕ → ℕ → Text

@@ -11,7 +11,7 @@ use Rattle.csv.specs.declared.reader.Reader.{Reader}
 use Rattle.csv.specs.declared.reader.Trim.TheVariants as trim
 use Rattle.liquid_model.specs.Texts.{Text}
 use Rattle.liquid_row_records.specs.Heads.{column_names}
-use Rattle.liquid_row_records.specs.declared.rows.Rows.{Rows}
+use Rattle.liquid_row_records.specs.declared.csv_rows.Rows.{Rows}
 
 abbrev pub ReadsRows : {R : Type 0} → Reader R → Type 0
 ReadsRows reader = Ready reader × (reader_trim reader ≡ trim.None) × (is_flexible reader ≡ true)

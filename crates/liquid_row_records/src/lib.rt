@@ -3,14 +3,14 @@
 #![tactic(auto)]
 
 mod cells;
+mod csv_rows;
 mod head;
 mod lines;
 mod record;
 mod records;
-mod rows;
 
+pub use csv_rows::{HeadStop, Rows};
 pub use head::{HeadFault, column_names};
 pub use lines::Lines;
 pub use record::{RowFault, record_of};
 pub use records::{RecordData, RecordFault, RecordReading, Records};
-pub use rows::{HeadStop, Rows};

@@ -5,9 +5,9 @@ ghost use Rattle.liquid_row_records.specs.Counted.{record_number_after};
 ghost use Rattle.liquid_row_records.specs.Readings.{line_reading, line_text, reading_of};
 ghost use Rattle.liquid_row_records.specs.Readings.{reading_view, text_read};
 
+use crate::csv_rows::{HeadStop, Rows};
 use crate::lines::Lines;
 use crate::record::RowFault;
-use crate::rows::{HeadStop, Rows};
 use liquid_core::{Error, ErrorKind, Object, Result};
 use liquid_data_forms::{DataForm, data_in_form, in_form};
 use std::alloc::{AllocError, Global};

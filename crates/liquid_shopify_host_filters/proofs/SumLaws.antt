@@ -1,4 +1,4 @@
--- The sum of a list behind another.
+-- The sum of a list after another.
 use Rattle.std.proofs.Common.{◌≡◌, ℤ, List, [], ◌∷◌, ◌++◌, Option, Result, Ok, Err, ap, refl, ◌∙◌}
 use Rattle.liquid_model.specs.Data.{Datum}
 use Rattle.liquid_model.specs.Fallible.{◌>>=◌}

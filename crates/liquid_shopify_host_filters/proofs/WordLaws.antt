@@ -37,7 +37,7 @@ module _ (w : Wording) (mark : ℕ) (h : Stays w mark) where
   abbrev Reads : State → List ℕ → Type 0
   Reads state cs = worded w (again state) (worded w state cs) ≡ worded w state cs
 
-  -- a word's character behind a separator is read as both
+  -- a word's character after a separator is read as both
   past : (c : ℕ) (cs : List ℕ) → character_role w c ≡ Word → Reads Inside cs
       → worded w Inside (shown_at Word w Past c ++ worded w Inside cs) ≡ shown_at Word w Past c ++ worded w Inside cs
   past c cs e r =

@@ -46,13 +46,13 @@ masked mask key = map (λ b. bit_xor b mask) key
 
 -- the digest of a message after the key's block of 64 bytes, masked
 -- Where the key has no byte more, the mask stands alone.
-abbrev pub digest_behind : List ℕ → ℕ → List ℕ → List ℕ
-digest_behind key mask message =
+abbrev pub masked_digest : List ℕ → ℕ → List ℕ → List ℕ
+masked_digest key mask message =
     sha256 ((masked mask key ++ drop (length key) (replicate 64 mask)) ++ message)
 
 -- the code under a key of one block at most
 abbrev pub code_by : List ℕ → List ℕ → List ℕ
-code_by key message = digest_behind key 92 (digest_behind key 54 message)
+code_by key message = masked_digest key 92 (masked_digest key 54 message)
 
 -- the code of RFC 2104 over SHA-256; a key of more than 64 bytes counts by its digest
 abbrev pub hmac : List ℕ → List ℕ → List ℕ

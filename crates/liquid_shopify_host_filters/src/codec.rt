@@ -3,7 +3,7 @@ ghost use Rattle.std.specs.Prelude.{◌≤◌, length, map};
 ghost use Rattle.liquid_model.specs.Answer.{Answers, IsValueOrMemory};
 ghost use Rattle.liquid_model.specs.View.{view};
 ghost use Rattle.liquid_shopify_host_filters.specs.Codecs.{code_by, decode_answer, decoded_text};
-ghost use Rattle.liquid_shopify_host_filters.specs.Codecs.{digest_behind, encode_answer, hmac};
+ghost use Rattle.liquid_shopify_host_filters.specs.Codecs.{masked_digest, encode_answer, hmac};
 ghost use Rattle.liquid_shopify_host_filters.specs.Codecs.{hmac_sha256_answer, md5_answer};
 ghost use Rattle.liquid_shopify_host_filters.specs.Codecs.{sha1_answer, sha256_answer};
 
@@ -109,14 +109,14 @@ fn code_by(alloc: Global, key: &[u8], message: &[u8]) -> Result<[u8; 32]>
     requires { length key.now ≤ 64 }
     ensures { IsValueOrMemory (λ d. d) result (code_by key.now message.now) }
 {
-    let inner = digest_behind(alloc, key, 0x36, message)?;
-    digest_behind(alloc, key, 0x5c, &inner)
+    let inner = masked_digest(alloc, key, 0x36, message)?;
+    masked_digest(alloc, key, 0x5c, &inner)
 }
 
 /// The digest of a message after the key's block, whose bytes are masked.
-fn digest_behind(alloc: Global, key: &[u8], mask: u8, message: &[u8]) -> Result<[u8; 32]>
+fn masked_digest(alloc: Global, key: &[u8], mask: u8, message: &[u8]) -> Result<[u8; 32]>
     requires { length key.now ≤ 64 }
-    ensures { IsValueOrMemory (λ d. d) result (digest_behind key.now mask message.now) }
+    ensures { IsValueOrMemory (λ d. d) result (masked_digest key.now mask message.now) }
 {
     let masked: Vec<u8> = key.iter().map(|byte| *byte ^ mask).collect(alloc)?;
     let mut hasher = Sha256::new();

@@ -17,7 +17,7 @@ use std::rc::Rc;
 
 /// A filter of this set, over what it has to know of a shop. All filters of a page share the shop.
 ///
-/// What each answers is told beside its kind in the guide. `InvalidInput` where the input isn't of
+/// What each answers stands beside its kind in the guide. `InvalidInput` where the input isn't of
 /// the kind that is needed, and `NumberRange` where a sum is beyond 64 bits.
 #[derive(Drop)]
 pub struct ShopifyFilter {

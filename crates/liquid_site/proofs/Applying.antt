@@ -22,7 +22,7 @@ use Rattle.liquid_site.specs.Applied.{IsStep, HasBadSource, AppliesTo}
 use Rattle.liquid_site.specs.PartViews.{SiteView}
 use Rattle.liquid_site.specs.Steps.{Step, remove_partial, remove_value, stepped, rendered_by, saturated_sum}
 use Rattle.liquid_site.specs.Contents.{Contents}
-use Rattle.liquid_site.proofs.Kept.{without_absent, absent_value}
+use Rattle.liquid_site.proofs.KeptPages.{without_absent, absent_value}
 use Rattle.liquid_site.specs.declared.change.Change.{Change}
 
 pub applied : (change : Change) (r : Result (Unit {0}) Error) (old new : SiteView) (s : Step) → IsStep old.language change s

@@ -43,16 +43,16 @@ among : (test : Names) (names : List Text) (q : Text) → mentioned (filter test
 among test [] q = refl
 among test (name ∷ names) q = on (bytes_eq q name) (test name) refl refl (among test names q)
   where
-    told : (b : Bool) → bytes_eq q name ≡ true → test name ≡ b → test q ≡ b
-    told b e h = ap test ((bytes_eq-Decides q name).0 e) ∙ h
+    same_test : (b : Bool) → bytes_eq q name ≡ true → test name ≡ b → test q ≡ b
+    same_test b e h = ap test ((bytes_eq-Decides q name).0 e) ∙ h
 
     nothing : (b : Bool) → (b && false) ≡ false
     nothing true = refl
     nothing false = refl
 
     on : (b t : Bool) → bytes_eq q name ≡ b → test name ≡ t → mentioned (filter test names) q ≡ (mentioned names q && test q) → mentioned (cond t (name ∷ filter test names) (filter test names)) q ≡ ((b || mentioned names q) && test q)
-    on true true e h rest = ap (λ b. b || mentioned (filter test names) q) e ∙ sym (told true e h)
-    on true false e h rest = rest ∙ ap (λ b. mentioned names q && b) (told false e h) ∙ nothing (mentioned names q) ∙ sym (told false e h)
+    on true true e h rest = ap (λ b. b || mentioned (filter test names) q) e ∙ sym (same_test true e h)
+    on true false e h rest = rest ∙ ap (λ b. mentioned names q && b) (same_test false e h) ∙ nothing (mentioned names q) ∙ sym (same_test false e h)
     on false true e h rest = ap (λ b. b || mentioned (filter test names) q) e ∙ rest
     on false false e h rest = rest
 

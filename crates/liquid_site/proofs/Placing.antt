@@ -19,11 +19,11 @@ use Rattle.liquid_site.specs.Contents.{Trees, Contents, Pages, page_of, all_page
 use Rattle.liquid_site.specs.inside.Fresh.{selects, selected, all_placed}
 use Rattle.liquid_site.specs.declared.selection.Selection.TheVariants.{All}
 use Rattle.liquid_site.specs.Steps.{refreshed}
-use Rattle.liquid_site.proofs.Kept.{refreshed_all}
+use Rattle.liquid_site.proofs.KeptPages.{refreshed_all}
 
-behind : (name : Text) (y : Shown) (qs ps : Pages) → AllAbove name qs → all_placed qs ((name, y) ∷ ps) ≡ (name, y) ∷ all_placed qs ps
-behind name y [] ps h = refl
-behind name y (q ∷ qs) ps h = ap (λ b. all_placed qs (cond b ((name, q.1) ∷ ps) ((name, y) ∷ placed q.0 q.1 ps))) (below_other name q.0 h.0) ∙ behind name y qs (placed q.0 q.1 ps) h.1
+placed_after : (name : Text) (y : Shown) (qs ps : Pages) → AllAbove name qs → all_placed qs ((name, y) ∷ ps) ≡ (name, y) ∷ all_placed qs ps
+placed_after name y [] ps h = refl
+placed_after name y (q ∷ qs) ps h = ap (λ b. all_placed qs (cond b ((name, q.1) ∷ ps) ((name, y) ∷ placed q.0 q.1 ps))) (below_other name q.0 h.0) ∙ placed_after name y qs (placed q.0 q.1 ps) h.1
 
 module _ (test : Nodes → Bool) (show : Nodes → Shown) where
   selected_above : (name : Text) (ts : Trees) → AllAbove name ts → AllAbove name (all_pages show (selected test ts))
@@ -42,9 +42,9 @@ module _ (test : Nodes → Bool) (show : Nodes → Shown) where
           → all_placed (all_pages show (cond b (p ∷ selected test ts) (selected test ts))) ((p.0, before p.1) ∷ all_pages before ts) ≡ (p.0, cond b (show p.1) (before p.1)) ∷ refreshed test show ts (all_pages before ts)
       on true rest =
           ap (λ b. all_placed (all_pages show (selected test ts)) (cond b ((p.0, show p.1) ∷ all_pages before ts) ((p.0, before p.1) ∷ placed p.0 (show p.1) (all_pages before ts)))) (same_key p.0)
-          ∙ behind p.0 (show p.1) (all_pages show (selected test ts)) (all_pages before ts) (selected_above p.0 ts h.0)
+          ∙ placed_after p.0 (show p.1) (all_pages show (selected test ts)) (all_pages before ts) (selected_above p.0 ts h.0)
           ∙ ap (λ l. (p.0, show p.1) ∷ l) rest
-      on false rest = behind p.0 (before p.1) (all_pages show (selected test ts)) (all_pages before ts) (selected_above p.0 ts h.0) ∙ ap (λ l. (p.0, before p.1) ∷ l) rest
+      on false rest = placed_after p.0 (before p.1) (all_pages show (selected test ts)) (all_pages before ts) (selected_above p.0 ts h.0) ∙ ap (λ l. (p.0, before p.1) ∷ l) rest
 
   -- what isn't rendered again shows what it did: then all pages are as from scratch
   pub placed_from_scratch : (before : Nodes → Shown) (ts : Trees) → Ascend ts → ((nodes : Nodes) → test nodes ≡ false → show nodes ≡ before nodes) → all_placed (all_pages show (selected test ts)) (all_pages before ts) ≡ all_pages show ts

@@ -1,4 +1,4 @@
--- Two proofs that pages are the same are equal: kinds of faults are told by their numbers.
+-- Two proofs that pages are the same are equal: kinds of faults differ by their numbers.
 use Rattle.std.specs.Prelude.{◌≡◌, ℕ, List, [], ◌∷◌, get_or, Option, refl}
 use Rattle.std.specs.Coded.{Coded, Coded-set, code_by, coded×, coded_ℕ, coded_list, coded_option}
 use Rattle.liquid_model.specs.Texts.{Text}

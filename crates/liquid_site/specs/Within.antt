@@ -12,7 +12,7 @@ use Rattle.liquid_lib.specs.LimitedPages.{IsPrefixOf, PageWithin}
 use Rattle.liquid_lib.specs.Pages.{Shown, page_view}
 use Rattle.liquid_lib.specs.declared.limits.LimitReached.{LimitReached}
 use Rattle.liquid_lib.specs.declared.limits.LimitReached.TheVariants.{Bytes, Turns}
-use Rattle.liquid_lib.specs.declared.page.LimitedPage.{LimitedPage}
+use Rattle.liquid_lib.specs.declared.rendered_page.LimitedPage.{LimitedPage}
 use Rattle.liquid_site.specs.Contents.{Pages}
 use Rattle.liquid_site.specs.Faults.{kind_code, text_code, shown_code}
 use Rattle.liquid_site.specs.ShownPages.{AreWithin}

@@ -7,7 +7,7 @@ use crate::refresh::{RenderContext, put_page, rendered_pages, replace_pages};
 use crate::rendering::Rendering;
 use crate::selection::Selection;
 use liquid_core::{Object, Result, Value};
-use liquid_syntax::{Language, Partials, Template, parse_kept};
+use liquid_syntax::{Language, Partials, Template, parse_with_source};
 use std::alloc::Global;
 use std::collections::BTreeMap;
 
@@ -97,7 +97,7 @@ impl<P: Drop> SiteParts<P> {
         let _rendered = self.rendered;
         match change {
             Change::SetPage(name, source) => {
-                let template = parse_kept(self.alloc, source.as_str(), &self.language)?;
+                let template = parse_with_source(self.alloc, source.as_str(), &self.language)?;
                 self.set_page(rendering, name, template)
             }
             Change::RemovePage(name) => {
@@ -105,7 +105,7 @@ impl<P: Drop> SiteParts<P> {
                 Ok(())
             }
             Change::SetPartial(name, source) => {
-                let template = parse_kept(self.alloc, source.as_str(), &self.language)?;
+                let template = parse_with_source(self.alloc, source.as_str(), &self.language)?;
                 self.partials
                     .reserve(String::from_str(self.alloc, name.as_str())?)?;
                 self.exchange_partial(rendering, name.as_str(), Some(template))

@@ -12,7 +12,7 @@ use Rattle.liquid_lib.specs.Pages.{Shown}
 use Rattle.liquid_site.specs.Contents.{Pages}
 use Rattle.liquid_site.specs.Steps.{saturated_sum}
 use Rattle.liquid_site_files.specs.Written.{all_written, count_from, is_page_path, KeepsOtherFiles, unwritten_message, IsUnwritten, TellsUnwritten}
-use Rattle.liquid_disk.specs.Files.{File, Files, gone, holds, unread, with_file, is_held, ChangesAt, IsPut}
+use Rattle.liquid_disk.specs.Files.{File, Files, gone, holds, unreadable, with_file, is_held, ChangesAt, IsPut}
 use Rattle.liquid_disk.specs.declared.disk.DiskFault.{DiskFault}
 use Rattle.liquid_site_files.specs.inside.Needed.{NeededUnlessMemory}
 
@@ -27,7 +27,7 @@ file_there files path file h = fun_ext (λ q. at q (bytes_eq path q) refl)
 holding : (file : File) (text : Text) → is_held file text ≡ true → file ≡ holds text
 holding (holds held) text k = ap holds ((bytes_eq-Decides held text).0 k)
 holding gone text k = absurd cc
-holding unread text k = absurd cc
+holding unreadable text k = absurd cc
 
 pub unchanged_at : (o : Option Files) (path : Text) → IfSome o (λ f. ChangesAt path f o)
 unchanged_at None path = tt
@@ -42,9 +42,9 @@ pub no_more : {X : Type 0} (o : Option Files) (r : Result X Error) (e : Error) (
 no_more None r e P failed = tt
 no_more (Some f) r e P failed = subst (λ x. OnOk x (P f)) (sym failed) tt
 
-pub none_told : {X : Type 0} (o : Option Files) (r : Result X Error) (e : Error) (P : Files → X → Type 0) → r ≡ Err e → IfSome o (λ f. IfOk r (P f))
-none_told None r e P failed = tt
-none_told (Some f) r e P failed = subst (λ x. IfOk x (P f)) (sym failed) tt
+pub none_if_err : {X : Type 0} (o : Option Files) (r : Result X Error) (e : Error) (P : Files → X → Type 0) → r ≡ Err e → IfSome o (λ f. IfOk r (P f))
+none_if_err None r e P failed = tt
+none_if_err (Some f) r e P failed = subst (λ x. IfOk x (P f)) (sym failed) tt
 
 -- ---- a file that is written
 
@@ -61,20 +61,20 @@ put_there (Some f) v path given text (Ok w) u is taken put = put ∙ (λ i. Some
 put_there (Some f) v path given text (Err e) u is taken put = absurd cc
 
 held_other : (f : Files) (path given text : Text) (b : Bool) → given ≡ path → b ≡ is_held (f given) text → b ≡ false → is_held (f path) text ≡ false
-held_other f path given text b is told other = sym (ap (λ p. is_held (f p) text) is) ∙ sym told ∙ other
+held_other f path given text b is held_is other = sym (ap (λ p. is_held (f p) text) is) ∙ sym held_is ∙ other
 
 -- it held another text
 pub is_needed : (o : Option Files) (path given text : Text) (b : Bool) → given ≡ path → IfSome o (λ f. b ≡ is_held (f given) text) → b ≡ false → IfSome o (λ f. true ≡ not (is_held (f path) text))
-is_needed None path given text b is told other = tt
-is_needed (Some f) path given text b is told other = sym (ap not (held_other f path given text b is told other))
+is_needed None path given text b is held_is other = tt
+is_needed (Some f) path given text b is held_is other = sym (ap not (held_other f path given text b is held_is other))
 
 pub stays_needed : (o : Option Files) (path given text : Text) (b : Bool) (e : Error) → given ≡ path → IfSome o (λ f. b ≡ is_held (f given) text) → b ≡ false → IfSome o (λ f. NeededUnlessMemory (f path) text e)
-stays_needed None path given text b e is told other = tt
-stays_needed (Some f) path given text b e is told other = at (is_memory e.kind)
+stays_needed None path given text b e is held_is other = tt
+stays_needed (Some f) path given text b e is held_is other = at (is_memory e.kind)
   where
     at : (m : Bool) → MatchBool m ⊤ (is_held (f path) text ≡ false)
     at true = tt
-    at false = held_other f path given text b is told other
+    at false = held_other f path given text b is held_is other
 
 -- ---- pages so far
 
@@ -139,12 +139,12 @@ turned false false x y e = absurd cc
 pub moved_on : (o w v : Option Files) (out : Text) (all left rest : Pages) (p : Text × Shown) (name text : Text) (n m : ℕ) (b : Bool) → left ≡ p ∷ rest → name ≡ p.0 → text ≡ p.1.text
     → IfSome o (λ f. Progress out all left n f w) → IfSome w (λ f. v ≡ Some (with_file f (out ++ name) (holds text))) → IfSome w (λ f. b ≡ not (is_held (f (out ++ name)) text)) → m ≡ cond b (saturated_sum n 1) n
     → IfSome o (λ f. Progress out all rest m f v)
-moved_on None w v out all left rest p name text n m b is named told on put needed count = tt
-moved_on (Some f) None v out all left rest p name text n m b is named told on put needed count = absurd on
-moved_on (Some f) (Some g) v out all left rest p name text n m b is named told on put needed count =
-    let here : b ≡ not (is_held (g (out ++ p.0)) p.1.text) = needed ∙ (λ i. not (is_held (g (out ++ named i)) (told i))) in
+moved_on None w v out all left rest p name text n m b is named text_is on put needed count = tt
+moved_on (Some f) None v out all left rest p name text n m b is named text_is on put needed count = absurd on
+moved_on (Some f) (Some g) v out all left rest p name text n m b is named text_is on put needed count =
+    let here : b ≡ not (is_held (g (out ++ p.0)) p.1.text) = needed ∙ (λ i. not (is_held (g (out ++ named i)) (text_is i))) in
     let on_it : IsOn out all (p ∷ rest) n f g = subst (λ l. IsOn out all l n f g) is on in
-    let there : v ≡ Some (with_file g (out ++ p.0) (holds p.1.text)) = put ∙ (λ i. Some (with_file g (out ++ named i) (holds (told i)))) in
+    let there : v ≡ Some (with_file g (out ++ p.0) (holds p.1.text)) = put ∙ (λ i. Some (with_file g (out ++ named i) (holds (text_is i)))) in
     subst (λ x. Progress out all rest m f x) (sym there) (step out all rest p n m f g on_it (count ∙ turned b (is_held (g (out ++ p.0)) p.1.text) (saturated_sum n 1) n here))
 
 -- the writing ended at a page
@@ -160,9 +160,9 @@ ended_at (Some f) (Some g) v out all left rest p name n is named on changed =
 -- the page that it ended at, unless memory ran out
 pub stopped_at : (o w v : Option Files) (out : Text) (all left rest : Pages) (p : Text × Shown) (name text : Text) (n : ℕ) (e : Error) → left ≡ p ∷ rest → name ≡ p.0 → text ≡ p.1.text → IfSome o (λ f. Progress out all left n f w)
     → IfSome w (λ f. ChangesAt (out ++ name) f v) → IfSome w (λ f. NeededUnlessMemory (f (out ++ name)) text e) → HasMessageUnlessMemory (unwritten_message (out ++ name)) e → IfSome o (λ f. TellsUnwritten out all f v e)
-stopped_at None w v out all left rest p name text n e is named same on changed needed told = tt
-stopped_at (Some f) None v out all left rest p name text n e is named same on changed needed told = absurd on
-stopped_at (Some f) (Some g) v out all left rest p name text n e is named same on changed needed told = at (is_memory e.kind) needed told
+stopped_at None w v out all left rest p name text n e is named same on changed needed message = tt
+stopped_at (Some f) None v out all left rest p name text n e is named same on changed needed message = absurd on
+stopped_at (Some f) (Some g) v out all left rest p name text n e is named same on changed needed message = at (is_memory e.kind) needed message
   where
     on_it : IsOn out all (p ∷ rest) n f g
     on_it = subst (λ l. IsOn out all l n f g) is on
@@ -179,5 +179,5 @@ stopped_at (Some f) (Some g) v out all left rest p name text n e is named same o
       all = on_it.split;
       needed = sym (λ i. is_held (on_it.so_far i (out ++ named i)) (same i)) ∙ h;
       left = changed_there;
-      told = k ∙ (λ i. Some (unwritten_message (out ++ named i)));
+      message = k ∙ (λ i. Some (unwritten_message (out ++ named i)));
     }

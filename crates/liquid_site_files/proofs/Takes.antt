@@ -78,31 +78,31 @@ pub all_taken : (o : Option Files) (l : Language) (folder : Folder) (changes : L
 all_taken None l folder changes i first now none so = tt
 all_taken (Some f) l folder changes i first now none so = so now (subst (λ cs. AreTaken l folder f cs now now) (sym none) refl)
 
--- ---- what is told
+-- ---- what is reported
 
 is_refusal_of : (l : Language) (folder : Folder) (files : Files) (changed : Changed) (r : Option RefusedFile) → RefusesFile l changed (files (changed_file_path folder changed)) (option_map (λ refusal. refusal.why) r) → IfSome r (λ refusal. string_bytes refusal.path ≡ changed_file_path folder changed)
     → IsRefusal l folder files changed r
 is_refusal_of l folder files changed None why path = why
 is_refusal_of l folder files changed (Some refusal) why path = (path, why)
 
--- nothing is told before the first file
-pub told_first : (o : Option Files) (l : Language) (folder : Folder) (changes : List Changed) (told : List RefusedFile) → told ≡ [] → IfSome o (λ f. (rs : List RefusedFile) → AreRefusals l folder f changes rs → AreRefusals l folder f changes (told ++ rs))
-told_first None l folder changes told none = tt
-told_first (Some f) l folder changes told none = λ rs h. subst (λ ts. AreRefusals l folder f changes (ts ++ rs)) (sym none) h
+-- nothing is reported before the first file
+pub refusals_first : (o : Option Files) (l : Language) (folder : Folder) (changes : List Changed) (refused : List RefusedFile) → refused ≡ [] → IfSome o (λ f. (rs : List RefusedFile) → AreRefusals l folder f changes rs → AreRefusals l folder f changes (refused ++ rs))
+refusals_first None l folder changes refused none = tt
+refusals_first (Some f) l folder changes refused none = λ rs h. subst (λ ts. AreRefusals l folder f changes (ts ++ rs)) (sym none) h
 
--- one more file is told of, or is not refused
-pub told_on : (o : Option Files) (l own : Language) (folder : Folder) (changes : List Changed) (i : ℕ) (changed : Changed) (r : Option RefusedFile) (before after : List RefusedFile) → own ≡ l → changed ≡ get_or changes i changed → i < length changes
+-- one more file is reported, or is not refused
+pub refusals_on : (o : Option Files) (l own : Language) (folder : Folder) (changes : List Changed) (i : ℕ) (changed : Changed) (r : Option RefusedFile) (before after : List RefusedFile) → own ≡ l → changed ≡ get_or changes i changed → i < length changes
     → IfSome o (λ f. (rs : List RefusedFile) → AreRefusals l folder f (drop i changes) rs → AreRefusals l folder f changes (before ++ rs)) → IfSome o (λ f. RefusesFile own changed (f (changed_file_path folder changed)) (option_map (λ refusal. refusal.why) r))
     → IfSome r (λ refusal. string_bytes refusal.path ≡ changed_file_path folder changed) → after ≡ before ++ option_to_list r
     → IfSome o (λ f. (rs : List RefusedFile) → AreRefusals l folder f (drop (i + 1) changes) rs → AreRefusals l folder f changes (after ++ rs))
-told_on None l own folder changes i changed r before after same is lt so why path joined = tt
-told_on (Some f) l own folder changes i changed r before after same is lt so why path joined =
+refusals_on None l own folder changes i changed r before after same is lt so why path joined = tt
+refusals_on (Some f) l own folder changes i changed r before after same is lt so why path joined =
     let here : IsRefusal l folder f changed r = subst (λ k. IsRefusal k folder f changed r) same (is_refusal_of own folder f changed r why path) in
-    λ rs more. subst (λ told. AreRefusals l folder f changes told) (sym (ap (λ told. told ++ rs) joined ∙ append_assoc before (option_to_list r) rs))
+    λ rs more. subst (λ refused. AreRefusals l folder f changes refused) (sym (ap (λ refused. refused ++ rs) joined ∙ append_assoc before (option_to_list r) rs))
     (so (option_to_list r ++ rs) (subst (λ cs. AreRefusals l folder f cs (option_to_list r ++ rs)) (sym (next_item changes i changed is lt)) (r, rs, here, more, refl)))
 
--- all files are told of
-pub all_told : (o : Option Files) (l : Language) (folder : Folder) (changes : List Changed) (i : ℕ) (told : List RefusedFile) → drop i changes ≡ [] → IfSome o (λ f. (rs : List RefusedFile) → AreRefusals l folder f (drop i changes) rs → AreRefusals l folder f changes (told ++ rs))
-    → IfSome o (λ f. AreRefusals l folder f changes told)
-all_told None l folder changes i told none so = tt
-all_told (Some f) l folder changes i told none so = subst (λ rs. AreRefusals l folder f changes rs) (append-nil told) (so [] (subst (λ cs. AreRefusals l folder f cs []) (sym none) refl))
+-- all refused files are reported
+pub all_refusals : (o : Option Files) (l : Language) (folder : Folder) (changes : List Changed) (i : ℕ) (refused : List RefusedFile) → drop i changes ≡ [] → IfSome o (λ f. (rs : List RefusedFile) → AreRefusals l folder f (drop i changes) rs → AreRefusals l folder f changes (refused ++ rs))
+    → IfSome o (λ f. AreRefusals l folder f changes refused)
+all_refusals None l folder changes i refused none so = tt
+all_refusals (Some f) l folder changes i refused none so = subst (λ rs. AreRefusals l folder f changes rs) (append-nil refused) (so [] (subst (λ cs. AreRefusals l folder f cs []) (sym none) refl))

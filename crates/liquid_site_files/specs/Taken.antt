@@ -10,7 +10,7 @@ use Rattle.liquid_json.specs.Json.{data_of}
 use Rattle.liquid_site.specs.Contents.{Contents}
 use Rattle.liquid_site.specs.Steps.{Step, set_page, remove_page, set_partial, remove_partial}
 use Rattle.liquid_site.specs.Steps.{stepped}
-use Rattle.liquid_disk.specs.Files.{File, Files, gone, holds, unread}
+use Rattle.liquid_disk.specs.Files.{File, Files, gone, holds, unreadable}
 use Rattle.liquid_site_files.specs.Paths.{changed_file_path}
 use Rattle.liquid_site_files.specs.declared.folder.Changed.{Changed}
 use Rattle.liquid_site_files.specs.declared.folder.Changed.TheVariants.{Page, Partial, Data}
@@ -22,7 +22,7 @@ abbrev pub TakesTemplate : Language → (Nodes → Step) → Step → File → C
 TakesTemplate l set remove (holds source) c d =
     ((t : Nodes) × IsOnlyTree l t source × (d ≡ stepped (set t) c)) ⊎ (HasNoTree l source × (d ≡ c))
 TakesTemplate l set remove gone c d = d ≡ stepped remove c
-TakesTemplate l set remove unread c d = d ≡ c
+TakesTemplate l set remove unreadable c d = d ≡ c
 
 -- the contents with these data; a fault changes nothing
 abbrev pub contents_with_data : Result Pairs ErrorKind → Contents → Contents
@@ -34,7 +34,7 @@ contents_with_data (Err kind) c = c
 abbrev pub TakesData : File → Contents → Contents → Type 0
 TakesData (holds source) c d = d ≡ contents_with_data (data_of source) c
 TakesData gone c d = d ≡ c
-TakesData unread c d = d ≡ c
+TakesData unreadable c d = d ≡ c
 
 abbrev pub TakesFile : Language → Changed → File → Contents → Contents → Type 0
 TakesFile l (Page name) file = TakesTemplate l (set_page (string_bytes name))

@@ -42,7 +42,7 @@ KeepsOtherFiles out ps old (Some new) = (q : Text) → is_page_path out ps q ≡
 abbrev pub unwritten_message : Text → Text
 unwritten_message path = codes "the file `" ++ path ++ codes "` can't be written"
 
--- the writing ended at a page whose file was refused, and which is told by its path: this file held
+-- the writing ended at a page whose file was refused, and the message has its path: this file held
 -- another text and may hold anything, those of the pages in front hold their texts, and all others
 -- are as they were
 pub record IsUnwritten (out : Text) (ps : Pages) (old : Files) (new : Option Files)
@@ -53,8 +53,8 @@ pub record IsUnwritten (out : Text) (ps : Pages) (old : Files) (new : Option Fil
   pub all : ps ≡ front ++ page ∷ back
   pub needed : is_held (all_written out front old (out ++ page.0)) page.1.text ≡ false
   pub left : ChangesAt (out ++ page.0) (all_written out front old) new
-  pub told : option_map string_bytes e.message ≡ Some (unwritten_message (out ++ page.0))
+  pub message : option_map string_bytes e.message ≡ Some (unwritten_message (out ++ page.0))
 
--- the page that isn't written, where that is the fault that is told
+-- the page that isn't written, where that is the fault that is reported
 abbrev pub TellsUnwritten : Text → Pages → Files → Option Files → Error → Type 0
 TellsUnwritten out ps old new e = MatchBool (is_memory e.kind) ⊤ (IsUnwritten out ps old new e)

@@ -23,7 +23,7 @@ use std::alloc::{AllocError, Global};
 #[derive(Drop)]
 pub enum RefusalReason {
     /// It can't be read, isn't UTF-8, or is the data's file and gone.
-    Unread,
+    Unreadable,
     /// Its text is no template, or no data.
     Fault(Error),
 }
@@ -45,7 +45,7 @@ pub(crate) enum FileState {
     /// A file with this text.
     Text(String),
     /// A file that can't be read.
-    Unread,
+    Unreadable,
 }
 
 /// Takes what stands at the path of a changed file. A file that is gone takes its page or partial
@@ -86,7 +86,7 @@ fn found_at<D: Disk>(disk: &D, path: &str) -> Result<FileState>
     match disk.read(path) {
         Ok(Some(text)) => Ok(FileState::Text(text)),
         Ok(None) => Ok(FileState::Gone),
-        Err(DiskFault::Refused) => Ok(FileState::Unread),
+        Err(DiskFault::Refused) => Ok(FileState::Unreadable),
         Err(DiskFault::Memory) => Err(Error::from(AllocError)),
     }
 }
@@ -131,7 +131,7 @@ fn take_page(
     match found {
         FileState::Text(text) => apply(site, Change::SetPage(own, text)),
         FileState::Gone => apply(site, Change::RemovePage(own)),
-        FileState::Unread => Ok(Some(RefusalReason::Unread)),
+        FileState::Unreadable => Ok(Some(RefusalReason::Unreadable)),
     }
 }
 
@@ -153,7 +153,7 @@ fn take_partial(
     match found {
         FileState::Text(text) => apply(site, Change::SetPartial(own, text)),
         FileState::Gone => apply(site, Change::RemovePartial(own)),
-        FileState::Unread => Ok(Some(RefusalReason::Unread)),
+        FileState::Unreadable => Ok(Some(RefusalReason::Unreadable)),
     }
 }
 
@@ -173,7 +173,7 @@ fn apply(site: &mut Site, change: Change) -> Result<Option<RefusalReason>>
 /// A fault of a file's text is a refusal of this file. Without memory there is no answer.
 fn refused(error: Error) -> Result<Option<RefusalReason>>
     ensures fault { IfOk result (λ why. why ≡ Some (RefusalReason.Fault error)) }
-    ensures told { IfOk result (λ _. is_memory error.kind ≡ false) }
+    ensures not_memory { IfOk result (λ _. is_memory error.kind ≡ false) }
     ensures same { IfErr result (λ e. e ≡ error) }
     ensures memory { IfErr result (λ e. e.kind ≡ ErrorKind.Memory) }
 {
@@ -192,7 +192,7 @@ fn take_data(alloc: Global, site: &mut Site, found: FileState) -> Result<Option<
     ensures memory { IfErr result (λ e. e.kind ≡ ErrorKind.Memory) }
 {
     let FileState::Text(text) = found else {
-        return Ok(Some(RefusalReason::Unread));
+        return Ok(Some(RefusalReason::Unreadable));
     };
     match data_from_json(alloc, text.as_str()) {
         Ok(data) => {

@@ -30,7 +30,7 @@ chain_none b chained ls (level r f k ∷ ms) cur now t e h = absurd h
 pub begins_step : (o : Opening) (ls : List Level) (cur : Nodes) → block_depth ls < 200 → to_begin o ls cur ≡ Some (level (begun o) cur false ∷ ls, no_nodes)
 begins_step o ls cur room = ap (λ (x : Bool). cond x (Some (level (begun o) cur false ∷ ls, no_nodes)) None) (some_room (block_depth ls) room)
 
--- a block that is opened behind an `elsif`
+-- a block that is opened after an `elsif`
 pub elsif_opens : (r : Result (Unit {0}) ParseError) (b was : Builder) (block : Block) (n : code.Node) (read : Option State) (s : State) → IsMemory r → read ≡ Some (level (begun (opening block First n)) s.1 true ∷ s.0, no_nodes)
     → OnOk r (b.depth ≡ was.depth) → OnOk r ((ls : List Level) (cur : Nodes) → IsStack was ls cur → Begins block First true n ls cur b) → IsBuilding was s.0 s.1 → AdvancesTo read b r
 elsif_opens (Ok u) b was block n read s memory is deep opens built = ((level (begun (opening block First n)) s.1 true ∷ s.0, no_nodes), is, (opens s.0 s.1 built.0, deep ∙ built.1))

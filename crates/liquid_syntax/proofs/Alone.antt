@@ -1,4 +1,4 @@
--- A word or a value, and nothing behind it.
+-- A word or a value, and nothing after it.
 use Rattle.std.proofs.Common.{◌≡◌, List, [], ◌∷◌, Bool, true, false, Option, Some, None, refl, sym, ap, ◌∙◌}
 use Rattle.std.specs.Option.{option_and_then, option_map}
 use Rattle.liquid_core.specs.Expression.{Expression}
@@ -16,7 +16,7 @@ use Rattle.liquid_evaluation.specs.Tree.{case_of}
 use Rattle.liquid_syntax.specs.inside.Classifies.{ReadsBlock}
 use Rattle.liquid_syntax.specs.Classification.{case_for, many_or}
 use Rattle.liquid_language.specs.declared.block.Block.TheVariants.{Case}
-use Rattle.liquid_syntax.specs.declared.build.Stage.TheVariants.{Unkept}
+use Rattle.liquid_syntax.specs.declared.build.Stage.TheVariants.{CaseHead}
 use Rattle.liquid_syntax.proofs.Printed.{first_word}
 use Rattle.liquid_syntax.proofs.TokenLaws.{first_value}
 
@@ -53,6 +53,6 @@ pub value_more : (ts : List Token) (x : Expression) (rest : List Token) → Some
 value_more ts x rest h e = ap (option_and_then alone) (sym h) ∙ (alone_at x rest false e).1 refl
 
 -- the items of a `case` are refused
-pub case_faulted : (e : ParseError) (ts : List Token) → IsOfKind Expected e → value_alone ts ≡ None → ReadsBlock Case Unkept (many_or Case (case_for ts)) (Err e)
+pub case_faulted : (e : ParseError) (ts : List Token) → IsOfKind Expected e → value_alone ts ≡ None → ReadsBlock Case CaseHead (many_or Case (case_for ts)) (Err e)
 case_faulted errors.Memory ts kind h = tt
 case_faulted (errors.Fault f) ts kind h = ap (λ (o : Option Expression). many_or Case (option_map (λ x ws o. case_of x ws o) o)) h

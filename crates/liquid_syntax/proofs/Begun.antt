@@ -31,10 +31,10 @@ kind_kept b s k (Ok n) h = tt
 kind_kept b s k (Err errors.Memory) h = tt
 kind_kept b s k (Err (errors.Fault f)) h = h
 
-place_kept : (b : Block) (s : Stage) (left : ℕ) (r : Result code.Node ParseError) → FaultsAt left r → FaultsAt left (block_start b s r)
-place_kept b s left (Ok n) h = tt
-place_kept b s left (Err errors.Memory) h = tt
-place_kept b s left (Err (errors.Fault f)) h = h
+place_kept : (b : Block) (s : Stage) (remaining : ℕ) (r : Result code.Node ParseError) → FaultsAt remaining r → FaultsAt remaining (block_start b s r)
+place_kept b s remaining (Ok n) h = tt
+place_kept b s remaining (Err errors.Memory) h = tt
+place_kept b s remaining (Err (errors.Fault f)) h = h
 
 module _ (b : Block) (s : Stage) (r : Result code.Node ParseError) (q : Result Statement ParseError) (is : q ≡ block_start b s r) where
   pub begins_as : (l : nesting.Statement) → ReadsBlock b s l r → Classifies l q
@@ -43,5 +43,5 @@ module _ (b : Block) (s : Stage) (r : Result code.Node ParseError) (q : Result S
   pub begins_kind : (k : FaultKind) → FaultsAs k r → FaultsAs k q
   begins_kind k h = subst (FaultsAs k) (sym is) (kind_kept b s k r h)
 
-  pub begins_place : (left : ℕ) → FaultsAt left r → FaultsAt left q
-  begins_place left h = subst (FaultsAt left) (sym is) (place_kept b s left r h)
+  pub begins_place : (remaining : ℕ) → FaultsAt remaining r → FaultsAt remaining q
+  begins_place remaining h = subst (FaultsAt remaining) (sym is) (place_kept b s remaining r h)

@@ -30,24 +30,24 @@ none_left (i ∷ is) h = let e : nat_eq (suc (length is)) 0 ≡ false = search r
 
 -- ---- arguments
 
--- what was read, behind the arguments xs
-pub behind : List Expression → Option Called → Option Called
-behind xs o = option_map (λ c. (xs ++ c.0, c.1)) o
+-- what was read, after the arguments xs
+pub with_front : List Expression → Option Called → Option Called
+with_front xs o = option_map (λ c. (xs ++ c.0, c.1)) o
 
-pub behind_nothing : (o : Option Called) → o ≡ behind [] o
-unfolding behind
-behind_nothing None = refl
-behind_nothing (Some c) = refl
+pub after_nothing : (o : Option Called) → o ≡ with_front [] o
+unfolding with_front
+after_nothing None = refl
+after_nothing (Some c) = refl
 
-behind_last : (xs : List Expression) (x : Expression) (o : Option Called) → behind xs (one_argument x o) ≡ behind (xs ++ (x ∷ [])) o
-unfolding behind
-behind_last xs x None = refl
-behind_last xs x (Some c) = ap (λ ys. Some (ys, c.1)) (sym (append_assoc xs (x ∷ []) c.0))
+after_last : (xs : List Expression) (x : Expression) (o : Option Called) → with_front xs (one_argument x o) ≡ with_front (xs ++ (x ∷ [])) o
+unfolding with_front
+after_last xs x None = refl
+after_last xs x (Some c) = ap (λ ys. Some (ys, c.1)) (sym (append_assoc xs (x ∷ []) c.0))
 
-behind_none : (xs : List Expression) (o : Option (List FilterCall)) → behind xs (no_arguments o) ≡ option_map (λ calls. (xs, calls)) o
-unfolding behind
-behind_none xs None = refl
-behind_none xs (Some calls) = ap (λ ys. Some (ys, calls)) (append-nil xs)
+after_none : (xs : List Expression) (o : Option (List FilterCall)) → with_front xs (no_arguments o) ≡ option_map (λ calls. (xs, calls)) o
+unfolding with_front
+after_none xs None = refl
+after_none xs (Some calls) = ap (λ ys. Some (ys, calls)) (append-nil xs)
 
 module _ (known : Filters) where
   not_colon_by : (t : Token) (ts : List Token) (b : Bool) → is_symbol Colon t ≡ b → cond b (Some ts) None ≡ None → called_of known (t ∷ ts) ≡ no_arguments (filters_of known (t ∷ ts))
@@ -98,31 +98,31 @@ module _ (known : Filters) where
   arguments_first (range x y ∷ ts) = refl
   arguments_first (symbol s ∷ ts) = refl
 
-  pub no_value : (xs : List Expression) (ts : List Token) → value_first ts ≡ None → behind xs (arguments_of known ts) ≡ None
-  unfolding behind
-  no_value xs ts h = ap (behind xs) (arguments_first ts ∙ ap (option_and_then argument_first) h)
+  pub no_value : (xs : List Expression) (ts : List Token) → value_first ts ≡ None → with_front xs (arguments_of known ts) ≡ None
+  unfolding with_front
+  no_value xs ts h = ap (with_front xs) (arguments_first ts ∙ ap (option_and_then argument_first) h)
 
-  pub one_argument_more : (xs : List Expression) (x : Expression) (all ts rest : List Token) → value_first all ≡ Some (x, ts) → past Comma ts ≡ Some rest → behind xs (arguments_of known all) ≡ behind (xs ++ (x ∷ [])) (arguments_of known rest)
-  one_argument_more xs x all ts rest e h = ap (behind xs) (arguments_first all ∙ ap (option_and_then argument_first) e) ∙ behind_last xs x (further_of known ts) ∙ ap (behind (xs ++ (x ∷ []))) (comma ts rest h)
+  pub one_argument_more : (xs : List Expression) (x : Expression) (all ts rest : List Token) → value_first all ≡ Some (x, ts) → past Comma ts ≡ Some rest → with_front xs (arguments_of known all) ≡ with_front (xs ++ (x ∷ [])) (arguments_of known rest)
+  one_argument_more xs x all ts rest e h = ap (with_front xs) (arguments_first all ∙ ap (option_and_then argument_first) e) ∙ after_last xs x (further_of known ts) ∙ ap (with_front (xs ++ (x ∷ []))) (comma ts rest h)
 
-  pub last_argument : (xs : List Expression) (x : Expression) (all ts : List Token) → value_first all ≡ Some (x, ts) → past Comma ts ≡ None → behind xs (arguments_of known all) ≡ option_map (λ calls. (xs ++ (x ∷ []), calls)) (filters_of known ts)
+  pub last_argument : (xs : List Expression) (x : Expression) (all ts : List Token) → value_first all ≡ Some (x, ts) → past Comma ts ≡ None → with_front xs (arguments_of known all) ≡ option_map (λ calls. (xs ++ (x ∷ []), calls)) (filters_of known ts)
   last_argument xs x all ts e h =
-      ap (behind xs) (arguments_first all ∙ ap (option_and_then argument_first) e) ∙ behind_last xs x (further_of known ts) ∙ ap (behind (xs ++ (x ∷ []))) (not_comma ts h) ∙ behind_none (xs ++ (x ∷ [])) (filters_of known ts)
+      ap (with_front xs) (arguments_first all ∙ ap (option_and_then argument_first) e) ∙ after_last xs x (further_of known ts) ∙ ap (with_front (xs ++ (x ∷ []))) (not_comma ts h) ∙ after_none (xs ++ (x ∷ [])) (filters_of known ts)
 
   -- ---- filters
 
-  -- what was read, behind the filters that stood before
-  pub filters_behind : List FilterCall → Option (List FilterCall) → Option (List FilterCall)
-  filters_behind before o = option_map (λ calls. before ++ calls) o
+  -- what was read, after the filters that stood before
+  pub filters_after : List FilterCall → Option (List FilterCall) → Option (List FilterCall)
+  filters_after before o = option_map (λ calls. before ++ calls) o
 
-  pub filters_nothing : (o : Option (List FilterCall)) → o ≡ filters_behind [] o
-  unfolding filters_behind
+  pub filters_nothing : (o : Option (List FilterCall)) → o ≡ filters_after [] o
+  unfolding filters_after
   filters_nothing None = refl
   filters_nothing (Some calls) = refl
 
-  pub no_filter : (before : List FilterCall) (ts : List Token) → ts ≡ [] → filters_behind before (filters_of known ts) ≡ Some before
-  unfolding filters_behind filters_of
-  no_filter before ts e = ap (λ ts. filters_behind before (filters_of known ts)) e ∙ ap Some (append-nil before)
+  pub no_filter : (before : List FilterCall) (ts : List Token) → ts ≡ [] → filters_after before (filters_of known ts) ≡ Some before
+  unfolding filters_after filters_of
+  no_filter before ts e = ap (λ ts. filters_after before (filters_of known ts)) e ∙ ap Some (append-nil before)
 
   abbrev pub called_with : Text × List Token → Option (List FilterCall)
   called_with w = option_and_then (call_with known w.0) (called_of known w.1)
@@ -145,28 +145,28 @@ module _ (known : Filters) where
   filters_first [] o some h = absurd (some refl)
   filters_first (t ∷ ts) o some h = bar_by t ts (is_symbol Bar t) o refl h
 
-  pub no_bar : (before : List FilterCall) (ts : List Token) → (length ts ≡ 0 → ⊥) → past Bar ts ≡ None → filters_behind before (filters_of known ts) ≡ None
-  unfolding filters_behind
-  no_bar before ts some h = ap (filters_behind before) (filters_first ts None some h)
+  pub no_bar : (before : List FilterCall) (ts : List Token) → (length ts ≡ 0 → ⊥) → past Bar ts ≡ None → filters_after before (filters_of known ts) ≡ None
+  unfolding filters_after
+  no_bar before ts some h = ap (filters_after before) (filters_first ts None some h)
 
   module _ (before : List FilterCall) (all ts : List Token) (some : length all ≡ 0 → ⊥) (barred : past Bar all ≡ Some ts) where
     at_bar : filters_of known all ≡ filter_call_after_bar known ts
     at_bar = filters_first all (Some ts) some barred
 
-    pub filter_refused : (e : ParseError) (whole : Option (List FilterCall)) → whole ≡ filters_behind before (filters_of known all) → Fails e (filter_call_after_bar known ts) → Fails e whole
-    unfolding filters_behind
+    pub filter_refused : (e : ParseError) (whole : Option (List FilterCall)) → whole ≡ filters_after before (filters_of known all) → Fails e (filter_call_after_bar known ts) → Fails e whole
+    unfolding filters_after
     filter_refused errors.Memory whole g h = tt
-    filter_refused (errors.Fault f) whole g h = g ∙ ap (filters_behind before) (at_bar ∙ h)
+    filter_refused (errors.Fault f) whole g h = g ∙ ap (filters_after before) (at_bar ∙ h)
 
-    one_left : (o : Option (List FilterCall)) (c : FilterCall) → filters_behind before (option_map (λ calls. c ∷ calls) o) ≡ filters_behind (before ++ (c ∷ [])) o
-    unfolding filters_behind
+    one_left : (o : Option (List FilterCall)) (c : FilterCall) → filters_after before (option_map (λ calls. c ∷ calls) o) ≡ filters_after (before ++ (c ∷ [])) o
+    unfolding filters_after
     one_left None c = refl
     one_left (Some calls) c = ap (λ cs. Some cs) (sym (append_assoc before (c ∷ []) calls))
 
-    pub one_filter : (c : FilterCall) (new : List Token) → filter_call_after_bar known ts ≡ option_map (λ calls. c ∷ calls) (filters_of known new) → filters_behind before (filters_of known all) ≡ filters_behind (before ++ (c ∷ [])) (filters_of known new)
-    one_filter c new h = ap (filters_behind before) (at_bar ∙ h) ∙ one_left (filters_of known new) c
+    pub one_filter : (c : FilterCall) (new : List Token) → filter_call_after_bar known ts ≡ option_map (λ calls. c ∷ calls) (filters_of known new) → filters_after before (filters_of known all) ≡ filters_after (before ++ (c ∷ [])) (filters_of known new)
+    one_filter c new h = ap (filters_after before) (at_bar ∙ h) ∙ one_left (filters_of known new) c
 
-  -- ---- a filter behind its `|`
+  -- ---- a filter after its `|`
 
   pub no_name : (ts : List Token) → word_first ts ≡ None → filter_call_after_bar known ts ≡ None
   no_name ts h = call_first ts ∙ ap (option_and_then called_with) h
@@ -179,7 +179,7 @@ module _ (known : Filters) where
     call_refused errors.Memory h = tt
     call_refused (errors.Fault f) h = named_call None h
 
-    -- behind a filter with these arguments
+    -- after a filter with these arguments
     with_call : (xs : List Expression) (o : Option (List FilterCall)) (call : Option FilterCall) → accepted_call name (listed known name) xs ≡ call → called_of known next ≡ option_map (λ calls. (xs, calls)) o
         → filter_call_after_bar known ts ≡ option_and_then (λ calls. option_map (λ c. c ∷ calls) call) o
     with_call xs None call e h = named_call None h

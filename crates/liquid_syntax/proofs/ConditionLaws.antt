@@ -6,7 +6,7 @@ use Rattle.std.specs.Option.{option_map}
 use Rattle.liquid_model.specs.Texts.{Text}
 use Rattle.liquid_core.specs.Expression.{Expression, literal, variable, Steps, no_steps, step}
 use Rattle.liquid_syntax.specs.Conditions.{and_word, or_word, IsOperator, equals, not_equals, less_or_greater, less, greater, less_or_equal, greater_or_equal, contains, IsAtom, bare_value, comparison, IsConjunction, one_atom, and_more, IsCondition, one_conjunction, or_more}
-use Rattle.liquid_syntax.specs.ConditionReading.{operator_of, symbol_operator, with_atom, atom_joined, compared_or, condition_of, behind_value, behind_operator, behind_atom}
+use Rattle.liquid_syntax.specs.ConditionReading.{operator_of, symbol_operator, with_atom, atom_joined, compared_or, condition_of, after_value, after_operator, after_atom}
 use Rattle.liquid_lexer.specs.Tokens.{Token, value, range, symbol, word, is_word}
 use Rattle.liquid_evaluation.specs.Tree.{Atom, bare, compared, Condition}
 use Rattle.liquid_evaluation.specs.declared.comparison.ComparisonOperator.{ComparisonOperator}
@@ -29,7 +29,7 @@ operator_again contains = refl
 
 -- what no operator begins
 abbrev Stops : List Token → Type 0
-Stops rest = (x : Expression) → behind_value rest x ≡ behind_atom rest (bare x)
+Stops rest = (x : Expression) → after_value rest x ≡ after_atom rest (bare x)
 
 stops_at_end : Stops []
 unfolding condition_of
@@ -43,13 +43,13 @@ stops_at_or : (ts : List Token) → Stops (or_word ∷ ts)
 unfolding condition_of
 stops_at_or ts x = refl
 
-atom_again : {a : Atom} {ts : List Token} (rest : List Token) → Stops rest → IsAtom a ts → condition_of (ts ++ rest) ≡ behind_atom rest a
+atom_again : {a : Atom} {ts : List Token} (rest : List Token) → Stops rest → IsAtom a ts → condition_of (ts ++ rest) ≡ after_atom rest a
 unfolding condition_of
 atom_again rest stops (bare_value x) = stops x
 atom_again rest stops (comparison {operator = o} {t = t} x y is) =
-    ap (λ p. compared_or p (behind_operator (value y ∷ rest) x) (atom_joined (bare x) t (condition_of (value y ∷ rest)))) (operator_again is)
+    ap (λ p. compared_or p (after_operator (value y ∷ rest) x) (atom_joined (bare x) t (condition_of (value y ∷ rest)))) (operator_again is)
 
--- what ends a conjunction, and the conjunctions behind it
+-- what ends a conjunction, and the conjunctions after it
 pub data Ends : List Token → Option Condition → Type 0 where
   at_end : Ends [] (Some [])
   at_or : (ts : List Token) → Ends (or_word ∷ ts) (condition_of ts)
@@ -58,7 +58,7 @@ ends_stop : {rest : List Token} {o : Option Condition} → Ends rest o → Stops
 ends_stop at_end = stops_at_end
 ends_stop (at_or ts) = stops_at_or ts
 
-last_atom : (a : Atom) {rest : List Token} {o : Option Condition} → Ends rest o → behind_atom rest a ≡ option_map (λ cs. (a ∷ []) ∷ cs) o
+last_atom : (a : Atom) {rest : List Token} {o : Option Condition} → Ends rest o → after_atom rest a ≡ option_map (λ cs. (a ∷ []) ∷ cs) o
 unfolding condition_of
 last_atom a at_end = refl
 last_atom a (at_or ts) = refl
@@ -67,16 +67,16 @@ put_before : (a : Atom) (more : List Atom) (o : Option Condition) → option_map
 put_before a more None = refl
 put_before a more (Some cs) = refl
 
-behind_and : (a : Atom) (ts : List Token) → behind_atom (and_word ∷ ts) a ≡ option_map (with_atom a) (condition_of ts)
+after_and : (a : Atom) (ts : List Token) → after_atom (and_word ∷ ts) a ≡ option_map (with_atom a) (condition_of ts)
 unfolding condition_of
-behind_and a ts = refl
+after_and a ts = refl
 
 conjunction_again : {more : List Atom} {ts rest : List Token} {o : Option Condition} → Ends rest o → IsConjunction more ts → condition_of (ts ++ rest) ≡ option_map (λ cs. more ∷ cs) o
 conjunction_again {rest = rest} e (one_atom {a = a} is) = atom_again rest (ends_stop e) is ∙ last_atom a e
 conjunction_again {rest = rest} {o = o} e (and_more {a = a} {more = rest_of} {ts = ts} {us = us} is others) =
     ap condition_of (append_assoc ts (and_word ∷ us) rest)
     ∙ atom_again (and_word ∷ (us ++ rest)) (stops_at_and (us ++ rest)) is
-    ∙ behind_and a (us ++ rest)
+    ∙ after_and a (us ++ rest)
     ∙ ap (option_map (with_atom a)) (conjunction_again e others)
     ∙ put_before a rest_of o
 
@@ -143,9 +143,9 @@ joined_takes : (a : Atom) (t : Token) (ts us : List Token) (c : Condition) → a
 joined_takes a t ts us c h go is = joined_by a t ts us c (is_word (codes "and") t) refl h go is
 
 compared_by : (x : Expression) (t : Token) (ts : List Token) (c : Condition) (o : Option ComparisonOperator) → operator_of t ≡ o
-    → compared_or o (behind_operator ts x) (atom_joined (bare x) t (condition_of ts)) ≡ Some c
+    → compared_or o (after_operator ts x) (atom_joined (bare x) t (condition_of ts)) ≡ Some c
     → ((d : Condition) → condition_of ts ≡ Some d → IsCondition d ts)
-    → ((p : ComparisonOperator) → behind_operator ts x p ≡ Some c → IsOperator p t → IsCondition c (value x ∷ t ∷ ts))
+    → ((p : ComparisonOperator) → after_operator ts x p ≡ Some c → IsOperator p t → IsCondition c (value x ∷ t ∷ ts))
     → IsCondition c (value x ∷ t ∷ ts)
 compared_by x t ts c None e h go right = joined_takes (bare x) t ts (value x ∷ []) c h go (bare_value x)
 compared_by x t ts c (Some p) e h go right = right p h (operator_is t p e)
@@ -159,16 +159,16 @@ mutual
   condition_takes (range x y ∷ ts) c h = absurd cc
   condition_takes (symbol s ∷ ts) c h = absurd cc
 
-  value_takes : (ts : List Token) (x : Expression) (c : Condition) → behind_value ts x ≡ Some c → IsCondition c (value x ∷ ts)
+  value_takes : (ts : List Token) (x : Expression) (c : Condition) → after_value ts x ≡ Some c → IsCondition c (value x ∷ ts)
   value_takes [] x c h = subst (λ c. IsCondition c (value x ∷ [])) (from_some h) (one_conjunction (one_atom (bare_value x)))
   value_takes (t ∷ ts) x c h = compared_by x t ts c (operator_of t) refl h (condition_takes ts) (λ p g is. right_takes ts x p t c g is)
 
-  right_takes : (ts : List Token) (x : Expression) (o : ComparisonOperator) (t : Token) (c : Condition) → behind_operator ts x o ≡ Some c → IsOperator o t → IsCondition c (value x ∷ t ∷ ts)
+  right_takes : (ts : List Token) (x : Expression) (o : ComparisonOperator) (t : Token) (c : Condition) → after_operator ts x o ≡ Some c → IsOperator o t → IsCondition c (value x ∷ t ∷ ts)
   right_takes [] x o t c h is = absurd cc
   right_takes (value y ∷ ts) x o t c h is = atom_takes ts (compared x o y) (value x ∷ t ∷ value y ∷ []) c h (comparison x y is)
   right_takes (range y z ∷ ts) x o t c h is = absurd cc
   right_takes (symbol s ∷ ts) x o t c h is = absurd cc
 
-  atom_takes : (ts : List Token) (a : Atom) (us : List Token) (c : Condition) → behind_atom ts a ≡ Some c → IsAtom a us → IsCondition c (us ++ ts)
+  atom_takes : (ts : List Token) (a : Atom) (us : List Token) (c : Condition) → after_atom ts a ≡ Some c → IsAtom a us → IsCondition c (us ++ ts)
   atom_takes [] a us c h is = subst (λ c. IsCondition c (us ++ [])) (from_some h) (subst (IsCondition ((a ∷ []) ∷ [])) (sym (append-nil us)) (one_conjunction (one_atom is)))
   atom_takes (t ∷ ts) a us c h is = joined_takes a t ts us c h (condition_takes ts) is

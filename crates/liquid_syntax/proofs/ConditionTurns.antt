@@ -4,7 +4,7 @@ use Rattle.std.proofs.lemmas.List.{append-nil}
 use Rattle.std.specs.Option.{option_and_then, option_map}
 use Rattle.liquid_core.specs.Expression.{Expression}
 use Rattle.liquid_syntax.specs.inside.ConditionAnswers.{operator_before, operator_first, before_alternatives}
-use Rattle.liquid_syntax.specs.ConditionReading.{operator_of, with_atom, atom_joined, compared_or, condition_of, behind_value, behind_operator, behind_atom, alternatives_of}
+use Rattle.liquid_syntax.specs.ConditionReading.{operator_of, with_atom, atom_joined, compared_or, condition_of, after_value, after_operator, after_atom, alternatives_of}
 use Rattle.liquid_lexer.specs.Tokens.{Token, value, range, symbol, value_first, is_word, past_word}
 use Rattle.liquid_lexer.proofs.WordLaws.{from_some}
 use Rattle.liquid_evaluation.specs.Tree.{Atom, bare, compared, Condition}
@@ -12,20 +12,20 @@ use Rattle.liquid_evaluation.specs.declared.comparison.ComparisonOperator.{Compa
 
 -- ---- an atom
 
-abbrev behind_first : Expression × List Token → Option Condition
-behind_first x = behind_value x.1 x.0
+abbrev after_first : Expression × List Token → Option Condition
+after_first x = after_value x.1 x.0
 
-condition_first : (ts : List Token) → condition_of ts ≡ option_and_then behind_first (value_first ts)
+condition_first : (ts : List Token) → condition_of ts ≡ option_and_then after_first (value_first ts)
 unfolding condition_of
 condition_first [] = refl
 condition_first (value x ∷ ts) = refl
 condition_first (range x y ∷ ts) = refl
 condition_first (symbol s ∷ ts) = refl
 
-abbrev behind_second : Expression → ComparisonOperator → Expression × List Token → Option Condition
-behind_second x operator y = behind_atom y.1 (compared x operator y.0)
+abbrev after_second : Expression → ComparisonOperator → Expression × List Token → Option Condition
+after_second x operator y = after_atom y.1 (compared x operator y.0)
 
-operator_right : (x : Expression) (operator : ComparisonOperator) (ts : List Token) → behind_operator ts x operator ≡ option_and_then (behind_second x operator) (value_first ts)
+operator_right : (x : Expression) (operator : ComparisonOperator) (ts : List Token) → after_operator ts x operator ≡ option_and_then (after_second x operator) (value_first ts)
 unfolding condition_of
 operator_right x operator [] = refl
 operator_right x operator (value y ∷ ts) = refl
@@ -33,42 +33,42 @@ operator_right x operator (range y z ∷ ts) = refl
 operator_right x operator (symbol s ∷ ts) = refl
 
 pub no_left : (ts : List Token) → value_first ts ≡ None → condition_of ts ≡ None
-no_left ts h = condition_first ts ∙ ap (option_and_then behind_first) h
+no_left ts h = condition_first ts ∙ ap (option_and_then after_first) h
 
-no_operator_by : (x : Expression) (t : Token) (ts : List Token) (o : Option ComparisonOperator) → operator_of t ≡ o → operator_before ts o ≡ None → behind_value (t ∷ ts) x ≡ behind_atom (t ∷ ts) (bare x)
+no_operator_by : (x : Expression) (t : Token) (ts : List Token) (o : Option ComparisonOperator) → operator_of t ≡ o → operator_before ts o ≡ None → after_value (t ∷ ts) x ≡ after_atom (t ∷ ts) (bare x)
 unfolding condition_of
-no_operator_by x t ts None e h = ap (λ o. compared_or o (behind_operator ts x) (atom_joined (bare x) t (condition_of ts))) e
+no_operator_by x t ts None e h = ap (λ o. compared_or o (after_operator ts x) (atom_joined (bare x) t (condition_of ts))) e
 no_operator_by x t ts (Some operator) e h = absurd cc
 
-no_operator : (x : Expression) (ts : List Token) → operator_first ts ≡ None → behind_value ts x ≡ behind_atom ts (bare x)
+no_operator : (x : Expression) (ts : List Token) → operator_first ts ≡ None → after_value ts x ≡ after_atom ts (bare x)
 unfolding condition_of
 no_operator x [] h = refl
 no_operator x (t ∷ ts) h = no_operator_by x t ts (operator_of t) refl h
 
 operator_by : (x : Expression) (t : Token) (ts rest : List Token) (operator : ComparisonOperator) (o : Option ComparisonOperator) → operator_of t ≡ o → operator_before ts o ≡ Some (operator, rest)
-    → behind_value (t ∷ ts) x ≡ behind_operator rest x operator
+    → after_value (t ∷ ts) x ≡ after_operator rest x operator
 unfolding condition_of
 operator_by x t ts rest operator None e h = absurd cc
 operator_by x t ts rest operator (Some found) e h =
-    ap (λ o. compared_or o (behind_operator ts x) (atom_joined (bare x) t (condition_of ts))) e ∙ ap (λ (p : ComparisonOperator × List Token). behind_operator p.1 x p.0) (from_some h)
+    ap (λ o. compared_or o (after_operator ts x) (atom_joined (bare x) t (condition_of ts))) e ∙ ap (λ (p : ComparisonOperator × List Token). after_operator p.1 x p.0) (from_some h)
 
-behind_left : (x : Expression) (ts rest : List Token) (operator : ComparisonOperator) → operator_first ts ≡ Some (operator, rest) → behind_value ts x ≡ behind_operator rest x operator
-behind_left x [] rest operator h = absurd cc
-behind_left x (t ∷ ts) rest operator h = operator_by x t ts rest operator (operator_of t) refl h
+after_left : (x : Expression) (ts rest : List Token) (operator : ComparisonOperator) → operator_first ts ≡ Some (operator, rest) → after_value ts x ≡ after_operator rest x operator
+after_left x [] rest operator h = absurd cc
+after_left x (t ∷ ts) rest operator h = operator_by x t ts rest operator (operator_of t) refl h
 
 module _ (all ts : List Token) (x : Expression) (first : value_first all ≡ Some (x, ts)) where
-  pub bare_atom : operator_first ts ≡ None → condition_of all ≡ behind_atom ts (bare x)
-  bare_atom h = condition_first all ∙ ap (option_and_then behind_first) first ∙ no_operator x ts h
+  pub bare_atom : operator_first ts ≡ None → condition_of all ≡ after_atom ts (bare x)
+  bare_atom h = condition_first all ∙ ap (option_and_then after_first) first ∙ no_operator x ts h
 
   module _ (rest : List Token) (operator : ComparisonOperator) (second : operator_first ts ≡ Some (operator, rest)) where
-    at_right : condition_of all ≡ option_and_then (behind_second x operator) (value_first rest)
-    at_right = condition_first all ∙ ap (option_and_then behind_first) first ∙ behind_left x ts rest operator second ∙ operator_right x operator rest
+    at_right : condition_of all ≡ option_and_then (after_second x operator) (value_first rest)
+    at_right = condition_first all ∙ ap (option_and_then after_first) first ∙ after_left x ts rest operator second ∙ operator_right x operator rest
 
     pub no_right : value_first rest ≡ None → condition_of all ≡ None
-    no_right h = at_right ∙ ap (option_and_then (behind_second x operator)) h
+    no_right h = at_right ∙ ap (option_and_then (after_second x operator)) h
 
-    pub comparison_atom : (y : Expression) (new : List Token) → value_first rest ≡ Some (y, new) → condition_of all ≡ behind_atom new (compared x operator y)
-    comparison_atom y new h = at_right ∙ ap (option_and_then (behind_second x operator)) h
+    pub comparison_atom : (y : Expression) (new : List Token) → value_first rest ≡ Some (y, new) → condition_of all ≡ after_atom new (compared x operator y)
+    comparison_atom y new h = at_right ∙ ap (option_and_then (after_second x operator)) h
 
 -- ---- a conjunction
 
@@ -103,33 +103,33 @@ then_last : (atoms : List Atom) (a : Atom) (o : Option Condition) → atoms_then
 then_last atoms a None = refl
 then_last atoms a (Some cs) = ap (λ cs. Some cs) (with_last atoms a cs)
 
-and_by : (a : Atom) (t : Token) (ts rest : List Token) (b : Bool) → is_word (codes "and") t ≡ b → cond b (Some ts) None ≡ Some rest → behind_atom (t ∷ ts) a ≡ option_map (with_atom a) (condition_of rest)
+and_by : (a : Atom) (t : Token) (ts rest : List Token) (b : Bool) → is_word (codes "and") t ≡ b → cond b (Some ts) None ≡ Some rest → after_atom (t ∷ ts) a ≡ option_map (with_atom a) (condition_of rest)
 unfolding condition_of
 and_by a t ts rest true e h =
     let left : ts ≡ rest = cc in
     ap (λ b. cond b (option_map (with_atom a) (condition_of ts)) (option_map (λ cs. (a ∷ []) ∷ cs) (cond (is_word (codes "or") t) (condition_of ts) None))) e ∙ ap (λ ts. option_map (with_atom a) (condition_of ts)) left
 and_by a t ts rest false e h = absurd cc
 
-behind_and : (a : Atom) (ts rest : List Token) → past_word (codes "and") ts ≡ Some rest → behind_atom ts a ≡ option_map (with_atom a) (condition_of rest)
-behind_and a [] rest h = absurd cc
-behind_and a (t ∷ ts) rest h = and_by a t ts rest (is_word (codes "and") t) refl h
+after_and : (a : Atom) (ts rest : List Token) → past_word (codes "and") ts ≡ Some rest → after_atom ts a ≡ option_map (with_atom a) (condition_of rest)
+after_and a [] rest h = absurd cc
+after_and a (t ∷ ts) rest h = and_by a t ts rest (is_word (codes "and") t) refl h
 
-no_and_by : (a : Atom) (t : Token) (ts : List Token) (b : Bool) → is_word (codes "and") t ≡ b → cond b (Some ts) None ≡ None → behind_atom (t ∷ ts) a ≡ before_alternatives (a ∷ []) (alternatives_of (t ∷ ts))
+no_and_by : (a : Atom) (t : Token) (ts : List Token) (b : Bool) → is_word (codes "and") t ≡ b → cond b (Some ts) None ≡ None → after_atom (t ∷ ts) a ≡ before_alternatives (a ∷ []) (alternatives_of (t ∷ ts))
 unfolding condition_of alternatives_of
 no_and_by a t ts true e h = absurd cc
 no_and_by a t ts false e h = ap (λ b. cond b (option_map (with_atom a) (condition_of ts)) (option_map (λ cs. (a ∷ []) ∷ cs) (cond (is_word (codes "or") t) (condition_of ts) None))) e
 
-behind_last : (a : Atom) (ts : List Token) → past_word (codes "and") ts ≡ None → behind_atom ts a ≡ before_alternatives (a ∷ []) (alternatives_of ts)
+after_last : (a : Atom) (ts : List Token) → past_word (codes "and") ts ≡ None → after_atom ts a ≡ before_alternatives (a ∷ []) (alternatives_of ts)
 unfolding condition_of alternatives_of
-behind_last a [] h = refl
-behind_last a (t ∷ ts) h = no_and_by a t ts (is_word (codes "and") t) refl h
+after_last a [] h = refl
+after_last a (t ∷ ts) h = no_and_by a t ts (is_word (codes "and") t) refl h
 
-module _ (atoms : List Atom) (a : Atom) (all ts : List Token) (taken : condition_of all ≡ behind_atom ts a) where
+module _ (atoms : List Atom) (a : Atom) (all ts : List Token) (taken : condition_of all ≡ after_atom ts a) where
   pub one_atom_more : (rest : List Token) → past_word (codes "and") ts ≡ Some rest → atoms_then atoms (condition_of all) ≡ atoms_then (atoms ++ (a ∷ [])) (condition_of rest)
-  one_atom_more rest h = ap (atoms_then atoms) (taken ∙ behind_and a ts rest h) ∙ then_one_more atoms a (condition_of rest)
+  one_atom_more rest h = ap (atoms_then atoms) (taken ∙ after_and a ts rest h) ∙ then_one_more atoms a (condition_of rest)
 
   pub last_atom : past_word (codes "and") ts ≡ None → atoms_then atoms (condition_of all) ≡ before_alternatives (atoms ++ (a ∷ [])) (alternatives_of ts)
-  last_atom h = ap (atoms_then atoms) (taken ∙ behind_last a ts h) ∙ then_last atoms a (alternatives_of ts)
+  last_atom h = ap (atoms_then atoms) (taken ∙ after_last a ts h) ∙ then_last atoms a (alternatives_of ts)
 
 -- ---- a condition
 

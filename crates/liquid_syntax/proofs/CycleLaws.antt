@@ -11,7 +11,7 @@ use Rattle.liquid_lexer.specs.Tokens.{Token, value, symbol, value_first, past}
 use Rattle.liquid_lexer.specs.declared.symbol.Symbol.TheVariants.{Colon}
 use Rattle.liquid_lexer.proofs.WordLaws.{bind_some, map_some, from_some, guard_opt}
 use Rattle.liquid_evaluation.specs.Groups.{values_group}
-use Rattle.liquid_syntax.specs.Cycles.{Cycle, with_group, grouped_of, IsName, an_identifier, a_literal, IsCycle, without_name, with_name, name_alone, is_cycle_name, has_no_steps, any_values_of, named_of, behind_first, cycle_of}
+use Rattle.liquid_syntax.specs.Cycles.{Cycle, with_group, grouped_of, IsName, an_identifier, a_literal, IsCycle, without_name, with_name, name_alone, is_cycle_name, has_no_steps, any_values_of, named_of, after_first, cycle_of}
 use Rattle.liquid_syntax.specs.Repeated.{AreRepeated, no_more, one_more}
 use Rattle.liquid_syntax.specs.ValueLists.{a_comma, IsFurther, a_further, IsValuesEnd, no_value, a_last_comma, AreValues, some_values, further_of}
 use Rattle.liquid_syntax.specs.declared.value_items.Separators.TheVariants.{Commas}
@@ -55,7 +55,7 @@ named_takes name ts c h =
     let (xs, read, same) = map_some (any_values_of ts) (λ xs. (Some name, xs)) c made in
     subst (λ (c : Cycle). IsCycle c.0 c.1 (value name ∷ symbol Colon ∷ ts)) same (any_values_take name ts xs (name_is name named) read)
 
-first_takes : (x : Expression) (ts : List Token) (o : Option (List Token)) (c : Cycle) → past Colon ts ≡ o → behind_first x ts o ≡ Some c → IsCycle c.0 c.1 (value x ∷ ts)
+first_takes : (x : Expression) (ts : List Token) (o : Option (List Token)) (c : Cycle) → past Colon ts ≡ o → after_first x ts o ≡ Some c → IsCycle c.0 c.1 (value x ∷ ts)
 first_takes x ts None c e h =
     let (xs, read, same) = map_some (further_of Commas ts) (λ xs. (None, x ∷ xs)) c h in
     subst (λ (c : Cycle). IsCycle c.0 c.1 (value x ∷ ts)) same (without_name (some_values x (all_further_takes Commas xs ts read)))
@@ -83,7 +83,7 @@ named_again name xs ts is h =
 
 pub cycle_again : (name : Option Expression) (xs : List Expression) (ts : List Token) → IsCycle name xs ts → cycle_of ts ≡ Some (name, xs)
 cycle_again name xs ts (without_name (some_values {xs = ys} {ts = us} x more)) =
-    ap (behind_first x us) (no_colon ys us more)
+    ap (after_first x us) (no_colon ys us more)
     ∙ ap (λ (o : Option (List Expression)). option_map (λ xs. (None, x ∷ xs)) o) (all_further_again Commas ys us more)
 cycle_again name xs ts (with_name {name = n} {ts = us} is more) = named_again n xs us is (any_values_again xs us more)
 cycle_again name xs ts (name_alone {name = n} is) = named_again n [] [] is refl
@@ -97,7 +97,7 @@ unnamed x (Some ys) xs h = ap (λ (zs : List Expression). Some (values_group zs,
 pub unnamed_read : (ts : List Token) (x : Expression) (rest left : List Token) (xs : List Expression) (group : Text) → Some (x, rest) ≡ value_first ts → past Colon rest ≡ None → left ≡ rest
     → option_map (λ ys. x ∷ ys) (further_of Commas left) ≡ Some xs → group ≡ values_group xs → grouped_of ts ≡ Some (group, xs)
 unnamed_read ts x rest left xs group front none same read named =
-    ap (λ (o : Option (Expression × List Token)). option_map with_group (option_and_then (λ x. behind_first x.0 x.1 (past Colon x.1)) o)) (sym front)
-    ∙ ap (λ (o : Option (List Token)). option_map with_group (behind_first x rest o)) none
+    ap (λ (o : Option (Expression × List Token)). option_map with_group (option_and_then (λ x. after_first x.0 x.1 (past Colon x.1)) o)) (sym front)
+    ∙ ap (λ (o : Option (List Token)). option_map with_group (after_first x rest o)) none
     ∙ unnamed x (further_of Commas rest) xs (ap (λ (ts : List Token). option_map (λ ys. x ∷ ys) (further_of Commas ts)) (sym same) ∙ read)
     ∙ ap (λ (g : Text). Some (g, xs)) (sym named)

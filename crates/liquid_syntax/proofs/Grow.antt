@@ -9,13 +9,13 @@ use Rattle.liquid_syntax.specs.Forest.{Forest, Bodies, empty, node, no_bodies, b
 use Rattle.liquid_syntax.specs.Laid.{Flat, ends_of, laid, laid_bodies}
 use Rattle.liquid_syntax.proofs.Round as round
 use Rattle.liquid_syntax.proofs.Round.{length-laid, length-laid_bodies}
-use Rattle.liquid_syntax.specs.OpenBlocks.{append, Reading, last, first, unkept, armed, begun, to_when, context_in, ended, Level, level, context_of, block_depth, State, with_node, to_else}
+use Rattle.liquid_syntax.specs.OpenBlocks.{append, Reading, last, first, case_head, when_body, begun, to_when, context_in, ended, Level, level, context_of, block_depth, State, with_node, to_else}
 use Rattle.liquid_evaluation.specs.Tree as tree
 use Rattle.liquid_evaluation.specs.Tree.{Nodes, no_nodes, Whens, no_whens, when}
 use Rattle.liquid_syntax.specs.Flats.{case_flat, flat_of, flats, with_arms}
 use Rattle.liquid_core.specs.Expression.{Expression}
 use Rattle.std.specs.Prelude.{take, true, false}
-use Rattle.liquid_syntax.specs.inside.Building.{IsPrepared, opening, set_before_last, set_last, before_last_ended, last_ended, behind_arms, armed_with, IsCase, IsAdded, EndIsSet, BodyEnded, takes_else, takes_when, Fits, Builds, Closes, stage_context, context_at}
+use Rattle.liquid_syntax.specs.inside.Building.{IsPrepared, opening, set_before_last, set_last, before_last_ended, last_ended, after_arms, armed_with, IsCase, IsAdded, EndIsSet, BodyEnded, takes_else, takes_when, Fits, Builds, Closes, stage_context, context_at}
 use Rattle.liquid_language.specs.declared.block.Block.{Block}
 use Rattle.liquid_syntax.specs.declared.build.Builder.{Builder}
 use Rattle.liquid_language.specs.declared.block.BlockContext.{BlockContext}
@@ -23,7 +23,7 @@ use Rattle.liquid_language.specs.declared.block.BlockContext.TheVariants.{Outsid
 use Rattle.liquid_syntax.specs.declared.build.Open.{Open}
 use Rattle.liquid_syntax.specs.declared.node.Node as code
 use Rattle.liquid_syntax.specs.declared.build.Stage.{Stage}
-use Rattle.liquid_syntax.specs.declared.build.Stage.TheVariants.{First, Last, Unkept, Armed}
+use Rattle.liquid_syntax.specs.declared.build.Stage.TheVariants.{First, Last, CaseHead, WhenBody}
 
 -- ---- forests
 
@@ -87,14 +87,14 @@ ends_count k (body f bs) = omega (arith, ends_count (k + forest_size f) bs)
 
 -- ---- the `when` parts of a `case`
 
-arms_done : (make : Whens → Nodes → tree.Node) (vss : List (List Expression)) (fs : List Nodes) (o : Nodes) → length vss ≡ length fs → with_arms make vss (fs ++ o ∷ []) ≡ behind_arms make vss fs no_whens o
+arms_done : (make : Whens → Nodes → tree.Node) (vss : List (List Expression)) (fs : List Nodes) (o : Nodes) → length vss ≡ length fs → with_arms make vss (fs ++ o ∷ []) ≡ after_arms make vss fs no_whens o
 arms_done make [] [] o h = refl
 arms_done make [] (f ∷ fs) o h = absurd (omega (arith, h))
 arms_done make (vs ∷ vss) [] o h = absurd (omega (arith, h))
 arms_done make (vs ∷ vss) (f ∷ fs) o h = arms_done (λ ws o. make (when vs f ws) o) vss fs o (omega (arith, h))
 
 arms_more : (make : Whens → Nodes → tree.Node) (vss : List (List Expression)) (fs : List Nodes) (vs : List Expression) (f : Nodes) (ws : Whens) (o : Nodes) → length vss ≡ length fs
-    → behind_arms make (vss ++ vs ∷ []) (fs ++ f ∷ []) ws o ≡ behind_arms make vss fs (when vs f ws) o
+    → after_arms make (vss ++ vs ∷ []) (fs ++ f ∷ []) ws o ≡ after_arms make vss fs (when vs f ws) o
 arms_more make [] [] vs f ws o h = refl
 arms_more make [] (g ∷ fs) vs f ws o h = absurd (omega (arith, h))
 arms_more make (us ∷ vss) [] vs f ws o h = absurd (omega (arith, h))
@@ -219,15 +219,15 @@ Pauses : Flats → Open → List Open → Block → (Whens → Nodes → tree.No
 Pauses ns o os b make f k ls =
     (pre : Flats) × (x : Flat Maker) × (bs : Bodies Maker) × (o.node_index ≡ length pre) × (o.block ≡ b) × (o.chained ≡ k) × IsCase x bs (length pre + 1) make × (ns ≡ pre ++ x ∷ laid_bodies (length pre + 1) bs) × Builds pre os ls f
 
-unkept_pauses : (ns ms : Flats) (o : Open) (os : List Open) (b : Block) (make : Whens → Nodes → tree.Node) (f : Nodes) (k : Bool) (ls : List Level) (cur : Nodes) → ms ≡ take (o.node_index + 1) ns
-    → Builds ns (o ∷ os) (level (unkept b make) f k ∷ ls) cur → Pauses ms o os b make f k ls
+case_head_pauses : (ns ms : Flats) (o : Open) (os : List Open) (b : Block) (make : Whens → Nodes → tree.Node) (f : Nodes) (k : Bool) (ls : List Level) (cur : Nodes) → ms ≡ take (o.node_index + 1) ns
+    → Builds ns (o ∷ os) (level (case_head b make) f k ∷ ls) cur → Pauses ms o os b make f k ls
 unfolding Pauses
-unkept_pauses ns ms o os b make f k ls cur is (pre, x, bs, c, is_c, at, chained, (stage, block, nob, whole), e, below) =
+case_head_pauses ns ms o os b make f k ls cur is (pre, x, bs, c, is_c, at, chained, (stage, block, nob, whole), e, below) =
     let n : o.node_index + 1 ≡ suc (length pre) = omega (arith, at) in
     (pre, x, no_bodies, at, block, chained, whole, is ∙ ap (λ n. take n ns) n ∙ ap (take (suc (length pre))) e ∙ take_seam pre x (laid_bodies (length pre + 1) bs ++ laid (length pre + 1 + sizes bs) c), below)
 
 armed_pauses : (ns ms : Flats) (o : Open) (os : List Open) (b : Block) (make : Nodes → Whens → Nodes → tree.Node) (f : Nodes) (k : Bool) (ls : List Level) (cur : Nodes) → EndIsSet o.node_index ns ms
-    → Builds ns (o ∷ os) (level (armed b make) f k ∷ ls) cur → Pauses ms o os b (make cur) f k ls
+    → Builds ns (o ∷ os) (level (when_body b make) f k ∷ ls) cur → Pauses ms o os b (make cur) f k ls
 unfolding Pauses
 armed_pauses ns ms o os b make f k ls cur (old, was, set) (pre, x, bs, c, is_c, at, chained, (stage, block, t, vss, vs, y, z, count, x_is, makes), e, below) =
     let n = length pre + 1 in
@@ -251,7 +251,7 @@ armed_pauses ns ms o os b make f k ls cur (old, was, set) (pre, x, bs, c, is_c, 
     ∙ ap (λ l. armed_with t (vss ++ vs ∷ []) l ws o) (ap (λ l. bodies_of bs ++ l ∷ []) is_c ∙ sym (bodies_with bs c)) in
     (pre, new, cs, at, block, chained, (t, vss ++ vs ∷ [], z, many, refl, made), all, below)
 
--- behind it the else list begins
+-- after it the else list begins
 last_goes : (ns : Flats) (o p : Open) (os : List Open) (b : Block) (make : Whens → Nodes → tree.Node) (f : Nodes) (k : Bool) (ls : List Level)
     → p.node_index ≡ o.node_index → p.chained ≡ o.chained → p.block ≡ o.block → p.stage ≡ Last → Pauses ns o os b make f k ls → Builds ns (p ∷ os) (level (last b (make no_whens)) f k ∷ ls) no_nodes
 unfolding Pauses
@@ -277,8 +277,8 @@ last_goes ns o p os b make f k ls at' ch bl st (pre, x, bs, at, block, chained, 
 -- or a further `when`
 when_goes : (ns ms : Flats) (o p : Open) (os : List Open) (b : Block) (make : Whens → Nodes → tree.Node) (f : Nodes) (k : Bool) (ls : List Level) (vs : List Expression) (old y : Flat Maker)
     → ms ≡ slice_set ns o.node_index y → old ≡ get_or ns o.node_index old → IsAdded vs old y
-    → p.node_index ≡ o.node_index → p.chained ≡ o.chained → p.block ≡ o.block → p.stage ≡ Armed → Pauses ns o os b make f k ls
-    → Builds ms (p ∷ os) (level (armed b (λ g ws o. make (when vs g ws) o)) f k ∷ ls) no_nodes
+    → p.node_index ≡ o.node_index → p.chained ≡ o.chained → p.block ≡ o.block → p.stage ≡ WhenBody → Pauses ns o os b make f k ls
+    → Builds ms (p ∷ os) (level (when_body b (λ g ws o. make (when vs g ws) o)) f k ∷ ls) no_nodes
 unfolding Pauses
 when_goes ns ms o p os b make f k ls vs old y set was added at' ch bl st (pre, x, bs, at, block, chained, (t, vss, z, count, x_is, makes), e, below) =
     let n = length pre + 1 in
@@ -302,8 +302,8 @@ top_context (o ∷ os) = stage_context o.stage o.block
 fits_context : (o : Open) (r : Reading) (x : Flat Maker) (bs : Bodies Maker) (n : ℕ) → Fits o r x bs n → stage_context o.stage o.block ≡ context_in r
 fits_context o (last b make) x bs n (stage, block, ends, makes) = ap (λ (s : Stage). stage_context s o.block) stage ∙ ap InLast block
 fits_context o (first b make) x bs n (stage, block, none, ends, makes) = ap (λ (s : Stage). stage_context s o.block) stage ∙ ap InBody block
-fits_context o (unkept b make) x bs n h = ap (λ (s : Stage). stage_context s o.block) h.0 ∙ ap InBody h.1
-fits_context o (armed b make) x bs n h = ap (λ (s : Stage). stage_context s o.block) h.0 ∙ ap InBody h.1
+fits_context o (case_head b make) x bs n h = ap (λ (s : Stage). stage_context s o.block) h.0 ∙ ap InBody h.1
+fits_context o (when_body b make) x bs n h = ap (λ (s : Stage). stage_context s o.block) h.0 ∙ ap InBody h.1
 
 top_is : (ns : Flats) (os : List Open) (ls : List Level) (cur : Nodes) → Builds ns os ls cur → top_context os ≡ context_of ls
 unfolding top_context
@@ -347,16 +347,16 @@ else_by ns ms o p os done takes at ch bl st (level (first b make) f k ∷ ls) cu
         deep = refl;
       },
     )
-else_by ns ms o p os done takes at ch bl st (level (unkept b make) f k ∷ ls) cur h =
+else_by ns ms o p os done takes at ch bl st (level (case_head b make) f k ∷ ls) cur h =
     let d = subst (λ (s : Stage). BodyEnded s o.node_index ns ms) h.7.0 done in (
       (level (last b (make no_whens)) f k ∷ ls, no_nodes),
       record {
         read = refl;
-        built = last_goes ms o p os b make f k ls at ch bl st (unkept_pauses ns ms o os b make f k ls cur d h);
+        built = last_goes ms o p os b make f k ls at ch bl st (case_head_pauses ns ms o os b make f k ls cur d h);
         deep = refl;
       },
     )
-else_by ns ms o p os done takes at ch bl st (level (armed b make) f k ∷ ls) cur h =
+else_by ns ms o p os done takes at ch bl st (level (when_body b make) f k ∷ ls) cur h =
     let d = subst (λ (s : Stage). BodyEnded s o.node_index ns ms) h.7.0 done in (
       (level (last b (make cur no_whens)) f k ∷ ls, no_nodes),
       record {
@@ -377,23 +377,23 @@ else_on ns ms all rest now o p e e2 done takes at ch bl st ls cur h =
 -- a `when`
 when_by : (ns mid ms : Flats) (o p : Open) (os : List Open) (vs : List Expression) (old y : Flat Maker) → BodyEnded o.stage o.node_index ns mid → takes_when o.stage ≡ true
     → ms ≡ slice_set mid o.node_index y → old ≡ get_or mid o.node_index old → IsAdded vs old y
-    → p.node_index ≡ o.node_index → p.chained ≡ o.chained → p.block ≡ o.block → p.stage ≡ Armed
+    → p.node_index ≡ o.node_index → p.chained ≡ o.chained → p.block ≡ o.block → p.stage ≡ WhenBody
     → (ls : List Level) (cur : Nodes) → Builds ns (o ∷ os) ls cur → (s : State) × (to_when vs ls cur ≡ Some s) × Builds ms (p ∷ os) s.0 s.1 × (block_depth ls ≡ block_depth s.0)
 when_by ns mid ms o p os vs old y done takes set was added at ch bl st [] cur h = absurd h
 when_by ns mid ms o p os vs old y done takes set was added at ch bl st (level (last b make) f k ∷ ls) cur h =
     let no : false ≡ true = subst (λ (s : Stage). takes_when s ≡ true) h.7.0 takes in absurd cc
 when_by ns mid ms o p os vs old y done takes set was added at ch bl st (level (first b make) f k ∷ ls) cur h =
     let no : false ≡ true = subst (λ (s : Stage). takes_when s ≡ true) h.7.0 takes in absurd cc
-when_by ns mid ms o p os vs old y done takes set was added at ch bl st (level (unkept b make) f k ∷ ls) cur h =
+when_by ns mid ms o p os vs old y done takes set was added at ch bl st (level (case_head b make) f k ∷ ls) cur h =
     let d = subst (λ (s : Stage). BodyEnded s o.node_index ns mid) h.7.0 done in (
-      (level (armed b (λ g ws o. make (when vs g ws) o)) f k ∷ ls, no_nodes),
+      (level (when_body b (λ g ws o. make (when vs g ws) o)) f k ∷ ls, no_nodes),
       refl,
-      when_goes mid ms o p os b make f k ls vs old y set was added at ch bl st (unkept_pauses ns mid o os b make f k ls cur d h),
+      when_goes mid ms o p os b make f k ls vs old y set was added at ch bl st (case_head_pauses ns mid o os b make f k ls cur d h),
       refl,
     )
-when_by ns mid ms o p os vs old y done takes set was added at ch bl st (level (armed b make) f k ∷ ls) cur h =
+when_by ns mid ms o p os vs old y done takes set was added at ch bl st (level (when_body b make) f k ∷ ls) cur h =
     let d = subst (λ (s : Stage). BodyEnded s o.node_index ns mid) h.7.0 done in (
-      (level (armed b (λ g ws o. make cur (when vs g ws) o)) f k ∷ ls, no_nodes),
+      (level (when_body b (λ g ws o. make cur (when vs g ws) o)) f k ∷ ls, no_nodes),
       refl,
       when_goes mid ms o p os b (make cur) f k ls vs old y set was added at ch bl st (armed_pauses ns mid o os b make f k ls cur d h),
       refl,
@@ -401,14 +401,14 @@ when_by ns mid ms o p os vs old y done takes set was added at ch bl st (level (a
 
 pub when_on : (ns mid ms : Flats) (all rest now : List Open) (o p : Open) (vs : List Expression) (old y : Flat Maker) → all ≡ rest ++ o ∷ [] → now ≡ rest ++ p ∷ [] → BodyEnded o.stage o.node_index ns mid → takes_when o.stage ≡ true
     → ms ≡ slice_set mid o.node_index y → old ≡ get_or mid o.node_index old → IsAdded vs old y
-    → p.node_index ≡ o.node_index → p.chained ≡ o.chained → p.block ≡ o.block → p.stage ≡ Armed
+    → p.node_index ≡ o.node_index → p.chained ≡ o.chained → p.block ≡ o.block → p.stage ≡ WhenBody
     → (ls : List Level) (cur : Nodes) → Builds ns (reverse all) ls cur → (s : State) × (to_when vs ls cur ≡ Some s) × Builds ms (reverse now) s.0 s.1 × (block_depth ls ≡ block_depth s.0)
 when_on ns mid ms all rest now o p vs old y e e2 done takes set was added at ch bl st ls cur h =
     let h' = subst (λ os. Builds ns os ls cur) (ap reverse e ∙ reverse-last rest o) h in
     let r = when_by ns mid ms o p (reverse rest) vs old y done takes set was added at ch bl st ls cur h' in
     (r.0, r.1, subst (λ os. Builds ms os r.0.0 r.0.1) (sym (ap reverse e2 ∙ reverse-last rest p)) r.2, r.3)
 
--- a block ends: its last body, or another, behind which the last is empty
+-- a block ends: its last body, or another, after which the last is empty
 last_open : Open → Open
 last_open o = record { node_index = o.node_index; block = o.block; stage = Last; chained = o.chained }
 
@@ -422,10 +422,10 @@ close ns mid ms o os (last b make) f k ls cur old y done set was is h =
 close ns mid ms o os (first b make) f k ls cur old y done set was is h =
     let d = subst (λ (s : Stage). BodyEnded s o.node_index ns mid) h.7.0 done in
     close_last mid ms (last_open o) os b (make cur) f k ls no_nodes old y set was is (otherwise ns mid o (last_open o) os b make f k ls cur d.0 (before_last_ended (length ns) d.0) d.2 d.1 refl refl refl refl refl h)
-close ns mid ms o os (unkept b make) f k ls cur old y done set was is h =
+close ns mid ms o os (case_head b make) f k ls cur old y done set was is h =
     let d = subst (λ (s : Stage). BodyEnded s o.node_index ns mid) h.7.0 done in
-    close_last mid ms (last_open o) os b (make no_whens) f k ls no_nodes old y set was is (last_goes mid o (last_open o) os b make f k ls refl refl refl refl (unkept_pauses ns mid o os b make f k ls cur d h))
-close ns mid ms o os (armed b make) f k ls cur old y done set was is h =
+    close_last mid ms (last_open o) os b (make no_whens) f k ls no_nodes old y set was is (last_goes mid o (last_open o) os b make f k ls refl refl refl refl (case_head_pauses ns mid o os b make f k ls cur d h))
+close ns mid ms o os (when_body b make) f k ls cur old y done set was is h =
     let d = subst (λ (s : Stage). BodyEnded s o.node_index ns mid) h.7.0 done in
     close_last mid ms (last_open o) os b (make cur no_whens) f k ls no_nodes old y set was is (last_goes mid o (last_open o) os b (make cur) f k ls refl refl refl refl (armed_pauses ns mid o os b make f k ls cur d h))
 
@@ -444,10 +444,10 @@ closes_on ns mid all o b old y long e n done set was is ls cur h =
 prepared_fits : (o : Open) (b : Block) (stage : Stage) (n : code.Node) (k : ℕ) → o.stage ≡ stage → o.block ≡ b → IsPrepared stage n → Fits o (begun (opening b stage n)) (flat_of n) no_bodies k
 prepared_fits o b First n k st bl prepared = (st, bl, refl, prepared, λ g h. refl)
 prepared_fits o b Last n k st bl prepared = (st, bl, prepared, λ g. refl)
-prepared_fits o b Unkept n k st bl (t, z, is, makes) = (st, bl, refl, (t, [], z, refl, is, makes))
-prepared_fits o b Armed n k st bl prepared = absurd prepared
+prepared_fits o b CaseHead n k st bl (t, z, is, makes) = (st, bl, refl, (t, [], z, refl, is, makes))
+prepared_fits o b WhenBody n k st bl prepared = absurd prepared
 
--- a block begins behind the nodes
+-- a block begins after the nodes
 pub begins_on : (ns ms : Flats) (n : code.Node) (all now : List Open) (o : Open) (b : Block) (stage : Stage) (ls : List Level) (cur : Nodes) → ms ≡ ns ++ flat_of n ∷ [] → now ≡ all ++ o ∷ [] → o.node_index ≡ length ns
     → o.stage ≡ stage → o.block ≡ b → IsPrepared stage n → Builds ns (reverse all) ls cur → Builds ms (reverse now) (level (begun (opening b stage n)) cur o.chained ∷ ls) no_nodes
 begins_on ns ms n all now o b stage ls cur e stack at st bl prepared built =

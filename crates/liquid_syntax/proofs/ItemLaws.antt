@@ -11,7 +11,7 @@ use Rattle.liquid_lexer.specs.declared.symbol.Symbol.{Symbol}
 use Rattle.liquid_lexer.specs.declared.symbol.Symbol.TheVariants.{Colon, Comma}
 use Rattle.liquid_lexer.proofs.WordLaws.{bind_some, map_some, from_some}
 use Rattle.liquid_evaluation.specs.Tree.{Bindings, Source, each_of, counted}
-use Rattle.liquid_syntax.specs.Bound.{ArePairs, IsOneOf, IsPair, IsPairsEnd, a_pair, any_item, behind_comma, ends_pairs, is_separated, last_comma, mark_of, no_item, one_first, pair_first, bound_pairs, past_comma, unseparated}
+use Rattle.liquid_syntax.specs.Bound.{ArePairs, IsOneOf, IsPair, IsPairsEnd, a_pair, any_item, after_comma, ends_pairs, is_separated, last_comma, mark_of, no_item, one_first, pair_first, bound_pairs, past_comma, unseparated}
 use Rattle.liquid_syntax.specs.Loops.{source_token, source_of, source_first, Part, limit_is, offset_is, cols_is, is_reversed, IsLoopPart, a_limit, an_offset, a_reversal, a_width, Parts, no_parts, with_parts, with_part, IsNothing, is_nothing, Head, head_with, IsLoop, a_loop, part_value, read_or_else, own_part, part_first, parts_of, parts_after, loop_of}
 use Rattle.liquid_syntax.specs.Repeated.{AreRepeated}
 use Rattle.liquid_syntax.specs.ValueLists.{IsSeparator, a_comma, an_or, IsFurther, a_further, IsValuesEnd, no_value, a_last_comma, AreValues, some_values, is_separator, past_separator, further_first, ends_values, further_of, values_of}
@@ -23,7 +23,7 @@ use Rattle.liquid_syntax.specs.declared.value_items.Separators.{Separators}
 use Rattle.liquid_syntax.specs.declared.value_items.Separators.TheVariants.{Commas, CommasOr}
 use Rattle.liquid_syntax.proofs.ConditionLaws.{word_is}
 use Rattle.liquid_syntax.proofs.Printed.{first_word}
-use Rattle.liquid_syntax.proofs.Repetition.{behind_those, repeated_takes, repeated_again, more_turn, end_turn, stuck_turn}
+use Rattle.liquid_syntax.proofs.Repetition.{after_those, repeated_takes, repeated_again, more_turn, end_turn, stuck_turn}
 use Rattle.liquid_syntax.proofs.TokenLaws.{symbol_is, past_again, past_is, past_word_is, first_value, cut_shorter}
 
 -- ---- values
@@ -47,8 +47,8 @@ past_separator_is s (t ∷ ts) rest h = let (e, same) = cond_some (is_separator 
 
 further_takes : (s : Separators) (ts : List Token) (x : Expression) (rest : List Token) → further_first s ts ≡ Some (x, rest) → (us : List Token) × (ts ≡ us ++ rest) × IsFurther s x us
 further_takes s ts x rest h =
-    let (mid, behind, front) = bind_some (past_separator s ts) value_first (x, rest) h in
-    let (t, cut, is) = past_separator_is s ts mid behind in
+    let (mid, following, front) = bind_some (past_separator s ts) value_first (x, rest) h in
+    let (t, cut, is) = past_separator_is s ts mid following in
     (t ∷ value x ∷ [], cut ∙ ap (λ (ts : List Token). t ∷ ts) (first_value mid x rest front), a_further x is)
 
 further_again : (s : Separators) (x : Expression) (ts rest : List Token) → IsFurther s x ts → (further_first s (ts ++ rest) ≡ Some (x, rest)) × (ends_values s (ts ++ rest) ≡ false)
@@ -87,8 +87,8 @@ values_again s xs ts (some_values {xs = ys} {ts = us} x more) = ap (λ (o : Opti
 
 -- ---- in the loop that reads values
 
-pub further_begin : (x : Expression) (o : Option (List Expression)) → option_map (λ xs. x ∷ xs) o ≡ behind_those (x ∷ []) o
-unfolding behind_those
+pub further_begin : (x : Expression) (o : Option (List Expression)) → option_map (λ xs. x ∷ xs) o ≡ after_those (x ∷ []) o
+unfolding after_those
 further_begin x o = refl
 
 pub values_begin : (s : Separators) (ts : List Token) (x : Expression) (rest : List Token) → value_first ts ≡ Some (x, rest) → values_of s ts ≡ option_map (λ xs. x ∷ xs) (further_of s rest)
@@ -98,9 +98,9 @@ values_begin s ts x rest h = ap (option_and_then (λ x. option_map (λ xs. x.0 �
 
 part_value_is : (make : Expression → Part) (ts : List Token) (p : Part) (rest : List Token) → part_value make ts ≡ Some (p, rest) → (x : Expression) × (ts ≡ symbol Colon ∷ value x ∷ rest) × (make x ≡ p)
 part_value_is make ts p rest h =
-    let (mid, behind, more) = bind_some (past Colon ts) _ (p, rest) h in
+    let (mid, following, more) = bind_some (past Colon ts) _ (p, rest) h in
     let (x, front, same) = map_some (value_first mid) (λ x. (make x.0, x.1)) (p, rest) more in
-    (x.0, past_is Colon ts mid behind ∙ ap (λ (ts : List Token). symbol Colon ∷ ts) (first_value mid x.0 x.1 front) ∙ ap (λ (y : Part × List Token). symbol Colon ∷ value x.0 ∷ y.1) same, ap (λ (y : Part × List Token). y.0) same)
+    (x.0, past_is Colon ts mid following ∙ ap (λ (ts : List Token). symbol Colon ∷ ts) (first_value mid x.0 x.1 front) ∙ ap (λ (y : Part × List Token). symbol Colon ∷ value x.0 ∷ y.1) same, ap (λ (y : Part × List Token). y.0) same)
 
 valued_takes : (k : LoopTag) (w : Text) (make : Expression → Part) (rule : (x : Expression) → IsLoopPart k (make x) (word w ∷ symbol Colon ∷ value x ∷ [])) (ts mid : List Token) (p : Part) (rest : List Token)
     → past_word w ts ≡ Some mid → part_value make mid ≡ Some (p, rest) → (us : List Token) × (ts ≡ us ++ rest) × IsLoopPart k p us
@@ -169,33 +169,33 @@ source_again (counted x y) ts = refl
 pub loop_takes : (k : LoopTag) (h : Head) (ts : List Token) → loop_of k ts ≡ Some h → IsLoop k h ts
 loop_takes k head ts h =
     let (w, named, more) = bind_some (word_first ts) _ head h in
-    let (rest, behind, over) = bind_some (past_word (codes "in") w.1) _ head more in
+    let (rest, following, over) = bind_some (past_word (codes "in") w.1) _ head more in
     let (s, front, parts) = bind_some (source_first rest) _ head over in
-    let (ps, settle, same) = map_some (parts_after k no_parts s.1) (head_with w.0 s.0) head parts in
-    let (qs, read, is) = map_some (parts_of k s.1) (with_parts no_parts) ps settle in
+    let (ps, parts_read, same) = map_some (parts_after k no_parts s.1) (head_with w.0 s.0) head parts in
+    let (qs, read, is) = map_some (parts_of k s.1) (with_parts no_parts) ps parts_read in
     let there : ts ≡ word w.0 ∷ word (codes "in") ∷ source_token s.0 ∷ s.1 =
-    first_word ts w.0 w.1 named ∙ ap (λ (ts : List Token). word w.0 ∷ ts) (past_word_is (codes "in") w.1 rest behind) ∙ ap (λ (ts : List Token). word w.0 ∷ word (codes "in") ∷ ts) (first_source rest s.0 s.1 front) in
+    first_word ts w.0 w.1 named ∙ ap (λ (ts : List Token). word w.0 ∷ ts) (past_word_is (codes "in") w.1 rest following) ∙ ap (λ (ts : List Token). word w.0 ∷ word (codes "in") ∷ ts) (first_source rest s.0 s.1 front) in
     let all = repeated_takes (part_first k) is_nothing (part_shorter k) (IsLoopPart k) IsNothing (part_takes k) (part_again k) nothing_is nothing_again s.1 qs read in
     subst (λ (head : Head). IsLoop k head ts) (ap (head_with w.0 s.0) is ∙ same) (subst (λ (ts : List Token). IsLoop k (head_with w.0 s.0 (with_parts no_parts qs)) ts) (sym there) (a_loop w.0 s.0 all))
 
-behind_source : LoopTag → Text → Source × List Token → Option Head
-behind_source k w s = option_map (head_with w s.0) (parts_after k no_parts s.1)
+after_source : LoopTag → Text → Source × List Token → Option Head
+after_source k w s = option_map (head_with w s.0) (parts_after k no_parts s.1)
 
 pub loop_again : (k : LoopTag) (h : Head) (ts : List Token) → IsLoop k h ts → loop_of k ts ≡ Some h
-unfolding behind_source
+unfolding after_source
 loop_again k head ts (a_loop {ps = ps} {ts = us} w s more) =
-    ap (λ (o : Option (Source × List Token)). option_and_then (behind_source k w) o) (source_again s us)
+    ap (λ (o : Option (Source × List Token)). option_and_then (after_source k w) o) (source_again s us)
     ∙ ap (λ (o : Option (List Part)). option_map (head_with w s) (option_map (with_parts no_parts) o))
     (repeated_again (part_first k) is_nothing (part_shorter k) (IsLoopPart k) IsNothing (part_takes k) (part_again k) nothing_is nothing_again ps us more)
 
 -- ---- in the loop that reads parts
 
-settle_more : (ps : Parts) (p : Part) (o : Option (List Part)) → option_map (with_parts ps) (option_map (λ ps. p ∷ ps) o) ≡ option_map (with_parts (with_part ps p)) o
-settle_more ps p None = refl
-settle_more ps p (Some qs) = refl
+resolve_more : (ps : Parts) (p : Part) (o : Option (List Part)) → option_map (with_parts ps) (option_map (λ ps. p ∷ ps) o) ≡ option_map (with_parts (with_part ps p)) o
+resolve_more ps p None = refl
+resolve_more ps p (Some qs) = refl
 
 pub one_part_more : (k : LoopTag) (ps : Parts) (ts : List Token) (p : Part) (rest : List Token) → is_nothing ts ≡ false → part_first k ts ≡ Some (p, rest) → parts_after k ps ts ≡ parts_after k (with_part ps p) rest
-one_part_more k ps ts p rest e h = ap (option_map (with_parts ps)) (more_turn (part_first k) is_nothing (part_shorter k) ts p rest e h) ∙ settle_more ps p (parts_of k rest)
+one_part_more k ps ts p rest e h = ap (option_map (with_parts ps)) (more_turn (part_first k) is_nothing (part_shorter k) ts p rest e h) ∙ resolve_more ps p (parts_of k rest)
 
 pub no_part_more : (k : LoopTag) (ps : Parts) (ts : List Token) → is_nothing ts ≡ true → parts_after k ps ts ≡ Some ps
 no_part_more k ps ts e = ap (option_map (with_parts ps)) (end_turn (part_first k) is_nothing (part_shorter k) ts e)
@@ -213,37 +213,37 @@ nothing_seen (i ∷ is) b h = let e : nat_eq (suc (length is)) 0 ≡ false = sea
 pub pair_takes : (s : Symbol) (ts : List Token) (p : Text × Expression) (rest : List Token) → pair_first s ts ≡ Some (p, rest) → (us : List Token) × (ts ≡ us ++ rest) × IsPair s p us
 pair_takes s ts p rest h =
     let (w, named, more) = bind_some (word_first ts) _ (p, rest) h in
-    let (mid, behind, last) = bind_some (past s w.1) _ (p, rest) more in
+    let (mid, following, last) = bind_some (past s w.1) _ (p, rest) more in
     let (x, front, same) = map_some (value_first mid) _ (p, rest) last in
     let is : (w.0, x.0) ≡ p = ap (λ (y : (Text × Expression) × List Token). y.0) same in (
       word w.0 ∷ symbol s ∷ value x.0 ∷ [],
-      first_word ts w.0 w.1 named ∙ ap (λ (ts : List Token). word w.0 ∷ ts) (past_is s w.1 mid behind) ∙ ap (λ (ts : List Token). word w.0 ∷ symbol s ∷ ts) (first_value mid x.0 x.1 front) ∙ ap (λ (y : (Text × Expression) × List Token). word w.0 ∷ symbol s ∷ value x.0 ∷ y.1) same,
+      first_word ts w.0 w.1 named ∙ ap (λ (ts : List Token). word w.0 ∷ ts) (past_is s w.1 mid following) ∙ ap (λ (ts : List Token). word w.0 ∷ symbol s ∷ ts) (first_value mid x.0 x.1 front) ∙ ap (λ (y : (Text × Expression) × List Token). word w.0 ∷ symbol s ∷ value x.0 ∷ y.1) same,
       subst (λ (p : Text × Expression). IsPair s p (word w.0 ∷ symbol s ∷ value x.0 ∷ [])) is (a_pair w.0 x.0),
     )
 
-behind_name : Text → List Token → Option ((Text × Expression) × List Token)
-behind_name w rest = option_map (λ x. ((w, x.0), x.1)) (value_first rest)
+after_name : Text → List Token → Option ((Text × Expression) × List Token)
+after_name w rest = option_map (λ x. ((w, x.0), x.1)) (value_first rest)
 
 pair_read : (s : Symbol) (p : Text × Expression) (ts rest : List Token) → IsPair s p ts → pair_first s (ts ++ rest) ≡ Some (p, rest)
-unfolding behind_name
-pair_read s p ts rest (a_pair w x) = ap (λ (o : Option (List Token)). option_and_then (behind_name w) o) (past_again s (value x ∷ rest))
+unfolding after_name
+pair_read s p ts rest (a_pair w x) = ap (λ (o : Option (List Token)). option_and_then (after_name w) o) (past_again s (value x ∷ rest))
 
 pair_long : (s : Symbol) (p : Text × Expression) (ts : List Token) → IsPair s p ts → 0 < length ts
 pair_long s p ts (a_pair w x) = omega arith
 
 -- one of the pairs
 one_by : (k : PairStyle) (ts mid us rest : List Token) (p : Text × Expression) (b : Bool) → is_separated k ≡ b → past_comma b ts ≡ Some mid → mid ≡ us ++ rest → IsPair (mark_of k) p us → (vs : List Token) × (ts ≡ vs ++ rest) × IsOneOf k p vs
-one_by k ts mid us rest p true e behind cut is = (symbol Comma ∷ us, past_is Comma ts mid behind ∙ ap (λ (ts : List Token). symbol Comma ∷ ts) cut, behind_comma e is)
-one_by k ts mid us rest p false e behind cut is = (us, from_some behind ∙ cut, unseparated e is)
+one_by k ts mid us rest p true e following cut is = (symbol Comma ∷ us, past_is Comma ts mid following ∙ ap (λ (ts : List Token). symbol Comma ∷ ts) cut, after_comma e is)
+one_by k ts mid us rest p false e following cut is = (us, from_some following ∙ cut, unseparated e is)
 
 one_takes : (k : PairStyle) (ts : List Token) (p : Text × Expression) (rest : List Token) → one_first k ts ≡ Some (p, rest) → (us : List Token) × (ts ≡ us ++ rest) × IsOneOf k p us
 one_takes k ts p rest h =
-    let (mid, behind, more) = bind_some (past_comma (is_separated k) ts) (pair_first (mark_of k)) (p, rest) h in
+    let (mid, following, more) = bind_some (past_comma (is_separated k) ts) (pair_first (mark_of k)) (p, rest) h in
     let (us, cut, is) = pair_takes (mark_of k) mid p rest more in
-    one_by k ts mid us rest p (is_separated k) refl behind cut is
+    one_by k ts mid us rest p (is_separated k) refl following cut is
 
 one_again : (k : PairStyle) (p : Text × Expression) (ts rest : List Token) → IsOneOf k p ts → (one_first k (ts ++ rest) ≡ Some (p, rest)) × (ends_pairs k (ts ++ rest) ≡ false)
-one_again k p ts rest (behind_comma e (a_pair w x)) =
+one_again k p ts rest (after_comma e (a_pair w x)) =
     let all = word w ∷ symbol (mark_of k) ∷ value x ∷ rest in (
       ap (λ (b : Bool). option_and_then (pair_first (mark_of k)) (past_comma b (symbol Comma ∷ all))) e ∙ pair_read (mark_of k) (w, x) (word w ∷ symbol (mark_of k) ∷ value x ∷ []) rest (a_pair w x),
       refl,
@@ -255,7 +255,7 @@ one_again k p ts rest (unseparated e (a_pair w x)) =
     )
 
 one_long : (k : PairStyle) (p : Text × Expression) (ts : List Token) → IsOneOf k p ts → 0 < length ts
-one_long k p ts (behind_comma e is) = omega arith
+one_long k p ts (after_comma e is) = omega arith
 one_long k p ts (unseparated e is) = pair_long (mark_of k) p ts is
 
 pub one_shorter : (k : PairStyle) (ts : List Token) (x : (Text × Expression) × List Token) → one_first k ts ≡ Some x → length x.1 < length ts

@@ -4,7 +4,7 @@ use Rattle.std.proofs.lemmas.Bool.Decides.{nat_tests}
 use Rattle.liquid_core.specs.Expression.{Expression}
 use Rattle.liquid_evaluation.specs.Tree.{Node, Nodes, no_nodes, node, Whens, no_whens, when}
 use Rattle.liquid_syntax.specs.Nesting.{Opening, of_one, of_two, of_many, Statement, leaf, closed, begins, elsif, arm, otherwise, ends, refused, AreNodes, none, is_leaf, is_closed, is_block, IsBlock, one, two, many, IsLast, no_else, is_else, IsElse, is_last, is_elsif, AreWhens, no_more, is_when}
-use Rattle.liquid_syntax.specs.OpenBlocks.{append, with_node, Reading, last, first, unkept, armed, begun, context_in, ended, else_of, when_of, elsif_of, Level, level, context_of, deeper, block_depth, close, statement_step, to_closed, to_begin, go, read_pieces}
+use Rattle.liquid_syntax.specs.OpenBlocks.{append, with_node, Reading, last, first, case_head, when_body, begun, context_in, ended, else_of, when_of, elsif_of, Level, level, context_of, deeper, block_depth, close, statement_step, to_closed, to_begin, go, read_pieces}
 use Rattle.liquid_language.specs.declared.block.Block.{Block}
 use Rattle.liquid_language.specs.declared.block.BlockContext.{BlockContext}
 use Rattle.liquid_language.specs.declared.block.BlockContext.TheVariants.{Outside, InBody, InLast}
@@ -51,7 +51,7 @@ module _ {P : Type 0} (Is : BlockContext → P → Statement → Type 0) (reads 
     context : context_in r ≡ InBody b
     at_end : ended r cur ≡ make no_whens no_nodes
     at_else : else_of r cur ≡ Some (last b (make no_whens))
-    at_when : (vs : List Expression) → when_of vs r cur ≡ Some (armed b (λ g ws o. make (when vs g ws) o))
+    at_when : (vs : List Expression) → when_of vs r cur ≡ Some (when_body b (λ g ws o. make (when vs g ws) o))
 
   mutual
     pub nodes_again : {x : BlockContext} {d : ℕ} {f : Nodes} {ps rest : List P} → AreNodes Is x d f ps rest → (ls : List Level) (cur : Nodes) → context_of ls ≡ x → block_depth ls + d ≤ 200
@@ -77,9 +77,9 @@ module _ {P : Type 0} (Is : BlockContext → P → Statement → Type 0) (reads 
         nodes_again ns (level (last b make) cur false ∷ ls) no_nodes refl m ∙ turn (InLast b) q ends rest (level (last b make) cur false ∷ ls) f refl e
     block_again (two {b = b} {make = make} {f = f} ns os) cur ls m =
         nodes_again ns (level (first b make) cur false ∷ ls) no_nodes refl m ∙ else_again os make cur false ls f m
-    block_again (many {b = b} {make = make} {unkept = f} ns ws) cur ls m =
-        nodes_again ns (level (unkept b make) cur false ∷ ls) no_nodes refl m
-        ∙ whens_again ws (unkept b make) make cur false ls f (record { context = refl; at_end = refl; at_else = refl; at_when = λ vs. refl }) m
+    block_again (many {b = b} {make = make} {case_head = f} ns ws) cur ls m =
+        nodes_again ns (level (case_head b make) cur false ∷ ls) no_nodes refl m
+        ∙ whens_again ws (case_head b make) make cur false ls f (record { context = refl; at_end = refl; at_else = refl; at_when = λ vs. refl }) m
 
     else_again : {b : Block} {d : ℕ} {o : Nodes} {ps rest : List P} → IsElse Is b d o ps rest → (make : Nodes → Nodes → Node) (f : Nodes) (k : Bool) (ls : List Level) (cur : Nodes) → deeper k (block_depth ls) + d ≤ 200
         → read_pieces reads ps (level (first b make) f k ∷ ls) cur ≡ go (read_pieces reads rest) (close k ls (with_node f (make cur o)))
@@ -108,8 +108,8 @@ module _ {P : Type 0} (Is : BlockContext → P → Statement → Type 0) (reads 
         let next : Nodes → Whens → Nodes → Node = λ g ws o. make (when vs g ws) o in
         turn (InBody b) p (arm vs) ps (level r f k ∷ ls) cur a.context s
         ∙ ap (λ (o : Option Reading). go (read_pieces reads ps) (option_map (λ s. (level s f k ∷ ls, no_nodes)) o)) (a.at_when vs)
-        ∙ nodes_again ns (level (armed b next) f k ∷ ls) no_nodes refl m
-        ∙ whens_again ws (armed b next) (next g) f k ls g (record { context = refl; at_end = refl; at_else = refl; at_when = λ us. refl }) m
+        ∙ nodes_again ns (level (when_body b next) f k ∷ ls) no_nodes refl m
+        ∙ whens_again ws (when_body b next) (next g) f k ls g (record { context = refl; at_end = refl; at_else = refl; at_when = λ us. refl }) m
 
   -- ---- what is read stands in the grammar
 
@@ -117,8 +117,8 @@ module _ {P : Type 0} (Is : BlockContext → P → Statement → Type 0) (reads 
   Rest : Reading → ℕ → Nodes → Node → List P → List P → Type 0
   Rest (last b make) d cur n ps rest = (g : Nodes) × (q : P) × AreNodes Is (InLast b) d g ps (q ∷ rest) × (Is (InLast b) q ends) × (n ≡ make (append cur g))
   Rest (first b make) d cur n ps rest = (g : Nodes) × (after : List P) × (o : Nodes) × AreNodes Is (InBody b) d g ps after × IsElse Is b d o after rest × (n ≡ make (append cur g) o)
-  Rest (unkept b make) d cur n ps rest = (g : Nodes) × (after : List P) × (ws : Whens) × (o : Nodes) × AreNodes Is (InBody b) d g ps after × AreWhens Is b d ws o after rest × (n ≡ make ws o)
-  Rest (armed b make) d cur n ps rest = (g : Nodes) × (after : List P) × (ws : Whens) × (o : Nodes) × AreNodes Is (InBody b) d g ps after × AreWhens Is b d ws o after rest × (n ≡ make (append cur g) ws o)
+  Rest (case_head b make) d cur n ps rest = (g : Nodes) × (after : List P) × (ws : Whens) × (o : Nodes) × AreNodes Is (InBody b) d g ps after × AreWhens Is b d ws o after rest × (n ≡ make ws o)
+  Rest (when_body b make) d cur n ps rest = (g : Nodes) × (after : List P) × (ws : Whens) × (o : Nodes) × AreNodes Is (InBody b) d g ps after × AreWhens Is b d ws o after rest × (n ≡ make (append cur g) ws o)
 
   -- the pieces go on so that the tree is t. The truth value says that a block has just ended, by whose end the one around it ends
   Completes : Bool → List Level → Nodes → List P → Nodes → Type 0
@@ -131,23 +131,23 @@ module _ {P : Type 0} (Is : BlockContext → P → Statement → Type 0) (reads 
   unfolding Rest
   rest_leaf p m (last b make) d cur n ps rest s (g, q, ns, e, is) = (node m g, q, is_leaf s ns, e, is ∙ ap make (append-assoc cur (node m no_nodes) g))
   rest_leaf p m (first b make) d cur n ps rest s (g, after, o, ns, os, is) = (node m g, after, o, is_leaf s ns, os, is ∙ ap (λ (f : Nodes). make f o) (append-assoc cur (node m no_nodes) g))
-  rest_leaf p m (unkept b make) d cur n ps rest s (g, after, ws, o, ns, os, is) = (node m g, after, ws, o, is_leaf s ns, os, is)
-  rest_leaf p m (armed b make) d cur n ps rest s (g, after, ws, o, ns, os, is) = (node m g, after, ws, o, is_leaf s ns, os, is ∙ ap (λ (f : Nodes). make f ws o) (append-assoc cur (node m no_nodes) g))
+  rest_leaf p m (case_head b make) d cur n ps rest s (g, after, ws, o, ns, os, is) = (node m g, after, ws, o, is_leaf s ns, os, is)
+  rest_leaf p m (when_body b make) d cur n ps rest s (g, after, ws, o, ns, os, is) = (node m g, after, ws, o, is_leaf s ns, os, is ∙ ap (λ (f : Nodes). make f ws o) (append-assoc cur (node m no_nodes) g))
 
   rest_closed : (p : P) (m : Node) (r : Reading) (d : ℕ) (cur : Nodes) (n : Node) (ps rest : List P) → Is (context_in r) p (closed m) → Rest r (suc d) (with_node cur m) n ps rest → Rest r (suc d) cur n (p ∷ ps) rest
   unfolding Rest
   rest_closed p m (last b make) d cur n ps rest s (g, q, ns, e, is) = (node m g, q, is_closed s ns, e, is ∙ ap make (append-assoc cur (node m no_nodes) g))
   rest_closed p m (first b make) d cur n ps rest s (g, after, o, ns, os, is) = (node m g, after, o, is_closed s ns, os, is ∙ ap (λ (f : Nodes). make f o) (append-assoc cur (node m no_nodes) g))
-  rest_closed p m (unkept b make) d cur n ps rest s (g, after, ws, o, ns, os, is) = (node m g, after, ws, o, is_closed s ns, os, is)
-  rest_closed p m (armed b make) d cur n ps rest s (g, after, ws, o, ns, os, is) = (node m g, after, ws, o, is_closed s ns, os, is ∙ ap (λ (f : Nodes). make f ws o) (append-assoc cur (node m no_nodes) g))
+  rest_closed p m (case_head b make) d cur n ps rest s (g, after, ws, o, ns, os, is) = (node m g, after, ws, o, is_closed s ns, os, is)
+  rest_closed p m (when_body b make) d cur n ps rest s (g, after, ws, o, ns, os, is) = (node m g, after, ws, o, is_closed s ns, os, is ∙ ap (λ (f : Nodes). make f ws o) (append-assoc cur (node m no_nodes) g))
 
   rest_block : (p : P) (o : Opening) (m : Node) (r : Reading) (d : ℕ) (cur : Nodes) (n : Node) (ps after rest : List P) → Is (context_in r) p (begins o) → IsBlock Is d o m ps after
       → Rest r (suc d) (with_node cur m) n after rest → Rest r (suc d) cur n (p ∷ ps) rest
   unfolding Rest
   rest_block p o m (last b make) d cur n ps after rest s is_b (g, q, ns, e, is) = (node m g, q, is_block s is_b ns, e, is ∙ ap make (append-assoc cur (node m no_nodes) g))
   rest_block p o m (first b make) d cur n ps after rest s is_b (g, later, os, ns, h, is) = (node m g, later, os, is_block s is_b ns, h, is ∙ ap (λ (f : Nodes). make f os) (append-assoc cur (node m no_nodes) g))
-  rest_block p o m (unkept b make) d cur n ps after rest s is_b (g, later, ws, os, ns, h, is) = (node m g, later, ws, os, is_block s is_b ns, h, is)
-  rest_block p o m (armed b make) d cur n ps after rest s is_b (g, later, ws, os, ns, h, is) = (node m g, later, ws, os, is_block s is_b ns, h, is ∙ ap (λ (f : Nodes). make f ws os) (append-assoc cur (node m no_nodes) g))
+  rest_block p o m (case_head b make) d cur n ps after rest s is_b (g, later, ws, os, ns, h, is) = (node m g, later, ws, os, is_block s is_b ns, h, is)
+  rest_block p o m (when_body b make) d cur n ps after rest s is_b (g, later, ws, os, ns, h, is) = (node m g, later, ws, os, is_block s is_b ns, h, is ∙ ap (λ (f : Nodes). make f ws os) (append-assoc cur (node m no_nodes) g))
 
   -- a block that has begun is whole
   rest_begun : (o : Opening) (d : ℕ) (n : Node) (ps rest : List P) → Rest (begun o) d no_nodes n ps rest → IsBlock Is d o n ps rest
@@ -160,8 +160,8 @@ module _ {P : Type 0} (Is : BlockContext → P → Statement → Type 0) (reads 
   unfolding Rest
   rest_ends p (last b make) d cur rest s = (no_nodes, p, none, s, ap make (sym (append-none cur)))
   rest_ends p (first b make) d cur rest s = (no_nodes, p ∷ rest, no_nodes, none, is_last (no_else s), ap (λ (f : Nodes). make f no_nodes) (sym (append-none cur)))
-  rest_ends p (unkept b make) d cur rest s = (no_nodes, p ∷ rest, no_whens, no_nodes, none, no_more (no_else s), refl)
-  rest_ends p (armed b make) d cur rest s = (no_nodes, p ∷ rest, no_whens, no_nodes, none, no_more (no_else s), ap (λ (f : Nodes). make f no_whens no_nodes) (sym (append-none cur)))
+  rest_ends p (case_head b make) d cur rest s = (no_nodes, p ∷ rest, no_whens, no_nodes, none, no_more (no_else s), refl)
+  rest_ends p (when_body b make) d cur rest s = (no_nodes, p ∷ rest, no_whens, no_nodes, none, no_more (no_else s), ap (λ (f : Nodes). make f no_whens no_nodes) (sym (append-none cur)))
 
   rest_else : (p : P) (r s : Reading) (d : ℕ) (cur : Nodes) (n : Node) (ps rest : List P) → Is (context_in r) p otherwise → else_of r cur ≡ Some s → Rest s d no_nodes n ps rest → Rest r d cur n (p ∷ ps) rest
   unfolding Rest
@@ -170,11 +170,11 @@ module _ {P : Type 0} (Is : BlockContext → P → Statement → Type 0) (reads 
       let same : s ≡ last b (make cur) = cc in
       let (g, q, ns, t, is) = subst (λ (s : Reading). Rest s d no_nodes n ps rest) same h in
       (no_nodes, p ∷ ps, g, none, is_last (is_else w ns t), is ∙ ap (λ (f : Nodes). make f g) (sym (append-none cur)))
-  rest_else p (unkept b make) s d cur n ps rest w e h =
+  rest_else p (case_head b make) s d cur n ps rest w e h =
       let same : s ≡ last b (make no_whens) = cc in
       let (g, q, ns, t, is) = subst (λ (s : Reading). Rest s d no_nodes n ps rest) same h in
       (no_nodes, p ∷ ps, no_whens, g, none, no_more (is_else w ns t), is)
-  rest_else p (armed b make) s d cur n ps rest w e h =
+  rest_else p (when_body b make) s d cur n ps rest w e h =
       let same : s ≡ last b (make cur no_whens) = cc in
       let (g, q, ns, t, is) = subst (λ (s : Reading). Rest s d no_nodes n ps rest) same h in
       (no_nodes, p ∷ ps, no_whens, g, none, no_more (is_else w ns t), is ∙ ap (λ (f : Nodes). make f no_whens g) (sym (append-none cur)))
@@ -183,12 +183,12 @@ module _ {P : Type 0} (Is : BlockContext → P → Statement → Type 0) (reads 
   unfolding Rest
   rest_when p vs (last b make) s d cur n ps rest w e h = absurd cc
   rest_when p vs (first b make) s d cur n ps rest w e h = absurd cc
-  rest_when p vs (unkept b make) s d cur n ps rest w e h =
-      let same : s ≡ armed b (λ g ws o. make (when vs g ws) o) = cc in
+  rest_when p vs (case_head b make) s d cur n ps rest w e h =
+      let same : s ≡ when_body b (λ g ws o. make (when vs g ws) o) = cc in
       let (g, after, ws, o, ns, t, is) = subst (λ (s : Reading). Rest s d no_nodes n ps rest) same h in
       (no_nodes, p ∷ ps, when vs g ws, o, none, is_when w ns t, is)
-  rest_when p vs (armed b make) s d cur n ps rest w e h =
-      let same : s ≡ armed b (λ g ws o. make cur (when vs g ws) o) = cc in
+  rest_when p vs (when_body b make) s d cur n ps rest w e h =
+      let same : s ≡ when_body b (λ g ws o. make cur (when vs g ws) o) = cc in
       let (g, after, ws, o, ns, t, is) = subst (λ (s : Reading). Rest s d no_nodes n ps rest) same h in
       (no_nodes, p ∷ ps, when vs g ws, o, none, is_when w ns t, is ∙ ap (λ (f : Nodes). make f (when vs g ws) o) (sym (append-none cur)))
 
@@ -263,8 +263,8 @@ module _ {P : Type 0} (Is : BlockContext → P → Statement → Type 0) (reads 
         let (n, rest, (g, after, o, ns, os, is), c) = more (level (first b next) no_nodes true ∷ level (last b (make cur)) f k ∷ ls) no_nodes h in
         let e : IsElse Is b (200 - deeper k (block_depth ls)) (node n no_nodes) (p ∷ ps) rest = subst (λ (m : Node). IsElse Is b (200 - deeper k (block_depth ls)) (node m no_nodes) (p ∷ ps) rest) (sym is) (is_elsif s ns os) in
         (make cur (node n no_nodes), rest, (no_nodes, p ∷ ps, node n no_nodes, none, e, ap (λ (f : Nodes). make f (node n no_nodes)) (sym (append-none cur))), c)
-    elsif_takes p next (unkept b make) f k ls cur s h = absurd cc
-    elsif_takes p next (armed b make) f k ls cur s h = absurd cc
+    elsif_takes p next (case_head b make) f k ls cur s h = absurd cc
+    elsif_takes p next (when_body b make) f k ls cur s h = absurd cc
 
     step_takes : (p : P) (l : Statement) (ls : List Level) (cur : Nodes) → reads (context_of ls) p ≡ l → go (read_pieces reads ps) (statement_step l ls cur) ≡ Some t → Completes false ls cur (p ∷ ps) t
     unfolding Completes

@@ -7,7 +7,7 @@ use Rattle.liquid_model.specs.Texts.{Text}
 use Rattle.liquid_syntax.specs.inside.Building.{IsBuilding, Finishes, text_added}
 use Rattle.liquid_syntax.specs.inside.Classifies.{Classifies}
 use Rattle.liquid_syntax.specs.Classification.{if_of, unless_of, bare, capture_of, case_for, for_of, rows_of, one_or, many_or, two_or, tag_statement, raw_statement, comment_statement, reads, is_start, starts_block}
-use Rattle.liquid_language.specs.Roles.{role_of, unread_body}
+use Rattle.liquid_language.specs.Roles.{role_of, verbatim_body}
 use Rattle.liquid_lexer.specs.Items.{Item}
 use Rattle.liquid_lexer.specs.Tokens.{Token, tokens_of}
 use Rattle.liquid_language.specs.declared.block.Block.{Block}
@@ -52,7 +52,7 @@ refused_all : (l : Language) (e : ParseError) (source : Text) → Fails e (templ
 refused_all l errors.Memory source h = tt
 refused_all l (errors.Fault f) source h = no_tree l source h
 
--- the state behind all pieces of the source
+-- the state after all pieces of the source
 abbrev pub all_of : Language → Text → Option State
 all_of l source = source_at (body_of l) (piece_step l) (length source) false begun_with source
 
@@ -64,7 +64,7 @@ at_once l source = refl
 pub source_refused : (l : Language) (e : ParseError) (source : Text) → Fails e (all_of l source) → ReadsTo l source (Err e)
 source_refused l e source h = refused_all l e source (fails_by e (all_of l source) (template_at l source) (λ g. at_once l source ∙ ap (option_and_then (λ s. at_end s.0 s.1)) g) h)
 
--- the template that the builder makes of the state behind all pieces
+-- the template that the builder makes of the state after all pieces
 pub source_read : (l : Language) (source : Text) (s : State) (r : Result Template ParseError) → all_of l source ≡ Some s → Finishes (at_end s.0 s.1) r → ReadsTo l source r
 source_read l source s (Ok t) e f = only_tree l (tree_of t) source (at_once l source ∙ ap (option_and_then (λ s. at_end s.0 s.1)) e ∙ f)
 source_read l source s (Err errors.Memory) e f = tt
@@ -152,8 +152,8 @@ piece_starts : (l : Language) (x : BlockContext) (p : Piece) → starts_block l 
 piece_starts l x (pieces.text t) h = absurd cc
 piece_starts l x (pieces.output is) h = absurd cc
 piece_starts l x (pieces.tag w is) h = tag_starts l is (tokens_of is) (role_of l x w) h
-piece_starts l x (pieces.raw w t) h = raw_starts t (unread_body (role_of l x w))
-piece_starts l x (pieces.comment w) h = comment_starts (unread_body (role_of l x w))
+piece_starts l x (pieces.raw w t) h = raw_starts t (verbatim_body (role_of l x w))
+piece_starts l x (pieces.comment w) h = comment_starts (verbatim_body (role_of l x w))
 
 pub no_room : (l : Language) (x : BlockContext) (p : Piece) (ls : List Level) (cur : Nodes) → starts_block l x p ≡ true → nat_le 200 (block_depth ls) ≡ true → statement_step (reads l x p) ls cur ≡ None
 no_room l x p ls cur o d = start_refused (reads l x p) ls cur (piece_starts l x p o) (full (block_depth ls) d)
@@ -162,7 +162,7 @@ text_taken : (l : Language) (t : Text) (ls : List Level) (cur : Nodes) → text_
 text_taken l [] ls cur = refl
 text_taken l (b ∷ bs) ls cur = refl
 
--- ---- a piece, with the body behind it
+-- ---- a piece, with the body after it
 
 module _ (l : Language) (m : Markup × Text) (ls : List Level) (cur : Nodes) where
   pub no_whole : (e : ParseError) → Fails e (whole_at l (ls, cur) m) → Fails e (option_and_then (λ v. piece_step l (ls, cur) v.0.piece) (whole_at l (ls, cur) m))
@@ -173,24 +173,24 @@ module _ (l : Language) (m : Markup × Text) (ls : List Level) (cur : Nodes) whe
 
 -- ---- a turn
 
-module _ (l : Language) (all : Option State) (rest t behind : Text) (n : ℕ) (front : Bool) (ls : List Level) (cur : Nodes)
-    (so_far : all ≡ source_at (body_of l) (piece_step l) n front (ls, cur) rest) (cut : (t, behind) ≡ text_at rest) where
-  pub last_text : (st : Text) → past_byte 123 behind ≡ None → st ≡ stripped front t false → all ≡ Some (ls, text_added st cur)
+module _ (l : Language) (all : Option State) (rest t following : Text) (n : ℕ) (front : Bool) (ls : List Level) (cur : Nodes)
+    (so_far : all ≡ source_at (body_of l) (piece_step l) n front (ls, cur) rest) (cut : (t, following) ≡ text_at rest) where
+  pub last_text : (st : Text) → past_byte 123 following ≡ None → st ≡ stripped front t false → all ≡ Some (ls, text_added st cur)
   last_text st none e =
-      so_far ∙ last_turn rest t behind cut (body_of l) (piece_step l) n front (ls, cur) none ∙ text_taken l (stripped front t false) ls cur
+      so_far ∙ last_turn rest t following cut (body_of l) (piece_step l) n front (ls, cur) none ∙ text_taken l (stripped front t false) ls cur
       ∙ ap (λ st. Some (ls, text_added st cur)) (sym e)
 
-  module _ (inside : List ℕ) (is : Some inside ≡ past_byte 123 behind) where
+  module _ (inside : List ℕ) (is : Some inside ≡ past_byte 123 following) where
     pub markup_refused : (e : ParseError) → Fails e (markup_at inside) → Fails e all
-    markup_refused e h = fails_by e (markup_at inside) all (λ g. so_far ∙ no_markup rest t behind cut (body_of l) (piece_step l) n front (ls, cur) inside (sym is) g) h
+    markup_refused e h = fails_by e (markup_at inside) all (λ g. so_far ∙ no_markup rest t following cut (body_of l) (piece_step l) n front (ls, cur) inside (sym is) g) h
 
     module _ (m : Markup × List ℕ) (found : markup_at inside ≡ Some m) (st : Text) (strip : st ≡ stripped front t m.0.before) where
       texted : text_step (piece_step l) (stripped front t m.0.before) (ls, cur) ≡ Some (ls, text_added st cur)
       texted = ap (λ t. text_step (piece_step l) t (ls, cur)) (sym strip) ∙ text_taken l st ls cur
 
       refused_by : (o : Option (Markup × List ℕ)) → whole_at l (ls, text_added st cur) m ≡ o → option_and_then (λ v. piece_step l (ls, text_added st cur) v.0.piece) o ≡ None → all ≡ None
-      refused_by None e h = so_far ∙ no_body rest t behind cut (body_of l) (piece_step l) n front (ls, cur) inside (sym is) m found (ls, text_added st cur) texted e
-      refused_by (Some v) e h = so_far ∙ no_step rest t behind cut (body_of l) (piece_step l) n front (ls, cur) inside (sym is) m found (ls, text_added st cur) texted v e h
+      refused_by None e h = so_far ∙ no_body rest t following cut (body_of l) (piece_step l) n front (ls, cur) inside (sym is) m found (ls, text_added st cur) texted e
+      refused_by (Some v) e h = so_far ∙ no_step rest t following cut (body_of l) (piece_step l) n front (ls, cur) inside (sym is) m found (ls, text_added st cur) texted v e h
 
       -- a body without its end, or a piece that can't stand there
       pub piece_refused : (e : ParseError) → Fails e (option_and_then (λ v. piece_step l (ls, text_added st cur) v.0.piece) (whole_at l (ls, text_added st cur) m)) → Fails e all
@@ -199,7 +199,7 @@ module _ (l : Language) (all : Option State) (rest t behind : Text) (n : ℕ) (f
       module _ (v : Markup × List ℕ) (closed : whole_at l (ls, text_added st cur) m ≡ Some v) where
         pub went_on : (s : State) → length rest ≤ n → piece_step l (ls, text_added st cur) v.0.piece ≡ Some s
             → all ≡ source_at (body_of l) (piece_step l) (n - 1) v.0.after s v.1
-        went_on s le g = so_far ∙ next_turn rest t behind cut (body_of l) (piece_step l) n front (ls, cur) inside (sym is) m found (ls, text_added st cur) texted v closed le s g
+        went_on s le g = so_far ∙ next_turn rest t following cut (body_of l) (piece_step l) n front (ls, cur) inside (sym is) m found (ls, text_added st cur) texted v closed le s g
 
         pub went_shorter : length v.1 < length rest
-        went_shorter = turn_shorter rest t behind cut (body_of l) (piece_step l) n front (ls, cur) inside (sym is) m found (ls, text_added st cur) texted v closed
+        went_shorter = turn_shorter rest t following cut (body_of l) (piece_step l) n front (ls, cur) inside (sym is) m found (ls, text_added st cur) texted v closed

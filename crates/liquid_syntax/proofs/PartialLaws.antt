@@ -16,9 +16,9 @@ use Rattle.liquid_syntax.proofs.TokenLaws.{first_value}
 
 -- ---- include
 
-behind_name : (x : Expression) (ps : Bindings) (ts : List Token) → included_pairs ts ≡ Some ps → IsInclude x ps (value x ∷ ts)
-behind_name x ps [] h = subst (λ (ps : Bindings). IsInclude x ps (value x ∷ [])) (from_some h) (name_alone x)
-behind_name x ps (t ∷ ts) h =
+after_name : (x : Expression) (ps : Bindings) (ts : List Token) → included_pairs ts ≡ Some ps → IsInclude x ps (value x ∷ ts)
+after_name x ps [] h = subst (λ (ps : Bindings). IsInclude x ps (value x ∷ [])) (from_some h) (name_alone x)
+after_name x ps (t ∷ ts) h =
     let (p, front, more) = bind_some (pair_first Colon (t ∷ ts)) _ ps h in
     let (qs, read, same) = map_some (bound_pairs Include p.1) (λ ps. p.0 ∷ ps) ps more in
     let (us, cut, is) = pair_takes Colon (t ∷ ts) p.0 p.1 front in
@@ -30,7 +30,7 @@ include_takes x ps ts h =
     let (y, front, more) = bind_some (value_first ts) _ (x, ps) h in
     let (qs, read, same) = map_some (included_pairs y.1) _ (x, ps) more in
     subst (λ (r : Expression × Bindings). IsInclude r.0 r.1 ts) same
-    (subst (λ (ts : List Token). IsInclude y.0 qs ts) (sym (first_value ts y.0 y.1 front)) (behind_name y.0 qs y.1 read))
+    (subst (λ (ts : List Token). IsInclude y.0 qs ts) (sym (first_value ts y.0 y.1 front)) (after_name y.0 qs y.1 read))
 
 pub include_again : (x : Expression) (ps : Bindings) (ts : List Token) → IsInclude x ps ts → include_of ts ≡ Some (x, ps)
 include_again x ps ts (name_alone y) = refl

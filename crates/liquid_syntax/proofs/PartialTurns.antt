@@ -23,9 +23,9 @@ use Rattle.liquid_syntax.specs.Flats.{bindings_view}
 use Rattle.liquid_syntax.specs.declared.node.Binding.{Binding}
 use Rattle.liquid_syntax.specs.declared.pair_items.PairStyle.TheVariants.{JekyllInclude}
 
-pub unread : {A : Type 0} (make : A → Node) (o : Option A) (e : ParseError) → Fails e o → Classifies (leaf_or (option_map make o)) (Err e)
-unread make o errors.Memory h = tt
-unread make o (errors.Fault f) h = ap (λ (o : Option _). leaf_or (option_map make o)) h
+pub malformed : {A : Type 0} (make : A → Node) (o : Option A) (e : ParseError) → Fails e o → Classifies (leaf_or (option_map make o)) (Err e)
+malformed make o errors.Memory h = tt
+malformed make o (errors.Fault f) h = ap (λ (o : Option _). leaf_or (option_map make o)) h
 
 unmapped : (o : Option Bindings) (ps : Bindings) → option_map (λ qs. [] ++ qs) o ≡ Some ps → o ≡ Some ps
 unmapped None ps h = absurd cc
@@ -35,7 +35,7 @@ nothing_read : (bs : List Binding) (o : Option Bindings) → option_map (λ qs. 
 nothing_read bs None h = refl
 nothing_read bs (Some qs) h = absurd cc
 
--- behind no others
+-- after no others
 pub pairs_alone : (bs : List Binding) (o : Option Bindings) (ps : Bindings) → bs ≡ [] → option_map (λ qs. bindings_view bs ++ qs) o ≡ Some ps → o ≡ Some ps
 pairs_alone bs o ps none h = unmapped o ps (subst (λ (bs : List Binding). option_map (λ qs. bindings_view bs ++ qs) o ≡ Some ps) none h)
 
@@ -57,7 +57,7 @@ jekyll_stuck (Value y t ∷ is) none = absurd cc
 jekyll_stuck (Range y z ∷ is) none = refl
 jekyll_stuck (Symbol t ∷ is) none = refl
 
--- behind the name
+-- after the name
 module _ (is : List Item) (us : List Token) (x : Expression) (s : Text) (front : Some (x, us) ≡ value_first (tokens_view is)) (spelled : Some s ≡ first_spelling (lexed_items_view is)) where
   pub jekyll_read : (w : Text) (ps : Bindings) → w ≡ spelled_name x s → bound_pairs JekyllInclude us ≡ Some ps → jekyll_of (lexed_items_view is) ≡ Some (w, ps)
   jekyll_read w ps named read =

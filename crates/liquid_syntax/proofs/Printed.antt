@@ -218,12 +218,12 @@ module _ (l : Language) where
   pub assign_takes : (w : Text) (c : Chain) (is : List Token) → assign_of l is ≡ Some (assign w c) → IsAssign (registered_in l.filters) w c is
   assign_takes w c is h =
       let (x, named, more) = bind_some (word_first is) _ (assign w c) h in
-      let (rest, behind, made) = bind_some (past Assign x.1) _ (assign w c) more in
+      let (rest, following, made) = bind_some (past Assign x.1) _ (assign w c) more in
       let (d, read, same) = map_some (chain_of (registered_in l.filters) rest) (assign x.0) (assign w c) made in
       let named_so : x.0 ≡ w = cc in
       let chain_so : d ≡ c = cc in (
         rest,
-        first_word is x.0 x.1 named ∙ ap (λ (is : List Token). word x.0 ∷ is) (past_assign x.1 rest behind) ∙ ap (λ (w : Text). word w ∷ symbol Assign ∷ rest) named_so,
+        first_word is x.0 x.1 named ∙ ap (λ (is : List Token). word x.0 ∷ is) (past_assign x.1 rest following) ∙ ap (λ (w : Text). word w ∷ symbol Assign ∷ rest) named_so,
         chain_takes (registered_in l.filters) c rest (read ∙ ap Some chain_so),
       )
 

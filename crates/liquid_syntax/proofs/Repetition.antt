@@ -5,18 +5,18 @@ use Rattle.liquid_lexer.specs.Tokens.{Token}
 use Rattle.liquid_lexer.proofs.WordLaws.{map_some, from_some}
 use Rattle.liquid_syntax.specs.Repeated.{AreRepeated, no_more, one_more, repeats_by, repeated_at, repeated_of}
 
--- what is read behind the first ones
-unfoldable pub behind_those : {A : Type 0} → List A → Option (List A) → Option (List A)
-behind_those xs o = option_map (λ ys. xs ++ ys) o
+-- what is read after the first ones
+unfoldable pub after_those : {A : Type 0} → List A → Option (List A) → Option (List A)
+after_those xs o = option_map (λ ys. xs ++ ys) o
 
-pub behind_is : {A : Type 0} (xs : List A) (o : Option (List A)) → option_map (λ ys. xs ++ ys) o ≡ behind_those xs o
-unfolding behind_those
-behind_is xs o = refl
+pub after_is : {A : Type 0} (xs : List A) (o : Option (List A)) → option_map (λ ys. xs ++ ys) o ≡ after_those xs o
+unfolding after_those
+after_is xs o = refl
 
-behind_one : {A : Type 0} (xs : List A) (x : A) (o : Option (List A)) → behind_those xs (option_map (λ ys. x ∷ ys) o) ≡ behind_those (xs ++ x ∷ []) o
-unfolding behind_those
-behind_one xs x None = refl
-behind_one xs x (Some ys) = ap Some (sym (append_assoc xs (x ∷ []) ys))
+after_one : {A : Type 0} (xs : List A) (x : A) (o : Option (List A)) → after_those xs (option_map (λ ys. x ∷ ys) o) ≡ after_those (xs ++ x ∷ []) o
+unfolding after_those
+after_one xs x None = refl
+after_one xs x (Some ys) = ap Some (sym (append_assoc xs (x ∷ []) ys))
 
 same_turn : {A : Type 0} (f g : List Token → Option (List A)) (b : Bool) (o : Option (A × List Token)) → ((x : A × List Token) → o ≡ Some x → f x.1 ≡ g x.1) → repeats_by f b o ≡ repeats_by g b o
 same_turn f g true o h = refl
@@ -51,18 +51,18 @@ module _ {A : Type 0} (one : List Token → Option (A × List Token)) (ends : Li
   pub stuck_turn : (ts : List Token) → ends ts ≡ false → one ts ≡ None → repeated_of one ends ts ≡ None
   stuck_turn ts e h = unfolded ts ∙ ap (λ (b : Bool). repeats_by (repeated_of one ends) b (one ts)) e ∙ ap (λ (o : Option (A × List Token)). repeats_by (repeated_of one ends) false o) h
 
-  -- ---- in a loop, behind those that were read
+  -- ---- in a loop, after those that were read
 
-  pub last_loop : (xs : List A) (ts : List Token) → ends ts ≡ true → behind_those xs (repeated_of one ends ts) ≡ Some (xs ++ [])
-  unfolding behind_those
-  last_loop xs ts e = ap (behind_those xs) (end_turn ts e)
+  pub last_loop : (xs : List A) (ts : List Token) → ends ts ≡ true → after_those xs (repeated_of one ends ts) ≡ Some (xs ++ [])
+  unfolding after_those
+  last_loop xs ts e = ap (after_those xs) (end_turn ts e)
 
-  pub more_loop : (xs : List A) (ts : List Token) (x : A) (rest : List Token) → ends ts ≡ false → one ts ≡ Some (x, rest) → behind_those xs (repeated_of one ends ts) ≡ behind_those (xs ++ x ∷ []) (repeated_of one ends rest)
-  more_loop xs ts x rest e h = ap (behind_those xs) (more_turn ts x rest e h) ∙ behind_one xs x (repeated_of one ends rest)
+  pub more_loop : (xs : List A) (ts : List Token) (x : A) (rest : List Token) → ends ts ≡ false → one ts ≡ Some (x, rest) → after_those xs (repeated_of one ends ts) ≡ after_those (xs ++ x ∷ []) (repeated_of one ends rest)
+  more_loop xs ts x rest e h = ap (after_those xs) (more_turn ts x rest e h) ∙ after_one xs x (repeated_of one ends rest)
 
-  pub stuck_loop : (xs : List A) (ts : List Token) → ends ts ≡ false → one ts ≡ None → behind_those xs (repeated_of one ends ts) ≡ None
-  unfolding behind_those
-  stuck_loop xs ts e h = ap (behind_those xs) (stuck_turn ts e h)
+  pub stuck_loop : (xs : List A) (ts : List Token) → ends ts ≡ false → one ts ≡ None → after_those xs (repeated_of one ends ts) ≡ None
+  unfolding after_those
+  stuck_loop xs ts e h = ap (after_those xs) (stuck_turn ts e h)
 
   -- ---- the grammar
 

@@ -18,7 +18,7 @@ use Rattle.liquid_syntax.specs.PartialItems.{Rendered, include_node, include_of,
 use Rattle.liquid_language.specs.Registered.{registered_in}
 use Rattle.liquid_syntax.specs.Cycles.{Cycle, cycle_node, cycle_of, with_group}
 use Rattle.liquid_syntax.specs.Nesting.{of_one, Statement, leaf, closed, begins, elsif, arm, otherwise, ends, refused}
-use Rattle.liquid_language.specs.Roles.{role_of, unread_body}
+use Rattle.liquid_language.specs.Roles.{role_of, verbatim_body}
 use Rattle.liquid_evaluation.specs.Tree.{Bindings, Node, Chain, Condition, output, assign, capture, case_of, ifchanged, break_loop, continue_loop, increment, decrement}
 use Rattle.liquid_language.specs.declared.block.Block.TheVariants.{If, Unless, Capture, Case, IfChanged, For, TableRow}
 use Rattle.liquid_language.specs.declared.block.Control.TheVariants.{Elsif, Else, BareElse, When}
@@ -74,7 +74,7 @@ never statement e s = absurd (subst Stands (sym e) s)
 assigned : (l : Language) (ts : List Token) (n : Node) → assign_of l ts ≡ Some n → (w : Text) × (c : Chain) × (n ≡ assign w c)
 assigned l ts n h =
     let (x, named, more) = bind_some (word_first ts) _ n h in
-    let (rest, behind, made) = bind_some (past Assign x.1) _ n more in
+    let (rest, following, made) = bind_some (past Assign x.1) _ n more in
     let (d, read, same) = map_some (chain_of (registered_in l.filters) rest) (assign x.0) n made in
     (x.0, d, sym same)
 
@@ -140,12 +140,12 @@ module _ (l : Language) (x : BlockContext) (statement : Statement) (stands : Sta
   tag_stands w is (Some (Start blocks.Raw)) r h = never statement h stands
   tag_stands w is (Some (Start blocks.Comment)) r h = never statement h stands
 
-  raw_stands : (w t : Text) (o : Option Body) → unread_body (role_of l x w) ≡ o → raw_statement t o ≡ statement → IsStatement l x (pieces.raw w t) statement
+  raw_stands : (w t : Text) (o : Option Body) → verbatim_body (role_of l x w) ≡ o → raw_statement t o ≡ statement → IsStatement l x (pieces.raw w t) statement
   raw_stands w t None e h = never statement h stands
   raw_stands w t (Some bodies.Raw) e h = subst (IsStatement l x (pieces.raw w t)) h (is_raw e)
   raw_stands w t (Some bodies.Comment) e h = never statement h stands
 
-  comment_stands : (w : Text) (o : Option Body) → unread_body (role_of l x w) ≡ o → comment_statement o ≡ statement → IsStatement l x (pieces.comment w) statement
+  comment_stands : (w : Text) (o : Option Body) → verbatim_body (role_of l x w) ≡ o → comment_statement o ≡ statement → IsStatement l x (pieces.comment w) statement
   comment_stands w None e h = never statement h stands
   comment_stands w (Some bodies.Raw) e h = never statement h stands
   comment_stands w (Some bodies.Comment) e h = subst (IsStatement l x (pieces.comment w)) h (is_comment e)
@@ -154,8 +154,8 @@ module _ (l : Language) (x : BlockContext) (statement : Statement) (stands : Sta
   piece_stands (pieces.text t) h = subst (IsStatement l x (pieces.text t)) h is_text
   piece_stands (pieces.output is) h = output_stands is (chain_of (registered_in l.filters) (tokens_of is)) refl h
   piece_stands (pieces.tag w is) h = tag_stands w is (role_of l x w) refl h
-  piece_stands (pieces.raw w t) h = raw_stands w t (unread_body (role_of l x w)) refl h
-  piece_stands (pieces.comment w) h = comment_stands w (unread_body (role_of l x w)) refl h
+  piece_stands (pieces.raw w t) h = raw_stands w t (verbatim_body (role_of l x w)) refl h
+  piece_stands (pieces.comment w) h = comment_stands w (verbatim_body (role_of l x w)) refl h
 
 pub statement_stands : (l : Language) (x : BlockContext) (p : Piece) (statement : Statement) → Stands statement → reads l x p ≡ statement → IsStatement l x p statement
 statement_stands l x p statement s h = piece_stands l x statement s p h

@@ -3,7 +3,7 @@ use Rattle.std.proofs.Common.{◌≡◌, List, [], ◌∷◌, length, false, Opt
 use Rattle.std.specs.Option.{option_and_then}
 use Rattle.liquid_model.specs.Texts.{Text}
 use Rattle.liquid_syntax.specs.Classification.{tag_statement, raw_statement, comment_statement, reads}
-use Rattle.liquid_language.specs.Roles.{role_of, unread_body}
+use Rattle.liquid_language.specs.Roles.{role_of, verbatim_body}
 use Rattle.liquid_language.specs.declared.block.Role.{Role}
 use Rattle.liquid_language.specs.declared.block.Role.TheVariants.{End, Control as Word, Tag, Block as Start}
 use Rattle.liquid_language.specs.declared.language.BlockKind.TheVariants as blocks
@@ -23,7 +23,7 @@ use Rattle.liquid_lexer.proofs.SourceLaws.{source_takes, source_again}
 use Rattle.liquid_lexer.proofs.WordLaws.{bind_some, from_some}
 
 module _ (l : Language) where
-  bare_tag : (role : Option Role) (s next : State) → statement_step (tag_statement l [] [] role) s.0 s.1 ≡ Some next → unread_body role ≡ None
+  bare_tag : (role : Option Role) (s next : State) → statement_step (tag_statement l [] [] role) s.0 s.1 ≡ Some next → verbatim_body role ≡ None
   bare_tag None s next h = refl
   bare_tag (Some End) s next h = refl
   bare_tag (Some (Word word)) s next h = refl
@@ -54,8 +54,8 @@ module _ (l : Language) where
   agrees s next (output is) h = tt
   agrees s next (tag w []) h = bare_tag (role_of l (context_of s.0) w) s next h
   agrees s next (tag w (i ∷ is)) h = tt
-  agrees s next (raw w t) h = raw_wanted t (unread_body (role_of l (context_of s.0) w)) s next h
-  agrees s next (comment w) h = comment_wanted (unread_body (role_of l (context_of s.0) w)) s next h
+  agrees s next (raw w t) h = raw_wanted t (verbatim_body (role_of l (context_of s.0) w)) s next h
+  agrees s next (comment w) h = comment_wanted (verbatim_body (role_of l (context_of s.0) w)) s next h
 
   -- one piece after another, and then the end
   steps_read : (ps : List Piece) (ls : List Level) (cur : Nodes) → option_and_then (λ s. at_end s.0 s.1) (all_steps (piece_step l) ps (ls, cur)) ≡ read_pieces (reads l) ps ls cur

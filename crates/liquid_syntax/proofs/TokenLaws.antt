@@ -67,6 +67,6 @@ first_value (value y ∷ ts) x rest h = let e : (y, ts) ≡ (x, rest) = from_som
 first_value (range y z ∷ ts) x rest h = absurd cc
 first_value (symbol s ∷ ts) x rest h = absurd cc
 
--- what is left behind what was taken off is shorter
+-- what is left after what was taken off is shorter
 pub cut_shorter : (ts us rest : List Token) → ts ≡ us ++ rest → 0 < length us → length rest < length ts
 cut_shorter ts us rest cut some = omega (arith, ap length cut ∙ length-append us rest, some)

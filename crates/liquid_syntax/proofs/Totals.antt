@@ -11,7 +11,7 @@ use Rattle.liquid_syntax.specs.Flats.{Maker, leaf, one_body, two_bodies, case_fl
 use Rattle.liquid_syntax.specs.Templates.{template_nodes, forest_of, tree_of}
 use Rattle.liquid_syntax.specs.declared.node.Arm.{Arm}
 use Rattle.liquid_syntax.specs.declared.node.Node.{Node}
-use Rattle.liquid_syntax.specs.declared.node.TwoBodies.{TwoBodies}
+use Rattle.liquid_syntax.specs.declared.node.BodyEnds.{BodyEnds}
 use Rattle.liquid_syntax.specs.declared.template.Template.{Template}
 use Rattle.liquid_syntax.proofs.Whole.{template_laid, tree_is}
 
@@ -61,7 +61,7 @@ module _ {R : Type 0} (none : R) (plus : R → R → R) (of_node : tree.Node →
     one_makes own make end e [] h = absurd cc
     one_makes own make end e (b ∷ c ∷ bs) h = absurd cc
 
-    pub two_makes : (own : R) (make : tree.Nodes → tree.Nodes → tree.Node) (ends : TwoBodies) → ((b c : tree.Nodes) → of_node (make b c) ≡ plus own (plus (of_nodes b) (of_nodes c))) → Makes own (two_bodies make ends)
+    pub two_makes : (own : R) (make : tree.Nodes → tree.Nodes → tree.Node) (ends : BodyEnds) → ((b c : tree.Nodes) → of_node (make b c) ≡ plus own (plus (of_nodes b) (of_nodes c))) → Makes own (two_bodies make ends)
     unfolding total
     two_makes own make ends e (b ∷ c ∷ []) h = e b c ∙ ap (λ r. plus own (plus (of_nodes b) r)) (sym (sum.right (of_nodes c)))
     two_makes own make ends e [] h = absurd cc
@@ -75,7 +75,7 @@ module _ {R : Type 0} (none : R) (plus : R → R → R) (of_node : tree.Node →
       of_arms [] = none
       of_arms (vs ∷ vss) = plus (of_values vs) (of_arms vss)
 
-      -- the values of a part and of those behind it, then its body and those behind it
+      -- the values of a part and of those after it, then its body and those after it
       turned : (a v f e t : R) → plus (plus a (plus v f)) (plus e t) ≡ plus a (plus (plus v e) (plus f t))
       turned a v f e t =
           sum.grouped a (plus v f) (plus e t)

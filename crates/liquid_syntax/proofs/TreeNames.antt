@@ -83,7 +83,7 @@ module _ (N : Names) where
   unfolding node_names
   case_named target ws o = any_both (expression_names target) (whens_names ws ++ nodes_names o) N ∙ ap (λ r. list_any N (expression_names target) || r) (any_both (whens_names ws) (nodes_names o) N)
 
-  -- the names of a loop stand behind one another
+  -- the names of a loop stand after one another
   for_named : (f : loops.For) (b c : tree.Nodes) → in_node (tree.for_each (string_bytes f.variable) (source_view f.source) (window_view f.window) b c) ≡ (list_any N (for_names f) || (in_nodes b || in_nodes c))
   unfolding node_names for_names head_names
   for_named f b c =

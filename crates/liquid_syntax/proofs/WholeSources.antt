@@ -17,7 +17,7 @@ use Rattle.liquid_syntax.proofs.TemplateLaws.{template_again}
 
 -- no opener begins at the front
 NoneBegins : List ℕ → Type 0
-NoneBegins t = (k : Delimiter) (behind : List ℕ) → t ≡ open_brace ∷ opener k ∷ behind → ⊥
+NoneBegins t = (k : Delimiter) (following : List ℕ) → t ≡ open_brace ∷ opener k ∷ following → ⊥
 
 not_opened : (b c : ℕ) (cs : List ℕ) (brace second percents : Bool) → (b == open_brace) ≡ brace → (c == open_brace) ≡ second → (c == percent) ≡ percents → NoneBegins (b ∷ c ∷ cs)
     → not (brace && (second || percents)) ≡ true
@@ -39,7 +39,7 @@ plain_at b (c ∷ cs) h = not_opened b c cs (b == open_brace) (c == open_brace) 
 plain_run : (t : List ℕ) → HasNoOpener t → IsRun plain t []
 unfolding NoneBegins
 plain_run [] h = refl
-plain_run (b ∷ bs) h = (subst (λ r. plain b r ≡ true) (sym (append-nil bs)) (plain_at b bs (λ k behind e. h k [] behind e)), plain_run bs (λ k front behind e. h k (b ∷ front) behind (ap (λ r. b ∷ r) e)))
+plain_run (b ∷ bs) h = (subst (λ r. plain b r ≡ true) (sym (append-nil bs)) (plain_at b bs (λ k following e. h k [] following e)), plain_run bs (λ k front following e. h k (b ∷ front) following (ap (λ r. b ∷ r) e)))
 
 pub plain_sources : PlainSources
 unfolding IsTemplate

@@ -33,7 +33,7 @@ pub data IsPair (s : Symbol) : Text × Expression → List Token → Type 0 wher
 
 -- one of the pairs, with a `,` before it where they are separated
 pub data IsOneOf (k : PairStyle) : Text × Expression → List Token → Type 0 where
-  behind_comma : {p : Text × Expression} {ts : List Token} → is_separated k ≡ true →
+  after_comma : {p : Text × Expression} {ts : List Token} → is_separated k ≡ true →
       IsPair (mark_of k) p ts → IsOneOf k p (symbol Comma ∷ ts)
   unseparated : {p : Text × Expression} {ts : List Token} → is_separated k ≡ false →
       IsPair (mark_of k) p ts → IsOneOf k p ts

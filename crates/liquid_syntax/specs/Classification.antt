@@ -16,7 +16,7 @@ use Rattle.liquid_syntax.specs.PartialItems.{render_node, render_of}
 use Rattle.liquid_language.specs.Registered.{registered_in}
 use Rattle.liquid_syntax.specs.Nesting.{of_one, of_two, of_many, Statement, leaf, closed, begins}
 use Rattle.liquid_syntax.specs.Nesting.{elsif, arm, otherwise, ends, refused}
-use Rattle.liquid_language.specs.Roles.{role_of, unread_body}
+use Rattle.liquid_language.specs.Roles.{role_of, verbatim_body}
 use Rattle.liquid_evaluation.specs.Tree.{Condition, Node, Nodes, plain, raw, comment, output}
 use Rattle.liquid_evaluation.specs.Tree.{assign, if_true, unless, capture, case_of, ifchanged}
 use Rattle.liquid_evaluation.specs.Tree.{break_loop, continue_loop, increment, decrement}
@@ -178,8 +178,8 @@ reads l x (pieces.text t) = leaf (plain t)
 reads l x (pieces.output is) =
     leaf_or (option_map output (chain_of (registered_in l.filters) (tokens_of is)))
 reads l x (pieces.tag w is) = tag_statement l is (tokens_of is) (role_of l x w)
-reads l x (pieces.raw w t) = raw_statement t (unread_body (role_of l x w))
-reads l x (pieces.comment w) = comment_statement (unread_body (role_of l x w))
+reads l x (pieces.raw w t) = raw_statement t (verbatim_body (role_of l x w))
+reads l x (pieces.comment w) = comment_statement (verbatim_body (role_of l x w))
 
 -- ---- where a block begins
 

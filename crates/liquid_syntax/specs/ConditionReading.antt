@@ -50,23 +50,23 @@ unfoldable mutual
   -- a condition
   pub condition_of : List Token → Option Condition
   condition_of [] = None
-  condition_of (t ∷ ts) = if_value t (behind_value ts)
+  condition_of (t ∷ ts) = if_value t (after_value ts)
 
   -- after the first value of an atom
-  pub behind_value : List Token → Expression → Option Condition
-  behind_value [] x = Some ((bare x ∷ []) ∷ [])
-  behind_value (t ∷ ts) x = compared_or (operator_of t) (behind_operator ts x)
+  pub after_value : List Token → Expression → Option Condition
+  after_value [] x = Some ((bare x ∷ []) ∷ [])
+  after_value (t ∷ ts) x = compared_or (operator_of t) (after_operator ts x)
       (atom_joined (bare x) t (condition_of ts))
 
   -- after an operator
-  pub behind_operator : List Token → Expression → ComparisonOperator → Option Condition
-  behind_operator [] x operator = None
-  behind_operator (t ∷ ts) x operator = if_value t (λ y. behind_atom ts (compared x operator y))
+  pub after_operator : List Token → Expression → ComparisonOperator → Option Condition
+  after_operator [] x operator = None
+  after_operator (t ∷ ts) x operator = if_value t (λ y. after_atom ts (compared x operator y))
 
   -- after an atom
-  pub behind_atom : List Token → Atom → Option Condition
-  behind_atom [] a = Some ((a ∷ []) ∷ [])
-  behind_atom (t ∷ ts) a = atom_joined a t (condition_of ts)
+  pub after_atom : List Token → Atom → Option Condition
+  after_atom [] a = Some ((a ∷ []) ∷ [])
+  after_atom (t ∷ ts) a = atom_joined a t (condition_of ts)
 
 -- after a conjunction: nothing, or `or` and a condition
 unfoldable pub alternatives_of : List Token → Option Condition

@@ -56,12 +56,12 @@ named_of name ts = cond (is_cycle_name name) (option_map (λ xs. (Some name, xs)
     None
 
 -- what follows a first value, from the `:` on where there is one
-abbrev pub behind_first : Expression → List Token → Option (List Token) → Option Cycle
-behind_first x ts None = option_map (λ xs. (None, x ∷ xs)) (further_of Commas ts)
-behind_first x ts (Some rest) = named_of x rest
+abbrev pub after_first : Expression → List Token → Option (List Token) → Option Cycle
+after_first x ts None = option_map (λ xs. (None, x ∷ xs)) (further_of Commas ts)
+after_first x ts (Some rest) = named_of x rest
 
 abbrev pub cycle_of : List Token → Option Cycle
-cycle_of ts = option_and_then (λ x. behind_first x.0 x.1 (past Colon x.1)) (value_first ts)
+cycle_of ts = option_and_then (λ x. after_first x.0 x.1 (past Colon x.1)) (value_first ts)
 
 -- ---- the group
 

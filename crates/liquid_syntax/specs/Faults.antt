@@ -5,11 +5,11 @@ use Rattle.liquid_lexer.specs.declared.fault.FaultKind.{FaultKind}
 use Rattle.liquid_lexer.specs.declared.fault.ParseError.{ParseError}
 use Rattle.liquid_lexer.specs.declared.fault.ParseError.TheVariants as errors
 
--- a fault stands at the place with so many bytes of the source left
+-- a fault stands at the place with so many bytes of the source remaining
 abbrev pub FaultsAt : {X : Type 0} → ℕ → Result X ParseError → Type 0
-FaultsAt left (Ok x) = Unit {0}
-FaultsAt left (Err errors.Memory) = Unit {0}
-FaultsAt left (Err (errors.Fault f)) = f.left ≡ left
+FaultsAt remaining (Ok x) = Unit {0}
+FaultsAt remaining (Err errors.Memory) = Unit {0}
+FaultsAt remaining (Err (errors.Fault f)) = f.remaining ≡ remaining
 
 -- a fault is of this kind, and of no other
 abbrev pub FaultsAs : {X : Type 0} → FaultKind → Result X ParseError → Type 0

@@ -21,7 +21,7 @@ use Rattle.liquid_syntax.specs.declared.loop_nodes.Each.{Each}
 use Rattle.liquid_syntax.specs.declared.loop_nodes.WindowExpression.{WindowExpression}
 use Rattle.liquid_syntax.specs.declared.node.Binding.{Binding}
 use Rattle.liquid_syntax.specs.declared.node.Node.{Node}
-use Rattle.liquid_syntax.specs.declared.node.TwoBodies.{TwoBodies}
+use Rattle.liquid_syntax.specs.declared.node.BodyEnds.{BodyEnds}
 use Rattle.liquid_syntax.specs.declared.node.Node.TheVariants.{Text as Plain, Output, Assign, Raw}
 use Rattle.liquid_syntax.specs.declared.node.Node.TheVariants.{Comment, If, Unless, Capture, Case}
 use Rattle.liquid_syntax.specs.declared.node.Node.TheVariants.{For, TableRow, Break, Continue}
@@ -44,7 +44,7 @@ with_two make _ = tree.comment
 abbrev pub leaf : tree.Node → Flat Maker
 leaf n = record { head = (λ bodies. n); ends = [] }
 
-abbrev pub two_bodies : (tree.Nodes → tree.Nodes → tree.Node) → TwoBodies → Flat Maker
+abbrev pub two_bodies : (tree.Nodes → tree.Nodes → tree.Node) → BodyEnds → Flat Maker
 two_bodies make bodies = record {
   head = with_two make;
   ends = bodies.first_end ∷ bodies.last_end ∷ [];

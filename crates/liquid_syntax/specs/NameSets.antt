@@ -16,12 +16,12 @@ mentioned_in_set names name = contains_text names name
 unfoldable pub added : List Text → Names → Names
 added names before name = before name || mentioned names name
 
--- the visitor stays the same, and ends the telling where one of its wanted names is among those
--- that it is told
+-- the visitor stays the same, and ends the visit where one of its wanted names is among those
+-- that it gets
 abbrev pub Looks : {V : Type 0} → (V → Names) → V → List Text → Bool → V → Type 0
 Looks wanted u names found v = (v ≡ u) × (found ≡ list_any (wanted u) names)
 
--- unless it ended the telling, the visitor has the names that it had, and those that it was told
+-- unless it ended the visit, the visitor has the names that it had, and those that it got
 -- besides
 abbrev pub Gathers : {V : Type 0} → (V → Names) → V → List Text → Bool → V → Type 0
 Gathers has u names refused v = OnFalse refused (has v ≡ added names (has u))

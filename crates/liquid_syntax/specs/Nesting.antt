@@ -1,5 +1,5 @@
 -- The written grammar of blocks: which nodes a list of pieces is. What a single piece is, where it
--- stands, is told by `Is`.
+-- stands, `Is` says.
 use Rattle.std.specs.Prelude.{ℕ, suc, List, ◌∷◌}
 use Rattle.liquid_core.specs.Expression.{Expression}
 use Rattle.liquid_evaluation.specs.Tree.{Node, Nodes, no_nodes, node, Whens, no_whens, when}
@@ -51,9 +51,9 @@ module _ {P : Type 0} (Is : BlockContext → P → Statement → Type 0) where
           → AreNodes (InBody b) d f ps after → IsElse b d o after rest →
           IsBlock d (of_two b make) (make f o) ps rest
       -- the nodes before the first `when` or `else` are not kept
-      many : {d : ℕ} {b : Block} {make : Whens → Nodes → Node} {unkept o : Nodes} {ws : Whens}
+      many : {d : ℕ} {b : Block} {make : Whens → Nodes → Node} {case_head o : Nodes} {ws : Whens}
           {ps after rest : List P}
-          → AreNodes (InBody b) d unkept ps after → AreWhens b d ws o after rest →
+          → AreNodes (InBody b) d case_head ps after → AreWhens b d ws o after rest →
           IsBlock d (of_many b make) (make ws o) ps rest
 
     -- After a body, and up to the block's end: its last body, which `else` begins, or none.

@@ -22,49 +22,49 @@ pub data Reading : Type 0 where
   last : Block → (Nodes → Node) → Reading  -- the last body
   first : Block → (Nodes → Nodes → Node) → Reading  -- a first body, before the else list
   -- what stands before the first `when` or `else`
-  unkept : Block → (Whens → Nodes → Node) → Reading
+  case_head : Block → (Whens → Nodes → Node) → Reading
   -- the body of a `when`, before further ones and the else list
-  armed : Block → (Nodes → Whens → Nodes → Node) → Reading
+  when_body : Block → (Nodes → Whens → Nodes → Node) → Reading
 
 abbrev pub begun : Opening → Reading
 begun (of_one b make) = last b make
 begun (of_two b make) = first b make
-begun (of_many b make) = unkept b make
+begun (of_many b make) = case_head b make
 
 abbrev pub context_in : Reading → BlockContext
 context_in (last b make) = InLast b
 context_in (first b make) = InBody b
-context_in (unkept b make) = InBody b
-context_in (armed b make) = InBody b
+context_in (case_head b make) = InBody b
+context_in (when_body b make) = InBody b
 
 -- the node, where the block ends after the nodes f
 abbrev pub ended : Reading → Nodes → Node
 ended (last b make) f = make f
 ended (first b make) f = make f no_nodes
-ended (unkept b make) f = make no_whens no_nodes
-ended (armed b make) f = make f no_whens no_nodes
+ended (case_head b make) f = make no_whens no_nodes
+ended (when_body b make) f = make f no_whens no_nodes
 
 -- where an `else` follows the nodes f
 abbrev pub else_of : Reading → Nodes → Option Reading
 else_of (last b make) f = None
 else_of (first b make) f = Some (last b (make f))
-else_of (unkept b make) f = Some (last b (make no_whens))
-else_of (armed b make) f = Some (last b (make f no_whens))
+else_of (case_head b make) f = Some (last b (make no_whens))
+else_of (when_body b make) f = Some (last b (make f no_whens))
 
 -- where a `when` follows the nodes f
 abbrev pub when_of : List Expression → Reading → Nodes → Option Reading
 when_of vs (last b make) f = None
 when_of vs (first b make) f = None
-when_of vs (unkept b make) f = Some (armed b (λ g ws o. make (when vs g ws) o))
-when_of vs (armed b make) f = Some (armed b (λ g ws o. make f (when vs g ws) o))
+when_of vs (case_head b make) f = Some (when_body b (λ g ws o. make (when vs g ws) o))
+when_of vs (when_body b make) f = Some (when_body b (λ g ws o. make f (when vs g ws) o))
 
 -- where an `elsif` follows the nodes f: the block goes on with its else list, in which
 -- another begins
 abbrev pub elsif_of : (Nodes → Nodes → Node) → Reading → Nodes → Option (Reading × Reading)
 elsif_of next (last b make) f = None
 elsif_of next (first b make) f = Some (last b (make f), first b next)
-elsif_of next (unkept b make) f = None
-elsif_of next (armed b make) f = None
+elsif_of next (case_head b make) f = None
+elsif_of next (when_body b make) f = None
 
 -- an open block: the body that is being read, the nodes before the block in its own list, and
 -- whether an `elsif` opened it

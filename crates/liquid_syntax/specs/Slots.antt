@@ -4,7 +4,7 @@ use Rattle.liquid_model.specs.Maps.{listed}
 use Rattle.liquid_model.specs.Texts.{Text}
 use Rattle.liquid_language.specs.Entries.{put_entry, without}
 
--- entries behind a slot, with what it holds
+-- entries after a slot, with what it holds
 abbrev pub with_held : {Y : Type 0} → Text → Option Y → List (Text × Y) → List (Text × Y)
 with_held name None es = es
 with_held name (Some y) es = (name, y) ∷ es

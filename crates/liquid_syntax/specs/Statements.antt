@@ -13,7 +13,7 @@ use Rattle.liquid_language.specs.Registered.{registered_in}
 use Rattle.liquid_syntax.specs.Nesting.{of_one, of_two, of_many, Statement, leaf, closed, begins}
 use Rattle.liquid_syntax.specs.Nesting.{elsif, arm, otherwise, ends}
 use Rattle.liquid_syntax.specs.PartialItems.{IsInclude, IsJekyllInclude, IsRender}
-use Rattle.liquid_language.specs.Roles.{role_of, unread_body}
+use Rattle.liquid_language.specs.Roles.{role_of, verbatim_body}
 use Rattle.liquid_evaluation.specs.Tree.{Bindings, Chain, Condition, Source, plain, raw, comment}
 use Rattle.liquid_evaluation.specs.Tree.{output, assign, if_true, unless, capture, case_of}
 use Rattle.liquid_evaluation.specs.Tree.{ifchanged, break_loop, continue_loop, increment, decrement}
@@ -95,7 +95,7 @@ pub data IsStatement (l : Language) (x : BlockContext) : pieces.Piece → Statem
       IsRender name each ps (tokens_of is) →
       IsStatement l x (pieces.tag w is) (leaf (render name each ps))
   -- a block whose body isn't read has no items, and with its body it is a piece of its own
-  is_raw : {w t : Text} → unread_body (role_of l x w) ≡ Some Raw →
+  is_raw : {w t : Text} → verbatim_body (role_of l x w) ≡ Some Raw →
       IsStatement l x (pieces.raw w t) (closed (raw t))
-  is_comment : {w : Text} → unread_body (role_of l x w) ≡ Some Comment →
+  is_comment : {w : Text} → verbatim_body (role_of l x w) ≡ Some Comment →
       IsStatement l x (pieces.comment w) (closed comment)

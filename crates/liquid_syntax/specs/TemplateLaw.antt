@@ -10,8 +10,8 @@ use Rattle.liquid_evaluation.specs.Tree.{Nodes, no_nodes, node, plain}
 
 -- `{{` and `{%` stand nowhere in the text
 abbrev pub HasNoOpener : Text → Type 0
-HasNoOpener t = (k : Delimiter) (front behind : Text) →
-    t ≡ front ++ (open_brace ∷ opener k ∷ behind) → ⊥
+HasNoOpener t = (k : Delimiter) (front following : Text) →
+    t ≡ front ++ (open_brace ∷ opener k ∷ following) → ⊥
 
 -- the template of one text; the empty text is the empty template
 abbrev pub text_alone : Text → Nodes

@@ -14,7 +14,7 @@ use liquid_core::Expression;
 use liquid_lexer::ParseError;
 
 /// Ends the body that is being read, where another may follow it: writes where it ends, or drops
-/// what isn't kept.
+/// the head of a `case`.
 pub(crate) fn end_body(nodes: &mut Vec<Node>, block: Open)
     requires { block.node_index < length nodes.old.items }
     ensures ended { BodyEnded block.stage block.node_index (flats nodes.old.items)
@@ -25,8 +25,8 @@ pub(crate) fn end_body(nodes: &mut Vec<Node>, block: Open)
     match block.stage {
         Stage::First => end_before_last(&mut nodes[block.node_index], end),
         Stage::Last => {}
-        Stage::Unkept => nodes.truncate(block.node_index + 1),
-        Stage::Armed => end_before_last(&mut nodes[block.node_index], end),
+        Stage::CaseHead => nodes.truncate(block.node_index + 1),
+        Stage::WhenBody => end_before_last(&mut nodes[block.node_index], end),
     }
 }
 

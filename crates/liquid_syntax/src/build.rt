@@ -36,10 +36,10 @@ pub enum Stage {
     First,
     /// The last body that the block can have.
     Last,
-    /// What stands before the first `when` or `else` of a `case`; it is not kept.
-    Unkept,
+    /// What stands before the first `when` or `else` of a `case`; its nodes are dropped.
+    CaseHead,
     /// The body of a `when`.
-    Armed,
+    WhenBody,
 }
 
 /// What a piece is, where it stands. A node with bodies doesn't know yet where they end.
@@ -48,7 +48,7 @@ pub enum Statement {
     /// A node without bodies.
     Leaf(Node),
     /// A block whose body isn't read, as a whole.
-    Closed(Node),
+    Verbatim(Node),
     /// The start of a block.
     Begins(Block, Stage, Node),
     /// `elsif`, as the `if` that it is in the else list.
@@ -56,9 +56,9 @@ pub enum Statement {
     /// `when`, with its values.
     When(Vec<Expression>),
     /// `else`
-    Otherwise,
+    Else,
     /// The end of the innermost block.
-    Ends,
+    End,
 }
 
 /// A block that is open.
@@ -105,7 +105,9 @@ impl Builder {
         match self.blocks.last() {
             None => BlockContext::Outside,
             Some(open) => match open.stage {
-                Stage::First | Stage::Unkept | Stage::Armed => BlockContext::InBody(open.block),
+                Stage::First | Stage::CaseHead | Stage::WhenBody => BlockContext::InBody(
+                    open.block,
+                ),
                 Stage::Last => BlockContext::InLast(open.block),
             },
         }
@@ -165,17 +167,17 @@ impl Builder {
 
     /// The end of a body that an `else` may end, and the start of the last. `left` is the number of
     /// bytes of the source from the piece on.
-    fn otherwise(&mut self, left: usize) -> Result<(), ParseError>
+    fn otherwise(&mut self, remaining: usize) -> Result<(), ParseError>
         requires { IsBuilt self.old }
         ensures stack { (ls : List Level) (cur : Nodes) → IsBuilding self.old ls cur →
             AdvancesTo (to_else ls cur) self.new result }
-        ensures place { FaultsAt left result }
+        ensures place { FaultsAt remaining result }
     {
         match self.blocks.pop() {
-            None => Err(ParseError::Fault(no_body(left))),
+            None => Err(ParseError::Fault(no_body(remaining))),
             Some(open) => {
                 if !takes_else(open.stage) {
-                    return Err(ParseError::Fault(no_body(left)));
+                    return Err(ParseError::Fault(no_body(remaining)));
                 }
                 end_body(&mut self.nodes, open);
                 self.blocks.push(Open {
@@ -189,25 +191,25 @@ impl Builder {
         }
     }
 
-    /// `when`: the body of the one before it ends, or what isn't kept, and its own begins.
-    fn when(&mut self, values: Vec<Expression>, left: usize) -> Result<(), ParseError>
+    /// `when`: the body of the one before it ends, or the head of the `case`, and its own begins.
+    fn when(&mut self, values: Vec<Expression>, remaining: usize) -> Result<(), ParseError>
         requires { IsBuilt self.old }
         ensures stack { (ls : List Level) (cur : Nodes) → IsBuilding self.old ls cur →
             AdvancesTo (to_when (map expression_view values.items) ls cur) self.new result }
-        ensures place { FaultsAt left result }
+        ensures place { FaultsAt remaining result }
     {
         match self.blocks.pop() {
-            None => Err(ParseError::Fault(no_body(left))),
+            None => Err(ParseError::Fault(no_body(remaining))),
             Some(open) => {
                 if !takes_when(open.stage) {
-                    return Err(ParseError::Fault(no_body(left)));
+                    return Err(ParseError::Fault(no_body(remaining)));
                 }
                 end_body(&mut self.nodes, open);
                 add_arm(&mut self.nodes[open.node_index], values)?;
                 self.blocks.push(Open {
                     node_index: open.node_index,
                     block: open.block,
-                    stage: Stage::Armed,
+                    stage: Stage::WhenBody,
                     chained: open.chained,
                 })?;
                 Ok(())
@@ -222,34 +224,34 @@ impl Builder {
         let open = self.blocks.last()?;
         match open.stage {
             Stage::First => Some(open.block),
-            Stage::Last | Stage::Unkept | Stage::Armed => None,
+            Stage::Last | Stage::CaseHead | Stage::WhenBody => None,
         }
     }
 
     /// The end of a first body, and the start of the last. It answers the block that they are
     /// bodies of.
-    fn end_first(&mut self, left: usize) -> Result<Block, ParseError>
+    fn end_first(&mut self, remaining: usize) -> Result<Block, ParseError>
         requires { IsBuilt self.old }
         ensures stack { (ls : List Level) (cur : Nodes) → IsBuilding self.old ls cur →
             EndsFirst ls cur self.new result }
-        ensures place { FaultsAt left result }
+        ensures place { FaultsAt remaining result }
     {
         let Some(block) = self.first_block() else {
-            return Err(ParseError::Fault(no_body(left)));
+            return Err(ParseError::Fault(no_body(remaining)));
         };
-        self.otherwise(left)?;
+        self.otherwise(remaining)?;
         Ok(block)
     }
 
     /// `elsif`: the last body begins, and in it a block that ends with the one around it.
-    fn elsif(&mut self, node: Node, left: usize) -> Result<(), ParseError>
+    fn elsif(&mut self, node: Node, remaining: usize) -> Result<(), ParseError>
         requires { IsBuilt self.old }
         ensures stack { IsPrepared stages.First node → (ls : List Level) (cur : Nodes) →
             IsBuilding self.old ls cur →
             AdvancesTo (to_elsif (of_bodies (flat_of node)) ls cur) self.new result }
-        ensures place { FaultsAt left result }
+        ensures place { FaultsAt remaining result }
     {
-        match self.end_first(left) {
+        match self.end_first(remaining) {
             Ok(block) => self.open(block, Stage::First, true, node),
             Err(error) => {
                 drop(node);
@@ -275,17 +277,17 @@ impl Builder {
     }
 
     /// The end of a block. Where an `elsif` opened it, the block around it ends too.
-    fn close(&mut self, left: usize) -> Result<(), ParseError>
+    fn close(&mut self, remaining: usize) -> Result<(), ParseError>
         requires { IsBuilt self.old }
         ensures stack { (ls : List Level) (cur : Nodes) → IsBuilding self.old ls cur →
             AdvancesTo (close true ls cur) self.new result }
-        ensures place { FaultsAt left result }
+        ensures place { FaultsAt remaining result }
     {
         let mut chained = true;
         'chain: while chained {
             match self.close_one() {
                 Some(around) => chained = around,
-                None => return Err(ParseError::Fault(no_body(left))),
+                None => return Err(ParseError::Fault(no_body(remaining))),
             }
         }
         self.depth -= 1;
@@ -293,17 +295,17 @@ impl Builder {
     }
 
     /// A block whose body isn't read, where the blocks around it aren't too deep already.
-    fn closed(&mut self, node: Node, left: usize) -> Result<(), ParseError>
+    fn verbatim(&mut self, node: Node, remaining: usize) -> Result<(), ParseError>
         requires { (flat_of node).ends ≡ [] }
         ensures stack { (ls : List Level) (cur : Nodes) → IsBuilding self.old ls cur →
             AdvancesTo (to_closed ((flat_of node).head []) ls cur) self.new result }
-        ensures place { FaultsAt left result }
+        ensures place { FaultsAt remaining result }
     {
         // the node goes in before the depth is looked at: a fault ends the reading anyhow, and a
         // node that is dropped on a way out takes the prover longer than all else here
         self.leaf(node)?;
         if self.is_full() {
-            return Err(too_nested(left));
+            return Err(too_nested(remaining));
         }
         Ok(())
     }
@@ -314,38 +316,38 @@ impl Builder {
         block: Block,
         stage: Stage,
         node: Node,
-        left: usize,
+        remaining: usize,
     ) -> Result<(), ParseError>
         ensures stack { IsPrepared stage node → (ls : List Level) (cur : Nodes) →
             IsBuilding self.old ls cur →
             AdvancesTo (to_begin (opening block stage node) ls cur) self.new result }
-        ensures place { FaultsAt left result }
+        ensures place { FaultsAt remaining result }
     {
         // here too the node goes in first
         self.open(block, stage, false, node)?;
         if self.is_full() {
-            return Err(too_nested(left));
+            return Err(too_nested(remaining));
         }
         self.depth += 1;
         Ok(())
     }
 
     /// Adds the next piece, with `left` bytes of the source from it on.
-    pub fn add(&mut self, statement: Statement, left: usize) -> Result<(), ParseError>
+    pub fn add(&mut self, statement: Statement, remaining: usize) -> Result<(), ParseError>
         requires built { IsBuilt self.old }
         requires sound { IsSound statement }
         ensures stack { (ls : List Level) (cur : Nodes) → IsBuilding self.old ls cur →
             AdvancesTo (statement_step (statement_view statement) ls cur) self.new result }
-        ensures place { FaultsAt left result }
+        ensures place { FaultsAt remaining result }
     {
         match statement {
             Statement::Leaf(node) => self.leaf(node),
-            Statement::Closed(node) => self.closed(node, left),
-            Statement::Begins(block, stage, node) => self.begin(block, stage, node, left),
-            Statement::Elsif(node) => self.elsif(node, left),
-            Statement::When(values) => self.when(values, left),
-            Statement::Otherwise => self.otherwise(left),
-            Statement::Ends => self.close(left),
+            Statement::Verbatim(node) => self.verbatim(node, remaining),
+            Statement::Begins(block, stage, node) => self.begin(block, stage, node, remaining),
+            Statement::Elsif(node) => self.elsif(node, remaining),
+            Statement::When(values) => self.when(values, remaining),
+            Statement::Else => self.otherwise(remaining),
+            Statement::End => self.close(remaining),
         }
     }
 
@@ -373,8 +375,8 @@ fn takes_else(stage: Stage) -> bool
     match stage {
         Stage::First => true,
         Stage::Last => false,
-        Stage::Unkept => true,
-        Stage::Armed => true,
+        Stage::CaseHead => true,
+        Stage::WhenBody => true,
     }
 }
 
@@ -385,7 +387,7 @@ fn takes_when(stage: Stage) -> bool
     match stage {
         Stage::First => false,
         Stage::Last => false,
-        Stage::Unkept => true,
-        Stage::Armed => true,
+        Stage::CaseHead => true,
+        Stage::WhenBody => true,
     }
 }

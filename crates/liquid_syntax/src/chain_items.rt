@@ -152,16 +152,16 @@ fn read_arguments(
     }
 }
 
-/// An `Expected` fault in the piece, at the item from which on `items_left` of its items are left.
-pub fn expected(at: &str, items_left: usize, wanted: Expectation) -> ParseError
+/// An `Expected` fault in the piece, at the item with `items_remaining` items of it from there on.
+pub fn expected(at: &str, items_remaining: usize, wanted: Expectation) -> ParseError
     ensures kind { IsOfKind FaultKind.Expected result }
     ensures place { IsAt (length at.now) result }
 {
     ParseError::Fault(Fault {
         kind: FaultKind::Expected,
-        left: at.len(),
+        remaining: at.len(),
         wanted,
-        items_left,
+        items_remaining,
     })
 }
 

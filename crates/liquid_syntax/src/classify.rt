@@ -11,15 +11,15 @@ ghost use Rattle.liquid_syntax.specs.Classification.{raw_statement, reads, tag_s
 ghost use Rattle.liquid_language.specs.Roles.{role_of};
 
 mod blocks;
-mod leaves;
+mod leaf_tags;
 mod tags;
 
 use crate::build::Statement;
 use crate::chain_items::{expected_before, read_chain};
 use crate::node::Node;
 use blocks::{read_block, read_control};
-use leaves::read_leaf;
-use liquid_language::{BlockContext, Language, Role, role_of, unread_body};
+use leaf_tags::read_leaf;
+use liquid_language::{BlockContext, Language, Role, role_of, verbatim_body};
 use liquid_lexer::{Body, Expectation, Fault, FaultKind, Item, ParseError, Piece};
 use std::alloc::Global;
 use std::collections::VecDeque;
@@ -58,11 +58,11 @@ pub fn classify(
         Piece::Tag(name, items) => read_tag(alloc, language, context, name, items, at),
         Piece::Raw(name, body) => {
             let role = role_of(language, context, name);
-            raw_block(alloc, unread_body(role), body, at)
+            raw_block(alloc, verbatim_body(role), body, at)
         }
         Piece::Comment(name) => {
             let role = role_of(language, context, name);
-            comment_block(unread_body(role), at)
+            comment_block(verbatim_body(role), at)
         }
     }
 }
@@ -78,7 +78,7 @@ fn raw_block(
     ensures place { FaultsAt (length at.now) result }
 {
     match wanted {
-        Some(Body::Raw) => Ok(Statement::Closed(Node::Raw(String::from_str(alloc, body)?))),
+        Some(Body::Raw) => Ok(Statement::Verbatim(Node::Raw(String::from_str(alloc, body)?))),
         _ => Err(unknown_tag(at)),
     }
 }
@@ -89,7 +89,7 @@ fn comment_block(wanted: Option<Body>, at: &str) -> Result<Statement, ParseError
     ensures place { FaultsAt (length at.now) result }
 {
     match wanted {
-        Some(Body::Comment) => Ok(Statement::Closed(Node::Comment)),
+        Some(Body::Comment) => Ok(Statement::Verbatim(Node::Comment)),
         _ => Err(unknown_tag(at)),
     }
 }
@@ -121,7 +121,7 @@ fn read_end(items: VecDeque<Item<'_>>, at: &str) -> Result<Statement, ParseError
     ensures place { FaultsAt (length at.now) result }
 {
     if items.is_empty() {
-        Ok(Statement::Ends)
+        Ok(Statement::End)
     } else {
         Err(expected_before(at, items, Expectation::Closer))
     }

@@ -9,41 +9,41 @@ use liquid_lexer::{Expectation, Fault, FaultKind, ParseError};
 
 /// The fault of an end, an `else` or an `elsif` where no body can end. `left` is the number of
 /// bytes of the source from it on.
-pub(crate) fn no_body(left: usize) -> Fault
+pub(crate) fn no_body(remaining: usize) -> Fault
     ensures kind { result.kind ≡ FaultKind.UnknownTag }
-    ensures place { result.left ≡ left }
+    ensures place { result.remaining ≡ remaining }
 {
     Fault {
         kind: FaultKind::UnknownTag,
-        left,
+        remaining,
         wanted: Expectation::BlockStart,
-        items_left: 0,
+        items_remaining: 0,
     }
 }
 
 /// The fault of a block that nests too deep, with `left` bytes of the source from it on.
-pub(crate) fn too_nested(left: usize) -> ParseError
+pub(crate) fn too_nested(remaining: usize) -> ParseError
     ensures kind { IsOfKind FaultKind.TooNested result }
-    ensures place { IsAt left result }
+    ensures place { IsAt remaining result }
 {
     ParseError::Fault(Fault {
         kind: FaultKind::TooNested,
-        left,
+        remaining,
         wanted: Expectation::FewerBlocks,
-        items_left: 0,
+        items_remaining: 0,
     })
 }
 
 /// The fault of a source that ends in a block.
 pub(crate) fn missing_end(block: Block) -> Fault
     ensures kind { result.kind ≡ FaultKind.MissingEnd }
-    ensures place { result.left ≡ 0 }
+    ensures place { result.remaining ≡ 0 }
     ensures wanted { end_of result.wanted ≡ end_word block }
 {
     Fault {
         kind: FaultKind::MissingEnd,
-        left: 0,
+        remaining: 0,
         wanted: Expectation::End(end_tag(block)),
-        items_left: 0,
+        items_remaining: 0,
     }
 }

@@ -1,4 +1,4 @@
-//! The group of a `cycle`, which is settled as the template is parsed.
+//! The group of a `cycle`, which is fixed as the template is parsed.
 ghost use Rattle.std.specs.Prelude.{◌≡◌, ◌++◌, IfOk, OnOk, Some, codes, map, string_bytes};
 ghost use Rattle.liquid_core.specs.ExpressionView.{expression_view};
 ghost use Rattle.liquid_core.specs.Written.{written_form};

@@ -1,5 +1,5 @@
 //! Where an item of a piece stands in the source, which is asked for only where a fault of a run is
-//! told: the piece is read once more.
+//! reported: the piece is read once more.
 use crate::positions::{Position, rest_from};
 use crate::when_place::from_when;
 use liquid_lexer::{Item, PlacedItem, Symbol, is_word, placed_piece};
@@ -74,8 +74,8 @@ fn from_item<'s>(items: &Vec<PlacedItem<'s>>, item: PieceItem) -> Option<&'s str
         PieceItem::First(index) => Some(inside_of(from_index(items, Some(index))?)),
         PieceItem::Filter(index) => from_index(items, after_bar(items, index, 1)),
         PieceItem::Argument(index, argument) => {
-            let behind = argument.saturating_mul(2).saturating_add(3);
-            from_index(items, after_bar(items, index, behind))
+            let items_after = argument.saturating_mul(2).saturating_add(3);
+            from_index(items, after_bar(items, index, items_after))
         }
         PieceItem::CycleValue(index) => from_index(items, Some(cycle_value(items, index))),
         PieceItem::Pair(index) => from_index(items, pair_value(items, index)),
@@ -111,12 +111,12 @@ fn from_index<'s>(items: &Vec<PlacedItem<'s>>, index: Option<usize>) -> Option<&
 }
 
 /// The index so far after the bar before the filter at an index of the chain.
-fn after_bar(items: &Vec<PlacedItem<'_>>, filter: usize, behind: usize) -> Option<usize> {
+fn after_bar(items: &Vec<PlacedItem<'_>>, filter: usize, items_after: usize) -> Option<usize> {
     let mut left = filter;
     for (index, placed) in items.iter().enumerate() {
         if is_symbol(&placed.item, Symbol::Bar) {
             if left == 0 {
-                return Some(index.saturating_add(behind));
+                return Some(index.saturating_add(items_after));
             }
             left = left.saturating_sub(1);
         }

@@ -45,9 +45,9 @@ pub use liquid_lexer::{
 pub use loop_items::{Loop, LoopPart, LoopTag, read_loop};
 pub use loop_nodes::{Each, For, TableRow, WindowExpression};
 pub use names::add_name;
-pub use node::{Arm, Binding, Node, TwoBodies};
+pub use node::{Arm, Binding, BodyEnds, Node};
 pub use pair_items::PairStyle;
-pub use parser::{parse, parse_kept};
+pub use parser::{parse, parse_with_source};
 pub use partials::Partials;
 pub use positions::Position;
 pub use template::Template;

@@ -64,7 +64,7 @@ pub(crate) fn next_source(items: &mut VecDeque<Item<'_>>) -> Option<RangeExpress
 }
 
 /// Takes a `:` and the value after it off the front, if they stand there.
-fn behind_colon(items: &mut VecDeque<Item<'_>>) -> Option<Expression>
+fn after_colon(items: &mut VecDeque<Item<'_>>) -> Option<Expression>
     ensures value { (make : Meant → Part) →
         option_map (λ x. (make (expression_view x), tokens_view items.new.items)) result ≡
         part_value make (tokens_view items.old.items) }
@@ -91,10 +91,10 @@ fn next_part(items: &mut VecDeque<Item<'_>>, kind: LoopTag) -> Option<LoopPart>
     ensures shorter { IfSome result (λ _. length items.new.items < length items.old.items) }
 {
     if skip_word(items, "limit") {
-        return Some(LoopPart::Limit(behind_colon(items)?));
+        return Some(LoopPart::Limit(after_colon(items)?));
     }
     if skip_word(items, "offset") {
-        return Some(LoopPart::Offset(behind_colon(items)?));
+        return Some(LoopPart::Offset(after_colon(items)?));
     }
     own_part(items, kind)
 }
@@ -116,7 +116,7 @@ fn own_part(items: &mut VecDeque<Item<'_>>, kind: LoopTag) -> Option<LoopPart>
             if !skip_word(items, "cols") {
                 return None;
             }
-            Some(LoopPart::Cols(behind_colon(items)?))
+            Some(LoopPart::Cols(after_colon(items)?))
         }
     }
 }

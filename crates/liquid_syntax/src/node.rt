@@ -22,18 +22,18 @@ impl Drop for Binding {
 
 /// Where the two bodies of a node end, as indices of the list.
 #[derive(Clone, Copy, Debug, PartialEq, Eq)]
-pub struct TwoBodies {
+pub struct BodyEnds {
     pub first_end: usize,
     pub last_end: usize,
 }
 
-impl TwoBodies {
+impl BodyEnds {
     /// The bodies of a node of which it isn't known yet where they end.
-    pub fn open() -> TwoBodies
+    pub fn open() -> BodyEnds
         ensures first { result.first_end ≡ 0 }
         ensures last { result.last_end ≡ 0 }
     {
-        TwoBodies {
+        BodyEnds {
             first_end: 0,
             last_end: 0,
         }
@@ -66,10 +66,10 @@ pub enum Node {
     Comment,
     /// `{% if condition %}`, with the body that runs where the condition holds, and that of `else`.
     /// An `elsif` is an `If` alone in the body of `else`.
-    If(Condition, TwoBodies),
+    If(Condition, BodyEnds),
     /// `{% unless condition %}`, with the body that runs where the condition doesn't hold, and that
     /// of `else`.
-    Unless(Condition, TwoBodies),
+    Unless(Condition, BodyEnds),
     /// `{% capture name %}`, and where its body ends.
     Capture(String, usize),
     /// `{% case target %}`, with its `when` parts, and where the body of `else` ends. What stands
@@ -77,7 +77,7 @@ pub enum Node {
     Case(Expression, Vec<Arm>, usize),
     /// `{% for variable in source %}`, with the body that runs for each item, and that of `else`,
     /// which runs where there is no item.
-    For(Box<For>, TwoBodies),
+    For(Box<For>, BodyEnds),
     /// `{% tablerow variable in source %}`, and where its body ends.
     TableRow(Box<TableRow>, usize),
     /// `{% break %}`
@@ -88,7 +88,7 @@ pub enum Node {
     Increment(String),
     /// `{% decrement name %}`
     Decrement(String),
-    /// `{% cycle values %}`, with its group, which is settled when the template is parsed.
+    /// `{% cycle values %}`, with its group, which is fixed when the template is parsed.
     Cycle(String, Vec<Expression>),
     /// `{% ifchanged %}`, and where its body ends.
     IfChanged(usize),

@@ -16,7 +16,7 @@ use crate::faults::too_nested;
 use crate::positions::Positions;
 use crate::template::Template;
 use liquid_core::{Error, Result};
-use liquid_language::{Language, body_behind, explanation_of};
+use liquid_language::{Language, body_after, explanation_of};
 use liquid_lexer::{
     Markup, ParseError, location, past_byte, read_body, read_markup, stripped, text_before,
 };
@@ -47,7 +47,7 @@ pub fn parse(alloc: Global, source: &str, language: &Language) -> Result<Templat
 /// As [parse], for a template that keeps its source, in which a fault of a run finds the item that
 /// it is about. Of a source with more than 1 MiB nothing is kept, and the faults of its runs stand
 /// at their outputs and tags. `Memory` also where there is no room for the source.
-pub fn parse_kept(alloc: Global, source: &str, language: &Language) -> Result<Template>
+pub fn parse_with_source(alloc: Global, source: &str, language: &Language) -> Result<Template>
     ensures parses { ParsesTo language.now source.now result }
     ensures kinds { IfErr result (λ e. MayRefuse e.kind) }
 {
@@ -72,9 +72,9 @@ fn error_of(alloc: Global, source: &str, language: &Language, error: ParseError)
     match error {
         ParseError::Memory => Error::from(AllocError),
         ParseError::Fault(fault) => match explanation_of(alloc, source, language, fault) {
-            Ok(told) => Error::with_message(fault.kind.kind(), told.message).located(
+            Ok(explanation) => Error::with_message(fault.kind.kind(), explanation.message).located(
                 alloc,
-                location(source, told.remaining),
+                location(source, explanation.remaining),
             ),
             Err(refused) => Error::from(refused),
         },
@@ -119,8 +119,8 @@ impl Reader<'_> {
         let mut strip_next = false;
         let mut rest = source;
         'pieces: loop {
-            let (text, behind) = text_before(rest);
-            let Some(inside) = past_byte(behind, b'{') else {
+            let (text, following) = text_before(rest);
+            let Some(inside) = past_byte(following, b'{') else {
                 return self.text(alloc, stripped(strip_next, text, false), rest.len());
             };
             let found = read_markup(alloc, inside)?;
@@ -129,7 +129,7 @@ impl Reader<'_> {
                 stripped(strip_next, text, found.0.before),
                 rest.len(),
             )?;
-            let (strips, after) = self.piece(alloc, language, found, behind)?;
+            let (strips, after) = self.piece(alloc, language, found, following)?;
             strip_next = strips;
             rest = after;
         }
@@ -140,13 +140,13 @@ impl Reader<'_> {
         &mut self,
         alloc: Global,
         text: &str,
-        left: usize,
+        remaining: usize,
     ) -> std::result::Result<(), ParseError>
         ensures { (ls : List Level) (cur : Nodes) → IsBuilding self.old.builder ls cur →
             AdvancesTo (Some (ls, text_added text.now cur)) self.new.builder result }
     {
         self.builder.text(alloc, text)?;
-        self.positions.mark(left, self.builder.nodes.len())?;
+        self.positions.mark(remaining, self.builder.nodes.len())?;
         Ok(())
     }
 
@@ -167,7 +167,7 @@ impl Reader<'_> {
     {
         let context = self.builder.context();
         let (markup, after) = found;
-        let body = body_behind(language, context, &markup.piece);
+        let body = body_after(language, context, &markup.piece);
         let (markup, after) = read_body(body, markup, after)?;
         if self.builder.is_full() && opens(language, context, &markup.piece) {
             return Err(too_nested(at.len()));

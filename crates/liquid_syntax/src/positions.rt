@@ -73,8 +73,8 @@ impl<'s> Positions<'s> {
 
     /// A piece begins with `left` bytes of the source after it, and with it the list has `count`
     /// nodes.
-    pub(crate) fn mark(&mut self, left: usize, count: usize) -> Result<(), AllocError> {
-        let passed = self.rest.len().saturating_sub(left);
+    pub(crate) fn mark(&mut self, remaining: usize, count: usize) -> Result<(), AllocError> {
+        let passed = self.rest.len().saturating_sub(remaining);
         if let Some((before, rest)) = self.rest.split_at_checked(passed) {
             self.reached = self.reached.after(before);
             self.rest = rest;

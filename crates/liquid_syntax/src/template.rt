@@ -62,7 +62,7 @@ impl Template {
         &self.positions
     }
 
-    /// The source, where the template keeps it (`parse_kept`).
+    /// The source, where the template keeps it (`parse_with_source`).
     pub fn source(&self) -> Option<&str> {
         match &self.source {
             Some(source) => Some(source.as_str()),

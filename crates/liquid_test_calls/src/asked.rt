@@ -36,8 +36,8 @@ fn twice_completed(alloc: Global, mut data: Object, uses: &Uses) -> Result<Value
 
 /// The uses that the map has, or none.
 #[cycle(use_of)]
-fn uses_of(alloc: Global, told: &Value) -> Result<Uses> {
-    match told {
+fn uses_of(alloc: Global, value: &Value) -> Result<Uses> {
+    match value {
         Value::Object(named) => named_uses(alloc, named),
         _ => Ok(Uses::new(alloc)),
     }
@@ -46,16 +46,16 @@ fn uses_of(alloc: Global, told: &Value) -> Result<Uses> {
 #[cycle(use_of)]
 fn named_uses(alloc: Global, named: &Object) -> Result<Uses> {
     let mut uses = Uses::new(alloc);
-    for (name, told) in named.iter() {
+    for (name, value) in named.iter() {
         let name = String::from_str(alloc, name.as_str())?;
-        drop(uses.insert(name, use_of(alloc, told)?)?);
+        drop(uses.insert(name, use_of(alloc, value)?)?);
     }
     Ok(uses)
 }
 
 #[cycle(use_of)]
-fn use_of(alloc: Global, told: &Value) -> Result<Use> {
-    match told {
+fn use_of(alloc: Global, value: &Value) -> Result<Use> {
+    match value {
         Value::Nil => Ok(Use::Nothing),
         Value::Object(named) => {
             let members = named_uses(alloc, named)?;
@@ -73,12 +73,12 @@ fn use_of(alloc: Global, told: &Value) -> Result<Use> {
 #[cycle(use_of)]
 fn looped_use(alloc: Global, parts: &Vec<Value>) -> Result<Use> {
     let item = match parts.first() {
-        Some(told) => use_of(alloc, told)?,
+        Some(value) => use_of(alloc, value)?,
         None => Use::Nothing,
     };
     let items = Some(Box::new(alloc, item)?);
     let members = match parts.get(1) {
-        Some(told) => uses_of(alloc, told)?,
+        Some(value) => uses_of(alloc, value)?,
         None => Uses::new(alloc),
     };
     Ok(Use::Parts { members, items })

@@ -34,7 +34,7 @@ fn expression_call(
         "try_evaluate" => found(expression.try_evaluate(alloc, state)),
         "copy" => copied(alloc, expression),
         "to_string" => written(alloc, expression),
-        "append_written_form" => text(written_behind(alloc, expression)),
+        "append_written_form" => text(written_after(alloc, expression)),
         _ => no_call(alloc),
     }
 }
@@ -50,7 +50,7 @@ fn copied(alloc: Global, expression: &Expression) -> Result<Value> {
 }
 
 /// The written form of the expression after a text.
-fn written_behind(alloc: Global, expression: &Expression) -> Result<String> {
+fn written_after(alloc: Global, expression: &Expression) -> Result<String> {
     let mut out = String::from_str(alloc, "cycle ")?;
     expression.append_written_form(&mut out)?;
     Ok(out)

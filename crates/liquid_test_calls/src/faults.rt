@@ -13,15 +13,15 @@ pub(crate) fn unknown(alloc: Global) -> Error {
     Error::with_message(ErrorKind::UnknownPartial, String::new(alloc))
 }
 
-/// The fault of the kind that a division by zero is, with the message of the row, as it is told.
+/// The fault of the kind that a division by zero is, with the message of the row, as it is printed.
 pub(crate) fn fault_call(alloc: Global, name: &str, row: &WorkedRow) -> Result<Value> {
     let message = row.source.as_str();
     match name {
-        "new" => as_told(alloc, divided(alloc, message)),
-        "formatted" => as_told(alloc, formatted(alloc, message)),
+        "new" => as_text(alloc, divided(alloc, message)),
+        "formatted" => as_text(alloc, formatted(alloc, message)),
         "with_message" => with_message(alloc, message),
-        "located" => as_told(alloc, located(alloc, message)),
-        "in_partial" => as_told(
+        "located" => as_text(alloc, located(alloc, message)),
+        "in_partial" => as_text(
             alloc,
             located(alloc, message).in_partial(alloc, "a partial"),
         ),
@@ -43,7 +43,7 @@ fn formatted(alloc: Global, message: &str) -> Error {
 
 fn with_message(alloc: Global, message: &str) -> Result<Value> {
     let message = String::from_str(alloc, message)?;
-    as_told(alloc, Error::with_message(ErrorKind::DivideByZero, message))
+    as_text(alloc, Error::with_message(ErrorKind::DivideByZero, message))
 }
 
 /// The fault at the second column of a template.
@@ -57,7 +57,7 @@ fn located(alloc: Global, message: &str) -> Error {
 }
 
 /// The fault as a text, unless it is that of memory.
-fn as_told(alloc: Global, fault: Error) -> Result<Value> {
+fn as_text(alloc: Global, fault: Error) -> Result<Value> {
     if fault.kind == ErrorKind::Memory {
         return Err(fault);
     }

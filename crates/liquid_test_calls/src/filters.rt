@@ -5,7 +5,7 @@ use liquid_core::{Expression, Filter, Object, Result, State, Value};
 use liquid_filters::{FilterKind, jekyll};
 use liquid_lib::STANDARD_FILTERS;
 use liquid_syntax::{FilterCall, apply_filters};
-use liquid_test_refusals::{Told, WorkedRow, items};
+use liquid_test_refusals::{Reporter, WorkedRow, items};
 use std::alloc::Global;
 
 /// Jekyll's `sort`, which the standard language lacks: its filter of that name is another.
@@ -35,22 +35,27 @@ fn filter_named(alloc: Global, name: &str) -> Result<FilterKind> {
 /// Makes the call of a row of a filter, which is noted: by the filter alone, and then by a chain of
 /// it.
 pub(crate) fn filter_made<R: Print>(
-    told: &Told<'_, R>,
+    reporter: &Reporter<'_, R>,
     called: &mut Vec<&'static str>,
     line: &str,
     row: &WorkedRow,
 ) -> Result<()> {
-    let filter = filter_named(told.alloc, row.name())?;
+    let filter = filter_named(reporter.alloc, row.name())?;
     called.push(name_in_rows(filter))?;
-    made_alone(told, line, filter, row);
-    made_in_a_chain(told, line, filter, row)
+    made_alone(reporter, line, filter, row);
+    made_in_a_chain(reporter, line, filter, row)
 }
 
-fn made_alone<R: Print>(told: &Told<'_, R>, line: &str, filter: FilterKind, row: &WorkedRow) {
-    told.begin();
-    let answer = alone(told.alloc, filter, row);
-    told.end();
-    told.answered(line, row, &answer);
+fn made_alone<R: Print>(
+    reporter: &Reporter<'_, R>,
+    line: &str,
+    filter: FilterKind,
+    row: &WorkedRow,
+) {
+    reporter.begin();
+    let answer = alone(reporter.alloc, filter, row);
+    reporter.end();
+    reporter.answered(line, row, &answer);
 }
 
 /// What the filter answers to the row's value, with the row's list as its arguments.
@@ -64,17 +69,17 @@ fn alone(alloc: Global, filter: FilterKind, row: &WorkedRow) -> Result<Value> {
 
 /// Makes the same call by a chain of the filter, whose arguments are literals.
 fn made_in_a_chain<R: Print>(
-    told: &Told<'_, R>,
+    reporter: &Reporter<'_, R>,
     line: &str,
     filter: FilterKind,
     row: &WorkedRow,
 ) -> Result<()> {
-    let literals = literals(told.alloc, items(&row.with))?;
-    let input = row.on.copy(told.alloc)?;
-    told.begin();
-    let answer = in_a_chain(told.alloc, filter, input, &literals);
-    told.end();
-    told.answered_by("apply_filters", line, row, &answer);
+    let literals = literals(reporter.alloc, items(&row.with))?;
+    let input = row.on.copy(reporter.alloc)?;
+    reporter.begin();
+    let answer = in_a_chain(reporter.alloc, filter, input, &literals);
+    reporter.end();
+    reporter.answered_by("apply_filters", line, row, &answer);
     Ok(())
 }
 
@@ -94,17 +99,17 @@ fn in_a_chain(
 
 /// Makes the call of `apply_filters` without any filter, over the row's value.
 pub(crate) fn no_filter_made<R: Print>(
-    told: &Told<'_, R>,
+    reporter: &Reporter<'_, R>,
     line: &str,
     row: &WorkedRow,
 ) -> Result<()> {
-    let entry = row.on.copy(told.alloc)?;
-    let state = State::new(told.alloc, Object::new(told.alloc));
+    let entry = row.on.copy(reporter.alloc)?;
+    let state = State::new(reporter.alloc, Object::new(reporter.alloc));
     let calls: &[FilterCall<'_, FilterKind>] = &[];
-    told.begin();
-    let answer = apply_filters(told.alloc, entry, calls, &state);
-    told.end();
-    told.answered(line, row, &answer);
+    reporter.begin();
+    let answer = apply_filters(reporter.alloc, entry, calls, &state);
+    reporter.end();
+    reporter.answered(line, row, &answer);
     Ok(())
 }
 
@@ -143,19 +148,19 @@ fn accepts_only(filter: FilterKind, least: i64, most: i64) -> bool {
 
 /// Tells each filter that isn't among the called ones, unless no row called any: then no row of a
 /// filter was given.
-pub(crate) fn each_is_called<R: Print>(told: &Told<'_, R>, called: &[&str]) {
+pub(crate) fn each_is_called<R: Print>(reporter: &Reporter<'_, R>, called: &[&str]) {
     if called.is_empty() {
         return;
     }
     for filter in &STANDARD_FILTERS {
-        one_is_called(told, called, name_in_rows(*filter));
+        one_is_called(reporter, called, name_in_rows(*filter));
     }
-    one_is_called(told, called, name_in_rows(JEKYLL_SORT));
+    one_is_called(reporter, called, name_in_rows(JEKYLL_SORT));
 }
 
 /// Tells the filter of the name where it isn't among the called ones.
-fn one_is_called<R: Print>(told: &Told<'_, R>, called: &[&str], name: &str) {
+fn one_is_called<R: Print>(reporter: &Reporter<'_, R>, called: &[&str], name: &str) {
     if !called.contains(&name) {
-        let _ = println!(told.rt; "no row of {name}");
+        let _ = println!(reporter.rt; "no row of {name}");
     }
 }

@@ -29,7 +29,7 @@
 //!   `src/asked.rt` tells.
 //! - `Check::NAME`: `findings` of the text `source`, each as its kind, line, column, start, length
 //!   and whether it follows; how many they are and the `nodes` of what is left; or `else_items`.
-//! - `Error::NAME`: a fault with the message `source`, as it is told.
+//! - `Error::NAME`: a fault with the message `source`, as it is printed.
 //! - `State`: calls of the state, one after another, as `src/states.rt` tells. `Site`: changes of a
 //!   site, as `src/sites.rt` tells. `LimitedSite`: the same of a site within the limits `on`.
 //! - `Example::shop`: the README's example of a site.
@@ -40,12 +40,12 @@
 //!   `Cycle::NAME`.
 //!
 //! With a word each call stands between marks, for `tests/refusals/run`, and how it ended after
-//! them. Where there is a row of a filter, each standard filter without one is told at the end.
+//! them. Where there is a row of a filter, each standard filter without one is named at the end.
 //!
 //! What rows of `date` and `date_in_tz` print was written by another program, `date` of the GNU
 //! core utilities, in the zone of each date. What directives print which that program lacks or
 //! prints in another way (`%C`, `%c`, `%f`, `%.f`, `%N`, `%^P`, `%Q`, `%r`, `%3u`, `%X`, `%x`,
-//! `%Z`) is told by the documentation of jiff.
+//! `%Z`) is what the documentation of jiff says.
 #![tactic(auto)]
 
 mod any_site;
@@ -77,12 +77,12 @@ use crate::values::{order_call, test_call, value_call};
 use liquid_core::{Object, Result, State, Value};
 use liquid_lib::language;
 use liquid_syntax::{Language, Node, Template, parse};
-use liquid_test_refusals::{Told, WorkedRow, read_row, text};
+use liquid_test_refusals::{Reporter, WorkedRow, read_row, text};
 use std::alloc::Global;
 use std::env;
 
 fn main(rt: HostRuntime) -> Result<()> {
-    let told = Told {
+    let reporter = Reporter {
         rt: &rt,
         alloc: rt.alloc(),
         marked: env::args(&rt).is_ok_and(|words| words.count() > 1),
@@ -91,60 +91,60 @@ fn main(rt: HostRuntime) -> Result<()> {
     let mut called_filters = Vec::new(rt.alloc());
     for line in rt.lines(rt.alloc()) {
         match line {
-            Ok(line) => line_made(&told, &language, &mut called_filters, line.as_str()),
+            Ok(line) => line_made(&reporter, &language, &mut called_filters, line.as_str()),
             Err(_) => {
                 let _ = println!(rt; "a line that can't be read");
             }
         }
     }
-    each_is_called(&told, &called_filters);
+    each_is_called(&reporter, &called_filters);
     Ok(())
 }
 
 /// Makes the call that the line tells.
 fn line_made<R: Print>(
-    told: &Told<'_, R>,
+    reporter: &Reporter<'_, R>,
     language: &Language,
     called_filters: &mut Vec<&'static str>,
     line: &str,
 ) {
-    if let Err(fault) = row_made(told, language, called_filters, line) {
-        let _ = println!(told.rt; "no row, by {}: {line}", fault.kind.name());
+    if let Err(fault) = row_made(reporter, language, called_filters, line) {
+        let _ = println!(reporter.rt; "no row, by {}: {line}", fault.kind.name());
     }
 }
 
 /// Makes the call of the row. A filter that it calls is noted.
 fn row_made<R: Print>(
-    told: &Told<'_, R>,
+    reporter: &Reporter<'_, R>,
     language: &Language,
     called_filters: &mut Vec<&'static str>,
     line: &str,
 ) -> Result<()> {
-    let (row, data) = read_row(told.alloc, line)?;
+    let (row, data) = read_row(reporter.alloc, line)?;
     match row.kind() {
-        "Filter" => filter_made(told, called_filters, line, &row),
-        "apply_filters" => no_filter_made(told, line, &row),
-        "Site" => site_made(told, &row),
-        "LimitedSite" => limited_site_made(told, &row),
-        "State" => made_in_turn(told, &row.with, data),
+        "Filter" => filter_made(reporter, called_filters, line, &row),
+        "apply_filters" => no_filter_made(reporter, line, &row),
+        "Site" => site_made(reporter, &row),
+        "LimitedSite" => limited_site_made(reporter, &row),
+        "State" => made_in_turn(reporter, &row.with, data),
         "Value" | "Test" | "Order" | "Error" | "argument" | "Accepts" | "Data" | "Example" => {
-            call_made(told, line, &row);
+            call_made(reporter, line, &row);
             Ok(())
         }
         "Check" => {
-            check_made(told, language, line, &row);
+            check_made(reporter, language, line, &row);
             Ok(())
         }
-        _ => template_made(told, language, line, &row, data),
+        _ => template_made(reporter, language, line, &row, data),
     }
 }
 
 /// Makes a call that takes no template.
-fn call_made<R: Print>(told: &Told<'_, R>, line: &str, row: &WorkedRow) {
-    told.begin();
-    let answer = called(told.alloc, row);
-    told.end();
-    told.answered(line, row, &answer);
+fn call_made<R: Print>(reporter: &Reporter<'_, R>, line: &str, row: &WorkedRow) {
+    reporter.begin();
+    let answer = called(reporter.alloc, row);
+    reporter.end();
+    reporter.answered(line, row, &answer);
 }
 
 fn called(alloc: Global, row: &WorkedRow) -> Result<Value> {
@@ -162,30 +162,35 @@ fn called(alloc: Global, row: &WorkedRow) -> Result<Value> {
 }
 
 /// Makes a call of the row's source, which needn't be a template.
-fn check_made<R: Print>(told: &Told<'_, R>, language: &Language, line: &str, row: &WorkedRow) {
-    told.begin();
-    let answer = check_call(told.alloc, row, language);
-    told.end();
-    told.answered(line, row, &answer);
+fn check_made<R: Print>(
+    reporter: &Reporter<'_, R>,
+    language: &Language,
+    line: &str,
+    row: &WorkedRow,
+) {
+    reporter.begin();
+    let answer = check_call(reporter.alloc, row, language);
+    reporter.end();
+    reporter.answered(line, row, &answer);
 }
 
 /// Makes a call of the row's template, over its state.
 fn template_made<R: Print>(
-    told: &Told<'_, R>,
+    reporter: &Reporter<'_, R>,
     language: &Language,
     line: &str,
     row: &WorkedRow,
     data: Object,
 ) -> Result<()> {
-    let template = parse(told.alloc, row.source.as_str(), language)?;
-    let state = State::new(told.alloc, data);
-    told.begin();
+    let template = parse(reporter.alloc, row.source.as_str(), language)?;
+    let state = State::new(reporter.alloc, data);
+    reporter.begin();
     let answer = match row.kind() {
-        "Template" => template_call(told.alloc, row, language, &template),
-        _ => first_node_call(told.alloc, row, &template, &state),
+        "Template" => template_call(reporter.alloc, row, language, &template),
+        _ => first_node_call(reporter.alloc, row, &template, &state),
     };
-    told.end();
-    told.answered(line, row, &answer);
+    reporter.end();
+    reporter.answered(line, row, &answer);
     Ok(())
 }
 

@@ -4,23 +4,26 @@ use liquid_core::{ErrorKind, Object, Result, Value, look_up};
 use liquid_lib::language;
 use liquid_site::{Change, LimitedSite, Limits, Site};
 use liquid_test_refusals::{
-    Told, WorkedRow, items, kind_of, member, name_of, optional, text_member,
+    Reporter, WorkedRow, items, kind_of, member, name_of, optional, text_member,
 };
 use std::alloc::Global;
 
 /// Applies the changes of the row. Each is a list: the change, its name, its source, value or data,
 /// the kind of its fault or an empty text, what the site shows after it, and words by which
 /// `tests/refusals/run` tells changes that make other requests.
-pub(crate) fn site_made<R: Print>(told: &Told<'_, R>, row: &WorkedRow) -> Result<()> {
-    let mut site = Site::new(told.alloc, language(told.alloc)?, 32);
-    applied_in_turn(told, &mut site, items(&row.with))
+pub(crate) fn site_made<R: Print>(reporter: &Reporter<'_, R>, row: &WorkedRow) -> Result<()> {
+    let mut site = Site::new(reporter.alloc, language(reporter.alloc)?, 32);
+    applied_in_turn(reporter, &mut site, items(&row.with))
 }
 
 /// The same for a site within limits, which are the numbers `bytes` and `turns` of the map `on`.
-pub(crate) fn limited_site_made<R: Print>(told: &Told<'_, R>, row: &WorkedRow) -> Result<()> {
+pub(crate) fn limited_site_made<R: Print>(
+    reporter: &Reporter<'_, R>,
+    row: &WorkedRow,
+) -> Result<()> {
     let limits = limits_of(&row.on);
-    let mut site = LimitedSite::new(told.alloc, language(told.alloc)?, 32, limits);
-    applied_in_turn(told, &mut site, items(&row.with))
+    let mut site = LimitedSite::new(reporter.alloc, language(reporter.alloc)?, 32, limits);
+    applied_in_turn(reporter, &mut site, items(&row.with))
 }
 
 fn limits_of(on: &Value) -> Limits {
@@ -41,13 +44,13 @@ fn count_of(value: Option<&Value>) -> Option<u64> {
 }
 
 fn applied_in_turn<R: Print, S: AnySite>(
-    told: &Told<'_, R>,
+    reporter: &Reporter<'_, R>,
     site: &mut S,
     steps: &[Value],
 ) -> Result<()> {
     let mut before = None;
     for step in steps {
-        applied(told, site, step, before)?;
+        applied(reporter, site, step, before)?;
         before = Some(step);
     }
     Ok(())
@@ -56,49 +59,53 @@ fn applied_in_turn<R: Print, S: AnySite>(
 /// Applies a change. Where memory was refused, the site is as it was after the step before, and
 /// takes the change when it comes again.
 fn applied<R: Print, S: AnySite>(
-    told: &Told<'_, R>,
+    reporter: &Reporter<'_, R>,
     site: &mut S,
     step: &Value,
     before: Option<&Value>,
 ) -> Result<()> {
-    let kind = applied_once(told, site, step)?;
+    let kind = applied_once(reporter, site, step)?;
     let end = match kind {
         Some(ErrorKind::Memory) if shows(site, before) => "Memory",
         Some(ErrorKind::Memory) => "another_site",
         _ => applied_end(step, kind),
     };
-    tell_end(told, step, end)?;
+    tell_end(reporter, step, end)?;
     if matches!(kind, Some(ErrorKind::Memory)) {
-        drop(site.applied(change_of(told.alloc, step)?));
+        drop(site.applied(change_of(reporter.alloc, step)?));
     }
-    tell_pages(told, site, step)
+    tell_pages(reporter, site, step)
 }
 
 /// Applies the step's change. The kind of the fault that it ended by, if it did.
 fn applied_once<R: Print, S: AnySite>(
-    told: &Told<'_, R>,
+    reporter: &Reporter<'_, R>,
     site: &mut S,
     step: &Value,
 ) -> Result<Option<ErrorKind>> {
-    let change = change_of(told.alloc, step)?;
-    told.begin();
+    let change = change_of(reporter.alloc, step)?;
+    reporter.begin();
     let kind = kind_of(&site.applied(change));
-    told.end();
+    reporter.end();
     Ok(kind)
 }
 
 /// Tells how the step's change ended.
-fn tell_end<R: Print>(told: &Told<'_, R>, step: &Value, end: &str) -> Result<()> {
-    let at = named(told.alloc, step)?;
-    told.ended(text_member(step, 0), at.as_str(), end);
+fn tell_end<R: Print>(reporter: &Reporter<'_, R>, step: &Value, end: &str) -> Result<()> {
+    let at = named(reporter.alloc, step)?;
+    reporter.ended(text_member(step, 0), at.as_str(), end);
     Ok(())
 }
 
 /// Tells the step where the site shows other pages after it.
-fn tell_pages<R: Print, S: AnySite>(told: &Told<'_, R>, site: &S, step: &Value) -> Result<()> {
+fn tell_pages<R: Print, S: AnySite>(
+    reporter: &Reporter<'_, R>,
+    site: &S,
+    step: &Value,
+) -> Result<()> {
     if !shows(site, Some(step)) {
-        let at = named(told.alloc, step)?;
-        let _ = println!(told.rt; "the site shows other pages behind {at}");
+        let at = named(reporter.alloc, step)?;
+        let _ = println!(reporter.rt; "the site shows other pages after {at}");
     }
     Ok(())
 }

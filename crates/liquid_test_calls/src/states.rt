@@ -2,7 +2,7 @@
 use crate::faults::no_call;
 use liquid_core::{ErrorKind, Items, LoopFrame, LoopKind, Object, Result, State, Value};
 use liquid_test_refusals::{
-    StateChange, Told, found, items, items_member, kind_of, nil, optional, owned, step_of,
+    Reporter, StateChange, found, items, items_member, kind_of, nil, optional, owned, step_of,
     text_member,
 };
 use std::alloc::Global;
@@ -11,26 +11,26 @@ use std::alloc::Global;
 /// name, a name or a path of the state, a value, and what it answers, which is the kind of its
 /// fault as a text where it ends by one.
 pub(crate) fn made_in_turn<R: Print>(
-    told: &Told<'_, R>,
+    reporter: &Reporter<'_, R>,
     steps: &Value,
     data: Object,
 ) -> Result<()> {
-    let mut state = State::new(told.alloc, data);
+    let mut state = State::new(reporter.alloc, data);
     for step in items(steps) {
-        step_made(told, &mut state, step);
+        step_made(reporter, &mut state, step);
     }
     Ok(())
 }
 
 /// Makes the call of the step. One that was refused memory is made again, so that those after it
 /// find what it does.
-fn step_made<'d, R: Print>(told: &Told<'_, R>, state: &mut State<'d>, step: &'d Value) {
-    told.begin();
-    let answer = called(told.alloc, state, step);
-    told.end();
-    told.step_ended(step, 3, &answer);
+fn step_made<'d, R: Print>(reporter: &Reporter<'_, R>, state: &mut State<'d>, step: &'d Value) {
+    reporter.begin();
+    let answer = called(reporter.alloc, state, step);
+    reporter.end();
+    reporter.step_ended(step, 3, &answer);
     if matches!(kind_of(&answer), Some(ErrorKind::Memory)) {
-        drop(called(told.alloc, state, step));
+        drop(called(reporter.alloc, state, step));
     }
 }
 
@@ -46,7 +46,7 @@ fn called<'d>(alloc: Global, state: &mut State<'d>, step: &'d Value) -> Result<V
 fn looped<'d>(state: &mut State<'d>, step: &'d Value) -> Result<Value> {
     nil(state.push_frame(LoopFrame {
         name: text_member(step, 1),
-        items: Items::Lent(items_member(step, 2)),
+        items: Items::Borrowed(items_member(step, 2)),
         from: 0,
         count: 1,
         reversed: false,

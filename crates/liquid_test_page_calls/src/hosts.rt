@@ -6,13 +6,13 @@ use liquid_core::{
     ErrorKind, Expression, Filter, HostFilters, NamedFilters, Object, Result, State, Value,
 };
 use liquid_syntax::{FilterCall, apply_filters};
-use liquid_test_refusals::{Told, WorkedRow, items, items_member, member, text_member};
+use liquid_test_refusals::{Reporter, WorkedRow, items, items_member, member, text_member};
 use std::alloc::Global;
 
 /// The calls of the row, or its page, with the filters of a host: `shout`, which puts a `!` after
 /// (an earlier one of that name puts a `0`), `upcase`, which puts a `?`, and `bad`.
-pub(crate) fn hosted<R: Print>(told: &Told<'_, R>, row: &WorkedRow) -> Result<()> {
-    let alloc = told.alloc;
+pub(crate) fn hosted<R: Print>(reporter: &Reporter<'_, R>, row: &WorkedRow) -> Result<()> {
+    let alloc = reporter.alloc;
     let mut filters = Vec::new(alloc);
     for (name, text) in [("shout", "0"), ("shout", "!"), ("upcase", "?")] {
         let suffix: Box<dyn Filter> = Box::new(alloc, Suffix { text })?;
@@ -22,36 +22,36 @@ pub(crate) fn hosted<R: Print>(told: &Told<'_, R>, row: &WorkedRow) -> Result<()
     filters.push((String::from_str(alloc, "bad")?, bad))?;
     let host = HostFilters::new(filters);
     match row.call.as_str() {
-        "filters" => called_in_turn(told, &host, &row.with),
-        _ => hosted_pages(told, row, &host),
+        "filters" => called_in_turn(reporter, &host, &row.with),
+        _ => hosted_pages(reporter, row, &host),
     }
 }
 
 /// The page of the row, with the filters of the host unless it lacks them.
 pub(crate) fn hosted_pages<R: Print>(
-    told: &Told<'_, R>,
+    reporter: &Reporter<'_, R>,
     row: &WorkedRow,
     host: &HostFilters,
 ) -> Result<()> {
-    let lent = match option(&row.on, "lacks_filters") {
+    let given = match option(&row.on, "lacks_filters") {
         Some(_) => None,
         None => Some(host),
     };
-    pages_made(told, row, Object::new(told.alloc), lent)
+    pages_made(reporter, row, Object::new(reporter.alloc), given)
 }
 
 /// Calls the filters of the host. Each step is a list: the call, the filter's name, the input, the
 /// arguments, and the answer or the kind of the fault.
 pub(crate) fn called_in_turn<R: Print>(
-    told: &Told<'_, R>,
+    reporter: &Reporter<'_, R>,
     host: &HostFilters,
     steps: &Value,
 ) -> Result<()> {
     for step in items(steps) {
-        told.begin();
-        let answer = called(told.alloc, host, step);
-        told.end();
-        told.step_ended(step, 4, &answer);
+        reporter.begin();
+        let answer = called(reporter.alloc, host, step);
+        reporter.end();
+        reporter.step_ended(step, 4, &answer);
     }
     Ok(())
 }

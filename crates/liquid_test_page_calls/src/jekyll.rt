@@ -4,12 +4,12 @@ use crate::hosts::called_in_turn;
 use liquid_core::{Filter, HostFilters, Result, Value};
 use liquid_filter_sets::WhereExp;
 use liquid_jekyll_host_filters::{JEKYLL_FILTERS, SiteFilter};
-use liquid_test_refusals::{Told, WorkedRow, text_of};
+use liquid_test_refusals::{Reporter, WorkedRow, text_of};
 use std::alloc::Global;
 
 /// The calls of the row, with the filters over the site that it tells.
-pub(crate) fn jekyll_called<R: Print>(told: &Told<'_, R>, row: &WorkedRow) -> Result<()> {
-    let alloc = told.alloc;
+pub(crate) fn jekyll_called<R: Print>(reporter: &Reporter<'_, R>, row: &WorkedRow) -> Result<()> {
+    let alloc = reporter.alloc;
     let address = text_option(&row.on, "address");
     let base = text_option(&row.on, "base");
     let mut filters = Vec::new(alloc);
@@ -21,7 +21,7 @@ pub(crate) fn jekyll_called<R: Print>(told: &Told<'_, R>, row: &WorkedRow) -> Re
     let where_exp: Box<dyn Filter> = Box::new(alloc, WhereExp)?;
     filters.push((String::from_str(alloc, "where_exp")?, where_exp))?;
     let host = HostFilters::new(filters);
-    called_in_turn(told, &host, &row.with)
+    called_in_turn(reporter, &host, &row.with)
 }
 
 /// A text of the options, or the empty one.

@@ -6,42 +6,42 @@ use liquid_lib::{
     Counted, LimitReached, Limited, LimitedPage, Limits, Partials, Renderable, RuntimeBuilder,
     Template, parse, render_page_within,
 };
-use liquid_test_refusals::{Told, WorkedRow, kind_of, text_of};
+use liquid_test_refusals::{Reporter, WorkedRow, kind_of, text_of};
 
 /// The row's page within its `bytes` and its `turns`, into a page and to a writer, each with the
 /// limit that it is `ended_by`.
 pub(crate) fn limited_made<R: Print>(
-    told: &Told<'_, R>,
+    reporter: &Reporter<'_, R>,
     row: &WorkedRow,
     data: Object,
 ) -> Result<()> {
-    let language = language_with(told.alloc, &row.on)?;
-    let partials = partials_of(told.alloc, &row.on, &language)?;
-    let template = parse(told.alloc, row.source.as_str(), &language)?;
+    let language = language_with(reporter.alloc, &row.on)?;
+    let partials = partials_of(reporter.alloc, &row.on, &language)?;
+    let template = parse(reporter.alloc, row.source.as_str(), &language)?;
     // a page has no writer that fails by itself
     if option(&row.on, "writes").is_none() {
-        page_limited(told, row, &template, &partials, &data);
+        page_limited(reporter, row, &template, &partials, &data);
     }
-    writer_limited(told, row, &template, &partials, data)
+    writer_limited(reporter, row, &template, &partials, data)
 }
 
 /// The page as a text.
 fn page_limited<R: Print>(
-    told: &Told<'_, R>,
+    reporter: &Reporter<'_, R>,
     row: &WorkedRow,
     template: &Template,
     partials: &Partials,
     data: &Object,
 ) {
     let (depth, limits) = (depth(&row.on), limits_of(row));
-    told.begin();
-    let answer = render_page_within(told.alloc, template, partials, depth, data, limits);
-    told.end();
+    reporter.begin();
+    let answer = render_page_within(reporter.alloc, template, partials, depth, data, limits);
+    reporter.end();
     let end = match &answer {
         Ok(page) => page_limit_ending(row, page),
         Err(fault) => fault.kind.name(),
     };
-    told.ended("render_page_within", row.source.as_str(), end);
+    reporter.ended("render_page_within", row.source.as_str(), end);
 }
 
 /// `done` where the page has the text, the fault and the limit that the row says.
@@ -60,22 +60,22 @@ fn page_limit_ending(row: &WorkedRow, limited: &LimitedPage) -> &'static str {
 
 /// The page to a writer, which by itself takes as many writes as the row says.
 fn writer_limited<R: Print>(
-    told: &Told<'_, R>,
+    reporter: &Reporter<'_, R>,
     row: &WorkedRow,
     template: &Template,
     partials: &Partials,
     data: Object,
 ) -> Result<()> {
-    let mut runtime = RuntimeBuilder::new(told.alloc)
+    let mut runtime = RuntimeBuilder::new(reporter.alloc)
         .set_globals(data)
         .set_partials(partials)
         .set_depth(depth(&row.on))
-        .build(told.alloc);
-    let counted = Counted::new(writer(told.alloc, row)?);
+        .build(reporter.alloc);
+    let counted = Counted::new(writer(reporter.alloc, row)?);
     let mut limited = Limited::new(counted, limits_of(row));
-    told.begin();
-    let answer = template.render_to(told.alloc, &mut limited, &mut runtime);
-    told.end();
+    reporter.begin();
+    let answer = template.render_to(reporter.alloc, &mut limited, &mut runtime);
+    reporter.end();
     let end = match kind_of(&answer) {
         Some(kind) if kind.name() == "Memory" => "Memory",
         kind => match writer_limit_ending(row, limited) {
@@ -83,7 +83,7 @@ fn writer_limited<R: Print>(
             end => end,
         },
     };
-    told.ended("render_to within limits", row.source.as_str(), end);
+    reporter.ended("render_to within limits", row.source.as_str(), end);
     Ok(())
 }
 

@@ -39,19 +39,19 @@ use crate::registers::{forloop, has_filter, registered};
 use crate::runtimes::runtime_made;
 use crate::shops::shop_made;
 use liquid_core::{Object, Result, Value};
-use liquid_test_refusals::{Told, WorkedRow, flag, read_row, text};
+use liquid_test_refusals::{Reporter, WorkedRow, flag, read_row, text};
 use std::alloc::Global;
 use std::env;
 
 fn main(rt: HostRuntime) -> Result<()> {
-    let told = Told {
+    let reporter = Reporter {
         rt: &rt,
         alloc: rt.alloc(),
         marked: env::args(&rt).is_ok_and(|words| words.count() > 1),
     };
     for line in rt.lines(rt.alloc()) {
         match line {
-            Ok(line) => line_made(&told, line.as_str()),
+            Ok(line) => line_made(&reporter, line.as_str()),
             Err(_) => {
                 let _ = println!(rt; "a line that can't be read");
             }
@@ -61,42 +61,47 @@ fn main(rt: HostRuntime) -> Result<()> {
 }
 
 /// Makes the calls that the line tells.
-fn line_made<R: Print>(told: &Told<'_, R>, line: &str) {
-    if let Err(fault) = row_read(told, line) {
-        let _ = println!(told.rt; "no row, by {}: {line}", fault.kind.name());
+fn line_made<R: Print>(reporter: &Reporter<'_, R>, line: &str) {
+    if let Err(fault) = row_read(reporter, line) {
+        let _ = println!(reporter.rt; "no row, by {}: {line}", fault.kind.name());
     }
 }
 
 /// Reads the row of the line, and makes its calls.
-fn row_read<R: Print>(told: &Told<'_, R>, line: &str) -> Result<()> {
-    let (row, data) = read_row(told.alloc, line)?;
-    row_made(told, line, &row, data)
+fn row_read<R: Print>(reporter: &Reporter<'_, R>, line: &str) -> Result<()> {
+    let (row, data) = read_row(reporter.alloc, line)?;
+    row_made(reporter, line, &row, data)
 }
 
 /// Makes the calls of the row.
-fn row_made<R: Print>(told: &Told<'_, R>, line: &str, row: &WorkedRow, data: Object) -> Result<()> {
+fn row_made<R: Print>(
+    reporter: &Reporter<'_, R>,
+    line: &str,
+    row: &WorkedRow,
+    data: Object,
+) -> Result<()> {
     match row.call.as_str() {
-        "page" => pages_made(told, row, data, None),
-        "rendering" => rendering_made(told, row, data, None),
-        "hosted page" | "filters" => hosted(told, row),
-        "shopify filters" | "shopify page" => shop_made(told, row),
-        "jekyll filters" => jekyll_called(told, row),
-        "limited page" => limited_made(told, row, data),
-        "runtime" => runtime_made(told, row, data),
-        "registers" => registered(told, row),
+        "page" => pages_made(reporter, row, data, None),
+        "rendering" => rendering_made(reporter, row, data, None),
+        "hosted page" | "filters" => hosted(reporter, row),
+        "shopify filters" | "shopify page" => shop_made(reporter, row),
+        "jekyll filters" => jekyll_called(reporter, row),
+        "limited page" => limited_made(reporter, row, data),
+        "runtime" => runtime_made(reporter, row, data),
+        "registers" => registered(reporter, row),
         _ => {
-            call_made(told, line, row);
+            call_made(reporter, line, row);
             Ok(())
         }
     }
 }
 
 /// Makes the one call of the row.
-fn call_made<R: Print>(told: &Told<'_, R>, line: &str, row: &WorkedRow) {
-    told.begin();
-    let answer = called(told.alloc, row);
-    told.end();
-    told.answered(line, row, &answer);
+fn call_made<R: Print>(reporter: &Reporter<'_, R>, line: &str, row: &WorkedRow) {
+    reporter.begin();
+    let answer = called(reporter.alloc, row);
+    reporter.end();
+    reporter.answered(line, row, &answer);
 }
 
 fn called(alloc: Global, row: &WorkedRow) -> Result<Value> {

@@ -6,7 +6,7 @@ use liquid_lib::{
     Counted, Language, Page, Partials, Renderable, Runtime, RuntimeBuilder, Template, parse,
     render_page, render_source,
 };
-use liquid_test_refusals::{Told, WorkedRow, items, kind_of, text_member, text_of};
+use liquid_test_refusals::{Reporter, WorkedRow, items, kind_of, text_member, text_of};
 
 /// What the pages of a row are made of.
 #[derive(Drop)]
@@ -21,27 +21,27 @@ struct Given<'g> {
 
 /// The page of the row by each call, with these filters of a host or without any.
 pub(crate) fn pages_made<R: Print>(
-    told: &Told<'_, R>,
+    reporter: &Reporter<'_, R>,
     row: &WorkedRow,
     data: Object,
     host: Option<&HostFilters>,
 ) -> Result<()> {
-    let language = language_with(told.alloc, &row.on)?;
-    pages_in(told, row, &Value::Object(data), host, &language)
+    let language = language_with(reporter.alloc, &row.on)?;
+    pages_in(reporter, row, &Value::Object(data), host, &language)
 }
 
 /// The page in the language.
 fn pages_in<R: Print>(
-    told: &Told<'_, R>,
+    reporter: &Reporter<'_, R>,
     row: &WorkedRow,
     data: &Value,
     host: Option<&HostFilters>,
     language: &Language,
 ) -> Result<()> {
-    let partials = &partials_of(told.alloc, &row.on, language)?;
-    match parsed(told, row, language) {
+    let partials = &partials_of(reporter.alloc, &row.on, language)?;
+    match parsed(reporter, row, language) {
         Some(template) => rendered_by_each(
-            told,
+            reporter,
             &Given {
                 row,
                 language,
@@ -58,27 +58,27 @@ fn pages_in<R: Print>(
 /// The page of the row by the calls that render a template, with these filters of a host or without
 /// any. It is parsed before them, so that nothing but they stands between marks.
 pub(crate) fn rendering_made<R: Print>(
-    told: &Told<'_, R>,
+    reporter: &Reporter<'_, R>,
     row: &WorkedRow,
     data: Object,
     host: Option<&HostFilters>,
 ) -> Result<()> {
-    let language = language_with(told.alloc, &row.on)?;
-    rendering_in(told, row, &Value::Object(data), host, &language)
+    let language = language_with(reporter.alloc, &row.on)?;
+    rendering_in(reporter, row, &Value::Object(data), host, &language)
 }
 
 /// The same in the language.
 fn rendering_in<R: Print>(
-    told: &Told<'_, R>,
+    reporter: &Reporter<'_, R>,
     row: &WorkedRow,
     data: &Value,
     host: Option<&HostFilters>,
     language: &Language,
 ) -> Result<()> {
-    let partials = &partials_of(told.alloc, &row.on, language)?;
-    let template = &parse(told.alloc, row.source.as_str(), language)?;
+    let partials = &partials_of(reporter.alloc, &row.on, language)?;
+    let template = &parse(reporter.alloc, row.source.as_str(), language)?;
     rendered_twice(
-        told,
+        reporter,
         &Given {
             row,
             language,
@@ -91,22 +91,26 @@ fn rendering_in<R: Print>(
 }
 
 /// To a writer, and as a text.
-fn rendered_twice<R: Print>(told: &Told<'_, R>, given: &Given<'_>) -> Result<()> {
-    rendered_by(told, given, "render_to")?;
-    rendered_by(told, given, "render")
+fn rendered_twice<R: Print>(reporter: &Reporter<'_, R>, given: &Given<'_>) -> Result<()> {
+    rendered_by(reporter, given, "render_to")?;
+    rendered_by(reporter, given, "render")
 }
 
 /// The template, parsed again where memory was refused, or none where the row's source is refused
 /// by its fault.
-fn parsed<R: Print>(told: &Told<'_, R>, row: &WorkedRow, language: &Language) -> Option<Template> {
+fn parsed<R: Print>(
+    reporter: &Reporter<'_, R>,
+    row: &WorkedRow,
+    language: &Language,
+) -> Option<Template> {
     let source = row.source.as_str();
-    told.begin();
-    let answer = parse(told.alloc, source, language);
-    told.end();
+    reporter.begin();
+    let answer = parse(reporter.alloc, source, language);
+    reporter.end();
     let kind = kind_of(&answer);
-    told.ended("parse", source, parse_ending(row, kind));
+    reporter.ended("parse", source, parse_ending(row, kind));
     match kind {
-        Some(ErrorKind::Memory) => parse(told.alloc, source, language).ok(),
+        Some(ErrorKind::Memory) => parse(reporter.alloc, source, language).ok(),
         _ => answer.ok(),
     }
 }
@@ -121,36 +125,36 @@ fn parse_ending(row: &WorkedRow, kind: Option<ErrorKind>) -> &'static str {
 }
 
 /// The page by the calls that write it, and where no write is to fail, by those that answer it.
-fn rendered_by_each<R: Print>(told: &Told<'_, R>, given: &Given<'_>) -> Result<()> {
-    rendered_by(told, given, "render_to")?;
-    rendered_by(told, given, "render_source")?;
+fn rendered_by_each<R: Print>(reporter: &Reporter<'_, R>, given: &Given<'_>) -> Result<()> {
+    rendered_by(reporter, given, "render_to")?;
+    rendered_by(reporter, given, "render_source")?;
     if given.row.fault.as_str() == "Write" {
         return Ok(());
     }
-    rendered_by(told, given, "render")?;
+    rendered_by(reporter, given, "render")?;
     if given.host.is_none() {
-        page_rendered(told, given);
+        page_rendered(reporter, given);
     }
     Ok(())
 }
 
 /// The page by a call over a runtime.
-fn rendered_by<R: Print>(told: &Told<'_, R>, given: &Given<'_>, call: &str) -> Result<()> {
-    let data = copied(told.alloc, given.data)?;
-    let written = Counted::new(writer(told.alloc, given.row)?);
-    rendered_over(told, given, call, data, written)
+fn rendered_by<R: Print>(reporter: &Reporter<'_, R>, given: &Given<'_>, call: &str) -> Result<()> {
+    let data = copied(reporter.alloc, given.data)?;
+    let written = Counted::new(writer(reporter.alloc, given.row)?);
+    rendered_over(reporter, given, call, data, written)
 }
 
 /// The page by a call over a runtime of the data, which is made here: of one that is handed on to
 /// `render_source` rt ci takes it that filters of a host are made for it.
 fn rendered_over<R: Print>(
-    told: &Told<'_, R>,
+    reporter: &Reporter<'_, R>,
     given: &Given<'_>,
     call: &str,
     data: Object,
     mut written: Counted<FailingWriter>,
 ) -> Result<()> {
-    let (alloc, source) = (told.alloc, given.row.source.as_str());
+    let (alloc, source) = (reporter.alloc, given.row.source.as_str());
     let builder = RuntimeBuilder::new(alloc)
         .set_globals(data)
         .set_partials(given.partials)
@@ -159,56 +163,56 @@ fn rendered_over<R: Print>(
         Some(host) => builder.set_host_filters(host).build(alloc),
         None => builder.build(alloc),
     };
-    rendered_first(told, given, &mut runtime)?;
+    rendered_first(reporter, given, &mut runtime)?;
     if call == "render" {
-        rendered(told, given, &mut runtime);
+        rendered(reporter, given, &mut runtime);
         return Ok(());
     }
-    told.begin();
+    reporter.begin();
     let answer = match call {
         "render_to" => given.template.render_to(alloc, &mut written, &mut runtime),
         _ => render_source(alloc, source, given.language, &mut written, &mut runtime),
     };
-    told.end();
+    reporter.end();
     let kind = kind_of(&answer);
-    told.ended(call, source, page_ending(given.row, kind, written));
-    rendered_then(told, given, &mut runtime, kind)
+    reporter.ended(call, source, page_ending(given.row, kind, written));
+    rendered_then(reporter, given, &mut runtime, kind)
 }
 
 /// Renders the row's `first` source on the same runtime, where it has one, outside of marks, so
 /// that no memory is refused to it.
 fn rendered_first<R: Print>(
-    told: &Told<'_, R>,
+    reporter: &Reporter<'_, R>,
     given: &Given<'_>,
     runtime: &mut Runtime<'_>,
 ) -> Result<()> {
     if let Some(Value::Text(source)) = option(&given.row.on, "first") {
-        let template = parse(told.alloc, source.as_str(), given.language)?;
-        drop(template.render(told.alloc, runtime)?);
+        let template = parse(reporter.alloc, source.as_str(), given.language)?;
+        drop(template.render(reporter.alloc, runtime)?);
     }
     Ok(())
 }
 
-fn rendered<R: Print>(told: &Told<'_, R>, given: &Given<'_>, runtime: &mut Runtime<'_>) {
-    told.begin();
-    let answer = given.template.render(told.alloc, runtime);
-    told.end();
+fn rendered<R: Print>(reporter: &Reporter<'_, R>, given: &Given<'_>, runtime: &mut Runtime<'_>) {
+    reporter.begin();
+    let answer = given.template.render(reporter.alloc, runtime);
+    reporter.end();
     let end = match &answer {
         Ok(text) if text.as_str() != page_of(given.row) => "another_page",
         _ => kind_ending(given.row, kind_of(&answer)),
     };
-    told.ended("render", given.row.source.as_str(), end);
+    reporter.ended("render", given.row.source.as_str(), end);
 }
 
 /// Renders the row's further sources on what the runtime now is, each with what it shows.
 fn rendered_then<R: Print>(
-    told: &Told<'_, R>,
+    reporter: &Reporter<'_, R>,
     given: &Given<'_>,
     runtime: &mut Runtime<'_>,
     kind: Option<ErrorKind>,
 ) -> Result<()> {
-    for step in further(told, given.row, kind) {
-        step_rendered(told, given.language, runtime, step)?;
+    for step in further(reporter, given.row, kind) {
+        step_rendered(reporter, given.language, runtime, step)?;
     }
     Ok(())
 }
@@ -217,14 +221,14 @@ fn rendered_then<R: Print>(
 /// those of `then`, which are as many. Where calls stand between marks and the row has no
 /// `refused` there are none, since each run makes the same calls.
 fn further<'r, R: Print>(
-    told: &Told<'_, R>,
+    reporter: &Reporter<'_, R>,
     row: &'r WorkedRow,
     kind: Option<ErrorKind>,
 ) -> &'r [Value] {
     let refused = option(&row.on, "refused");
     let steps = match kind {
         Some(ErrorKind::Memory) => refused,
-        _ if told.marked && refused.is_none() => None,
+        _ if reporter.marked && refused.is_none() => None,
         _ => option(&row.on, "then"),
     };
     match steps {
@@ -235,17 +239,17 @@ fn further<'r, R: Print>(
 
 /// Renders the source of a step, outside of marks, so that no memory is refused to it.
 fn step_rendered<R: Print>(
-    told: &Told<'_, R>,
+    reporter: &Reporter<'_, R>,
     language: &Language,
     runtime: &mut Runtime<'_>,
     step: &Value,
 ) -> Result<()> {
     let source = text_member(step, 0);
-    let template = parse(told.alloc, source, language)?;
-    let answer = template.render(told.alloc, runtime);
-    told.begin();
-    told.end();
-    told.ended("render then", source, then_ending(&answer, step));
+    let template = parse(reporter.alloc, source, language)?;
+    let answer = template.render(reporter.alloc, runtime);
+    reporter.begin();
+    reporter.end();
+    reporter.ended("render then", source, then_ending(&answer, step));
     Ok(())
 }
 
@@ -264,20 +268,20 @@ fn then_ending(answer: &Result<String>, step: &Value) -> &'static str {
     otherwise
 }
 
-/// The page over lent data, with its fault beside its text.
-fn page_rendered<R: Print>(told: &Told<'_, R>, given: &Given<'_>) {
+/// The page over borrowed data, with its fault beside its text.
+fn page_rendered<R: Print>(reporter: &Reporter<'_, R>, given: &Given<'_>) {
     let Value::Object(data) = given.data else {
         return;
     };
     let depth = depth(&given.row.on);
-    told.begin();
-    let answer = render_page(told.alloc, given.template, given.partials, depth, data);
-    told.end();
+    reporter.begin();
+    let answer = render_page(reporter.alloc, given.template, given.partials, depth, data);
+    reporter.end();
     let end = match &answer {
         Ok(page) => shown_ending(given.row, page),
         Err(fault) => fault.kind.name(),
     };
-    told.ended("render_page", given.row.source.as_str(), end);
+    reporter.ended("render_page", given.row.source.as_str(), end);
 }
 
 /// `done` where the page has the text and the fault that the row says.

@@ -6,7 +6,7 @@ use liquid_filters::stdlib::Sort;
 use liquid_lib::stdlib::{ForloopObject, IfBlock};
 use liquid_lib::{Language, Partials, language, parse};
 use liquid_syntax::{BlockKind, TagKind};
-use liquid_test_refusals::{Told, WorkedRow, items, text_of};
+use liquid_test_refusals::{Reporter, WorkedRow, items, text_of};
 use std::alloc::Global;
 
 /// Whether the standard language, as it is made, has a filter of the row's source that takes so
@@ -35,53 +35,53 @@ const CALLS: [&str; 5] = [
 
 /// Registers a kind of each sort under each name of the row, in a language of its own, and puts a
 /// partial in under it.
-pub(crate) fn registered<R: Print>(told: &Told<'_, R>, row: &WorkedRow) -> Result<()> {
-    let mut language = Language::new(told.alloc);
-    let mut partials = Partials::new(told.alloc);
-    put_under_each(told, &mut language, &mut partials, items(&row.with))
+pub(crate) fn registered<R: Print>(reporter: &Reporter<'_, R>, row: &WorkedRow) -> Result<()> {
+    let mut language = Language::new(reporter.alloc);
+    let mut partials = Partials::new(reporter.alloc);
+    put_under_each(reporter, &mut language, &mut partials, items(&row.with))
 }
 
 fn put_under_each<R: Print>(
-    told: &Told<'_, R>,
+    reporter: &Reporter<'_, R>,
     language: &mut Language,
     partials: &mut Partials,
     names: &[Value],
 ) -> Result<()> {
     for name in names {
-        put_under(told, language, partials, text_of(name))?;
+        put_under(reporter, language, partials, text_of(name))?;
     }
     Ok(())
 }
 
 fn put_under<R: Print>(
-    told: &Told<'_, R>,
+    reporter: &Reporter<'_, R>,
     language: &mut Language,
     partials: &mut Partials,
     name: &str,
 ) -> Result<()> {
     for call in CALLS {
-        put_by(told, language, partials, call, name)?;
+        put_by(reporter, language, partials, call, name)?;
     }
     Ok(())
 }
 
 /// Makes a call, and again where it was refused memory.
 fn put_by<R: Print>(
-    told: &Told<'_, R>,
+    reporter: &Reporter<'_, R>,
     language: &mut Language,
     partials: &mut Partials,
     call: &str,
     name: &str,
 ) -> Result<()> {
-    told.begin();
-    let answer = put(told.alloc, language, partials, call, name);
-    told.end();
+    reporter.begin();
+    let answer = put(reporter.alloc, language, partials, call, name);
+    reporter.end();
     match answer {
-        Ok(()) if is_there(language, partials, call, name) => told.ended(call, name, "done"),
-        Ok(()) => told.ended(call, name, "nothing_is_registered"),
+        Ok(()) if is_there(language, partials, call, name) => reporter.ended(call, name, "done"),
+        Ok(()) => reporter.ended(call, name, "nothing_is_registered"),
         Err(fault) => {
-            told.ended(call, name, fault.kind.name());
-            put(told.alloc, language, partials, call, name)?;
+            reporter.ended(call, name, fault.kind.name());
+            put(reporter.alloc, language, partials, call, name)?;
         }
     }
     Ok(())

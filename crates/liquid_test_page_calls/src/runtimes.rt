@@ -3,7 +3,7 @@ use crate::given::depth;
 use liquid_core::{ErrorKind, Object, Result, Value};
 use liquid_lib::{Partials, Runtime, RuntimeBuilder};
 use liquid_test_refusals::{
-    StateChange, Told, WorkedRow, found, items, items_member, kind_of, nil, optional, owned,
+    Reporter, StateChange, WorkedRow, found, items, items_member, kind_of, nil, optional, owned,
     step_of, text_member,
 };
 use std::alloc::Global;
@@ -13,22 +13,22 @@ use std::alloc::Global;
 /// text where it ends by one. A call that was refused memory is made again, so that those after it
 /// find what it does.
 pub(crate) fn runtime_made<R: Print>(
-    told: &Told<'_, R>,
+    reporter: &Reporter<'_, R>,
     row: &WorkedRow,
     data: Object,
 ) -> Result<()> {
-    let partials = Partials::new(told.alloc);
-    let mut runtime = RuntimeBuilder::new(told.alloc)
+    let partials = Partials::new(reporter.alloc);
+    let mut runtime = RuntimeBuilder::new(reporter.alloc)
         .set_globals(data)
         .set_partials(&partials)
         .set_depth(depth(&row.on))
-        .build(told.alloc);
+        .build(reporter.alloc);
     for step in items(&row.with) {
-        told.begin();
+        reporter.begin();
         for is_first in [true, false] {
             // made here: of a runtime that is handed on rt ci takes it that filters of a host are
             // made for it
-            let answer = match step_of(told.alloc, step) {
+            let answer = match step_of(reporter.alloc, step) {
                 Ok(Some(StateChange::Index(name, value))) => nil(runtime.set_index(name, value)),
                 Ok(Some(StateChange::Global(name, value))) => nil(runtime.set_global(name, value)),
                 Ok(Some(StateChange::Push(scope))) => nil(runtime.push_scope(scope)),
@@ -36,10 +36,10 @@ pub(crate) fn runtime_made<R: Print>(
                     runtime.pop_scope();
                     Ok(Value::Nil)
                 }
-                Ok(None) => looked_up(told.alloc, &runtime, step),
+                Ok(None) => looked_up(reporter.alloc, &runtime, step),
                 Err(fault) => Err(fault),
             };
-            if !is_refused(told, step, &answer, is_first) {
+            if !is_refused(reporter, step, &answer, is_first) {
                 break;
             }
         }
@@ -49,14 +49,14 @@ pub(crate) fn runtime_made<R: Print>(
 
 /// Tells how the step's call ended when it was made first. Whether it was refused memory.
 fn is_refused<R: Print>(
-    told: &Told<'_, R>,
+    reporter: &Reporter<'_, R>,
     step: &Value,
     answer: &Result<Value>,
     is_first: bool,
 ) -> bool {
     if is_first {
-        told.end();
-        told.step_ended(step, 3, answer);
+        reporter.end();
+        reporter.step_ended(step, 3, answer);
     }
     matches!(kind_of(answer), Some(ErrorKind::Memory))
 }

@@ -3,14 +3,14 @@
 use crate::hosts::{called_in_turn, hosted_pages};
 use liquid_core::{Filter, HostFilters, Result};
 use liquid_shopify_host_filters::{MoneyFormat, MoneyStyle, SHOPIFY_FILTERS, Shop, ShopifyFilter};
-use liquid_test_refusals::{Told, WorkedRow};
+use liquid_test_refusals::{Reporter, WorkedRow};
 use std::alloc::Global;
 use std::rc::Rc;
 
 /// The calls of the row, or its page, with all filters of the set in the shop of the engine's own
 /// themes.
-pub(crate) fn shop_made<R: Print>(told: &Told<'_, R>, row: &WorkedRow) -> Result<()> {
-    let alloc = told.alloc;
+pub(crate) fn shop_made<R: Print>(reporter: &Reporter<'_, R>, row: &WorkedRow) -> Result<()> {
+    let alloc = reporter.alloc;
     let shop = Rc::new(alloc, shop(alloc)?)?;
     let mut filters = Vec::new(alloc);
     for kind in SHOPIFY_FILTERS {
@@ -20,8 +20,8 @@ pub(crate) fn shop_made<R: Print>(told: &Told<'_, R>, row: &WorkedRow) -> Result
     }
     let host = HostFilters::new(filters);
     match row.call.as_str() {
-        "shopify filters" => called_in_turn(told, &host, &row.with),
-        _ => hosted_pages(told, row, &host),
+        "shopify filters" => called_in_turn(reporter, &host, &row.with),
+        _ => hosted_pages(reporter, row, &host),
     }
 }
 

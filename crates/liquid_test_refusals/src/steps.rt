@@ -1,6 +1,6 @@
 //! Steps of a row: what a call changes in a state, or in a runtime.
+use crate::reporter::optional;
 use crate::row::{member, text_member};
-use crate::told::optional;
 use liquid_core::{Object, Result, Value};
 use std::alloc::Global;
 

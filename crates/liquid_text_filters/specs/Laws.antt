@@ -1,4 +1,4 @@
--- What each filter's answer is, told without the filter: the relation that holds of it and of
+-- What each filter's answer is, said without the filter: the relation that holds of it and of
 -- nothing else. Where characters matter it is said of values, whose texts are UTF-8.
 use Rattle.std.specs.Prelude.{◌≡◌, ℕ, zero, suc, ◌-◌, ◌<◌, ◌≤◌, ◌⊎◌, true, ℤ, pos, negsuc, List, []}
 use Rattle.std.specs.Prelude.{◌∷◌, ◌++◌, length, drop, codes, Result, Ok, Err}

@@ -1,4 +1,4 @@
--- Parts of lists, told by what stands before and after them.
+-- Parts of lists, by what stands before and after them.
 use Rattle.std.specs.Prelude.{◌≡◌, ℕ, suc, ◌+◌, ◌-◌, ◌<◌, ◌⊎◌, min, ℤ, pos, negsuc, List, [], ◌++◌}
 use Rattle.std.specs.Prelude.{length}
 

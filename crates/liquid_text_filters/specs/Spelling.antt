@@ -1,4 +1,4 @@
--- Texts told by their characters.
+-- Texts as their characters.
 use Rattle.std.specs.Prelude.{◌≡◌, ◌≢◌, ℕ, ◌⊎◌, ⊤, true, false, List, [], ◌∷◌, ◌++◌, map}
 use Rattle.std.specs.Char.{encode_utf8, is_whitespace, to_ascii_uppercase}
 use Rattle.std.specs.Str.{all_scalars, encode_utf8_all}

@@ -3,5 +3,5 @@
 
 mod argument;
 pub mod laws;
-mod part;
 pub mod stdlib;
+mod text_parts;

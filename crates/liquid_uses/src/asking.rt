@@ -1,4 +1,4 @@
-//! What each node of a template asks for, told to `Demands`. Nothing here has a contract: what
+//! What each node of a template asks for, put to `Demands`. Nothing here has a contract: what
 //! comes of it is tested by `covers`.
 
 use crate::comparisons::sees_kind_alone;

@@ -8,7 +8,7 @@ ghost use Rattle.liquid_syntax.specs.Templates.{tree_of};
 ghost use Rattle.liquid_uses.specs.Covered.{covered_setting};
 ghost use Rattle.liquid_uses.specs.inside.OwnGrants.{held_grants, slots_grant, slot_values};
 
-use crate::nodes::nodes_granted;
+use crate::node_grants::nodes_granted;
 use liquid_core::Uses;
 use liquid_syntax::{Partials, Template};
 

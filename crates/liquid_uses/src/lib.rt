@@ -9,7 +9,7 @@ mod demands;
 mod grants;
 mod merge;
 mod needs;
-mod nodes;
+mod node_grants;
 mod paths;
 mod place_pairs;
 mod places;

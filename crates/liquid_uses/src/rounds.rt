@@ -23,7 +23,7 @@ const MOST_COPIED: usize = 100_000;
 
 /// What the template and the partials ask for: from nothing on, as long as that comes to an end, or
 /// else from these uses of all names.
-pub(crate) fn settled_uses(
+pub(crate) fn fixpoint_uses(
     alloc: Global,
     first: &Uses,
     template: &Template,

@@ -8,7 +8,7 @@ ghost use Rattle.liquid_syntax.specs.Templates.{tree_of};
 ghost use Rattle.liquid_uses.specs.Covered.{covered_setting, SeesAlone};
 
 use crate::covering::covers;
-use crate::rounds::settled_uses;
+use crate::rounds::fixpoint_uses;
 use crate::whole_names::whole_names;
 use liquid_core::{ErrorKind, Result, Uses};
 use liquid_syntax::{Partials, Template};
@@ -36,9 +36,9 @@ pub fn uses_of(alloc: Global, template: &Template, partials: &Partials) -> Resul
 {
     let names = template.names(alloc, partials)?;
     let whole = whole_names(alloc, names)?;
-    let settled = settled_uses(alloc, &whole, template, partials)?;
-    if covers(&settled, template, partials) {
-        Ok(settled)
+    let fixpoint = fixpoint_uses(alloc, &whole, template, partials)?;
+    if covers(&fixpoint, template, partials) {
+        Ok(fixpoint)
     } else {
         Ok(whole)
     }

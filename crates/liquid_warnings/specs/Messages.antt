@@ -1,5 +1,5 @@
 -- What warnings say.
---     lack_message words name near      of a name that nothing has, with a near one if there is one
+--     lack_message words name similar   of a name that nothing has, with a similar one if any
 --     value_message path kind      of a loop over what is no list and no map
 use Rattle.std.specs.Prelude.{ℕ, ◌++◌, Option, Some, None, codes}
 use Rattle.std.specs.Fmt.{decimal}
@@ -9,8 +9,8 @@ use Rattle.liquid_model.specs.Texts.{Text}
 
 abbrev pub lack_message : Text → Text → Option Text → Text
 lack_message words name None = words ++ (codes " `" ++ (quotation name ++ codes "`"))
-lack_message words name (Some near) = words ++ (codes " `" ++ (quotation name
-    ++ (codes "`; did you mean `" ++ (quotation near ++ codes "`?"))))
+lack_message words name (Some similar) = words ++ (codes " `" ++ (quotation name
+    ++ (codes "`; did you mean `" ++ (quotation similar ++ codes "`?"))))
 
 abbrev pub unused_message : Text → Text
 unused_message name = codes "`" ++ (quotation name ++ codes "` is set here, and nothing reads it")

@@ -4,7 +4,7 @@ ghost use Rattle.liquid_warnings.specs.Messages.{in_data, no_date, past_end};
 ghost use Rattle.liquid_warnings.specs.Paths.{is_needed};
 
 use crate::loops::no_list_of;
-use crate::messages::{lack_message, name_of, nearest_key};
+use crate::messages::{lack_message, most_similar_key, name_of};
 use crate::names::add_name;
 use crate::path_texts::{
     first_steps, key_before, lack_words, lacking_text, list_before, meant_text, path_text,
@@ -31,13 +31,13 @@ pub(crate) fn add_doubts(
 ) -> Result<()>
     ensures memory { IfErr result (λ e. e.kind ≡ ErrorKind.Memory) }
 {
-    let mut told = BTreeSet::new(alloc);
+    let mut seen = BTreeSet::new(alloc);
     for asked in asked_paths(alloc, template, names)? {
         if is_full(remarks) {
             break;
         }
         if let Some(doubt) = doubt_of(alloc, data, &asked.path, asked.want)? {
-            add_once(alloc, remark_of(alloc, &asked, doubt)?, &mut told, remarks)?;
+            add_once(alloc, remark_of(alloc, &asked, doubt)?, &mut seen, remarks)?;
         }
     }
     Ok(())
@@ -47,14 +47,14 @@ pub(crate) fn add_doubts(
 fn add_once(
     alloc: Global,
     remark: Option<Remark>,
-    told: &mut BTreeSet<String>,
+    seen: &mut BTreeSet<String>,
     remarks: &mut Vec<Remark>,
 ) -> Result<()>
     ensures memory { IfErr result (λ e. e.kind ≡ ErrorKind.Memory) }
 {
     if let Some(remark) = remark {
-        if !told.contains(remark.message.as_str()) {
-            add_name(alloc, told, remark.message.as_str())?;
+        if !seen.contains(remark.message.as_str()) {
+            add_name(alloc, seen, remark.message.as_str())?;
             remarks.push(remark)?;
         }
     }
@@ -62,7 +62,7 @@ fn add_once(
 }
 
 /// What is said of a doubt. Of a name that isn't there `UnknownName` is said, and of what has to be
-/// there nowhere, nothing, unless a near key is.
+/// there nowhere, nothing, unless a similar key is.
 fn remark_of(alloc: Global, asked: &Asked, doubt: Doubt<'_>) -> Result<Option<Remark>>
     ensures memory { IfErr result (λ e. e.kind ≡ ErrorKind.Memory) }
 {
@@ -119,11 +119,11 @@ fn unknown_path(
     let Some(key) = key_before(&asked.path, count) else {
         return Ok(None);
     };
-    let near = name_of(nearest_key(alloc, lack.among, key, None)?);
-    if near.is_none() && !is_needed(asked.want) {
+    let similar = name_of(most_similar_key(alloc, lack.among, key, None)?);
+    if similar.is_none() && !is_needed(asked.want) {
         return Ok(None);
     }
-    let message = path_message(alloc, &asked.path, count, near)?;
+    let message = path_message(alloc, &asked.path, count, similar)?;
     Ok(Some(Remark::warning(asked.position, "UnknownPath", message)))
 }
 
@@ -134,14 +134,14 @@ fn is_needed(want: Want) -> bool
     !matches!(want, Want::Perhaps | Want::Date)
 }
 
-/// The message for a path whose last of so many steps leads to nothing, with a key near to it.
-fn path_message(alloc: Global, path: &DataPath, count: usize, near: Option<&str>) -> Said {
+/// The message for a path whose last of so many steps leads to nothing, with a key similar to it.
+fn path_message(alloc: Global, path: &DataPath, count: usize, similar: Option<&str>) -> Said {
     let list = list_before(first_steps(path, count));
     let words = lack_words(alloc, path, list)?;
     let lacking = lacking_text(alloc, path, list, count)?;
-    match near {
-        Some(near) => {
-            let meant = meant_text(alloc, path, list, count, near)?;
+    match similar {
+        Some(similar) => {
+            let meant = meant_text(alloc, path, list, count, similar)?;
             lack_message(
                 alloc,
                 words.as_str(),

@@ -1,80 +1,80 @@
-//! The messages of warnings, and the near names in them.
+//! The messages of warnings, and the similar names in them.
 ghost use Rattle.std.specs.Prelude.{◌≡◌, IfOk, option_map, string_bytes};
 ghost use Rattle.liquid_warnings.specs.Messages.{lack_message};
 
-use liquid_core::{NearName, Object, Quoted, nearer};
+use liquid_core::{Object, Quoted, SimilarName, more_similar};
 use std::alloc::{AllocError, Global};
 use std::collections::{BTreeMap, BTreeSet};
 
-/// Among how many names a near one is looked for, which takes a while for each.
+/// Among how many names a similar one is looked for, which takes a while for each.
 const MOST_NAMES: usize = 1000;
 
-/// What is said of a name that nothing has: these words, the name, and the near one if there is
+/// What is said of a name that nothing has: these words, the name, and the similar one if there is
 /// one.
 pub(crate) fn lack_message(
     alloc: Global,
     words: &str,
     name: &str,
-    near: Option<&str>,
+    similar: Option<&str>,
 ) -> Result<String, AllocError>
     ensures { IfOk result (λ message. string_bytes message
-        ≡ lack_message words.now name.now (option_map (λ n. n.now) near.entry)) }
+        ≡ lack_message words.now name.now (option_map (λ n. n.now) similar.entry)) }
 {
     let name = Quoted { text: name };
-    match near {
-        Some(near) => {
-            let near = Quoted { text: near };
-            format!(in alloc; "{words} `{name}`; did you mean `{near}`?")
+    match similar {
+        Some(similar) => {
+            let similar = Quoted { text: similar };
+            format!(in alloc; "{words} `{name}`; did you mean `{similar}`?")
         }
         None => format!(in alloc; "{words} `{name}`"),
     }
 }
 
-/// The nearest key of a map, or what was found before.
-pub(crate) fn nearest_key<'n>(
+/// The most similar key of a map, or what was found before.
+pub(crate) fn most_similar_key<'n>(
     alloc: Global,
     object: &'n Object,
     name: &str,
-    before: Option<NearName<'n>>,
-) -> Result<Option<NearName<'n>>, AllocError> {
-    let mut near = before;
+    before: Option<SimilarName<'n>>,
+) -> Result<Option<SimilarName<'n>>, AllocError> {
+    let mut similar = before;
     for known in object.keys().take(MOST_NAMES) {
-        near = nearer(alloc, known.as_str(), name, near)?;
+        similar = more_similar(alloc, known.as_str(), name, similar)?;
     }
-    Ok(near)
+    Ok(similar)
 }
 
-/// The nearest name of a set, or what was found before.
-pub(crate) fn nearest_of_set<'n>(
+/// The most similar name of a set, or what was found before.
+pub(crate) fn most_similar_of_set<'n>(
     alloc: Global,
     names: &'n BTreeSet<String>,
     name: &str,
-    before: Option<NearName<'n>>,
-) -> Result<Option<NearName<'n>>, AllocError> {
-    let mut near = before;
+    before: Option<SimilarName<'n>>,
+) -> Result<Option<SimilarName<'n>>, AllocError> {
+    let mut similar = before;
     for known in names.iter().take(MOST_NAMES) {
-        near = nearer(alloc, known.as_str(), name, near)?;
+        similar = more_similar(alloc, known.as_str(), name, similar)?;
     }
-    Ok(near)
+    Ok(similar)
 }
 
-/// The nearest name of a partial.
-pub(crate) fn nearest_partial<'n>(
+/// The most similar name of a partial.
+pub(crate) fn most_similar_partial<'n>(
     alloc: Global,
     partials: &'n BTreeMap<String, usize>,
     name: &str,
-) -> Result<Option<NearName<'n>>, AllocError> {
-    let mut near = None;
+) -> Result<Option<SimilarName<'n>>, AllocError> {
+    let mut similar = None;
     for known in partials.keys().take(MOST_NAMES) {
-        near = nearer(alloc, known.as_str(), name, near)?;
+        similar = more_similar(alloc, known.as_str(), name, similar)?;
     }
-    Ok(near)
+    Ok(similar)
 }
 
-/// The name of a near one.
-pub(crate) fn name_of<'n>(near: Option<NearName<'n>>) -> Option<&'n str> {
-    match near {
-        Some(near) => Some(near.name),
+/// The name of a similar one.
+pub(crate) fn name_of<'n>(similar: Option<SimilarName<'n>>) -> Option<&'n str> {
+    match similar {
+        Some(similar) => Some(similar.name),
         None => None,
     }
 }

@@ -2,9 +2,9 @@
 ghost use Rattle.std.specs.Prelude.{◌≡◌, IfOk, codes, string_bytes};
 ghost use Rattle.liquid_warnings.specs.Messages.{unused_message};
 ghost use Rattle.liquid_warnings.specs.Remarks.{remark_view, warning};
-ghost use Rattle.liquid_warnings.specs.inside.Told.{nothing_told};
+ghost use Rattle.liquid_warnings.specs.inside.Tellings.{trivial_telling};
 
-use crate::messages::{lack_message, name_of, nearest_key, nearest_of_set};
+use crate::messages::{lack_message, most_similar_key, most_similar_of_set, name_of};
 use crate::remark::Remark;
 use liquid_core::{Object, Quoted};
 use liquid_evaluation::{
@@ -72,9 +72,9 @@ pub(crate) fn unknown_name(
     if data.get(name).is_some() || set.contains(name) {
         return Ok(None);
     }
-    let near = nearest_key(alloc, data, name, None)?;
-    let near = name_of(nearest_of_set(alloc, set, name, near)?);
-    let message = lack_message(alloc, "the data has no", name, near)?;
+    let similar = most_similar_key(alloc, data, name, None)?;
+    let similar = name_of(most_similar_of_set(alloc, set, name, similar)?);
+    let message = lack_message(alloc, "the data has no", name, similar)?;
     Ok(Some(Remark::warning(position, "UnknownName", message)))
 }
 
@@ -115,7 +115,7 @@ impl NameVisitor for Gather {
         add_place(self.alloc, &mut self.names, name, self.position).is_err()
     }
 
-    ghost laws = { nothing_told };
+    ghost laws = { trivial_telling };
 }
 
 /// Adds a name with its place, unless it is there.

@@ -4,7 +4,7 @@ ghost use Rattle.liquid_warnings.specs.Messages.{recursive_message};
 ghost use Rattle.liquid_warnings.specs.Remarks.{remark_view, warning_at};
 
 use crate::calls::{Call, PartialFiles};
-use crate::messages::{lack_message, name_of, nearest_partial};
+use crate::messages::{lack_message, most_similar_partial, name_of};
 use crate::remark::Remark;
 use liquid_core::Quoted;
 use liquid_syntax::Position;
@@ -19,8 +19,8 @@ pub(crate) fn missing_partial(
     let (Some(name), None) = (call.name, call.file) else {
         return Ok(None);
     };
-    let near = name_of(nearest_partial(alloc, partials, name)?);
-    let message = lack_message(alloc, "no partial is named", name, near)?;
+    let similar = name_of(most_similar_partial(alloc, partials, name)?);
+    let message = lack_message(alloc, "no partial is named", name, similar)?;
     Ok(Some(Remark::warning(call.position, "MissingPartial", message)))
 }
 

@@ -138,7 +138,7 @@ impl<'t> Whole<'t> {
         if self.runs_unknown(place) {
             return Ok(());
         }
-        self.add_unread(alloc, &names.stored, remarks)
+        self.add_unused_names(alloc, &names.stored, remarks)
     }
 
     /// Adds a warning for each name that neither the data nor a tag has.
@@ -162,7 +162,7 @@ impl<'t> Whole<'t> {
     }
 
     /// Adds a warning for each name that is set and that no template reads.
-    fn add_unread(
+    fn add_unused_names(
         &self,
         alloc: Global,
         stored: &Places,

@@ -72,11 +72,11 @@ newline_to_br_one d args u = image_one (Concatenates (λ c cs. broken_letter c) 
     (over_letters (λ c cs. broken_letter c) broken refl (λ c cs. mapped_past broken_byte broken_letter broken_letter_of c (encodes cs)) (text_of d) u)
 
 -- ---- escapes, a second time
-abbrev told : Text → Answer
-told s = Ok (text s)
+abbrev as_answer : Text → Answer
+as_answer s = Ok (text s)
 
-twice_text : (s : Text) → told (escaped_once (escaped_once s)) ≡ told (escaped_once s)
-twice_text s = ap told (once-once s)
+twice_text : (s : Text) → as_answer (escaped_once (escaped_once s)) ≡ as_answer (escaped_once s)
+twice_text s = ap as_answer (once-once s)
 
 pub once_twice : (d : Datum) → escape_once_answer d [] >>= (λ e. escape_once_answer e []) ≡ escape_once_answer d []
 once_twice nil = refl
@@ -86,8 +86,8 @@ once_twice (text s) = twice_text s
 once_twice (array ds) = twice_text (text_of (array ds))
 once_twice (object ps) = twice_text (text_of (object ps))
 
-kept_text : (s : Text) → told (escaped_once (escaped_bytes s)) ≡ told (escaped_bytes s)
-kept_text s = ap told (once-escaped s)
+kept_text : (s : Text) → as_answer (escaped_once (escaped_bytes s)) ≡ as_answer (escaped_bytes s)
+kept_text s = ap as_answer (once-escaped s)
 
 pub once_keeps : (d : Datum) → escape_answer d [] >>= (λ e. escape_once_answer e []) ≡ escape_answer d []
 once_keeps nil = refl

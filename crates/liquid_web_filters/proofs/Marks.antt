@@ -52,8 +52,8 @@ cut_of c rest run after small u h =
     let i = h.0 in
     let at = h.2.1 in
     let split : drop i rest ≡ c ∷ after = at.split ∙ ap₂ (λ x y. x ++ y) (encode_ascii c small) (sym h.4) in
-    let behind : i + length after < length rest = let n = h.7 in let m : h.1 ≡ i + 1 = at.ends ∙ ap (λ k. i + k) (len_utf8_ascii c small) in omega (arith, n, m) in
-    let boundary : IsCharBoundary rest i = IsCharBoundary-before_ascii rest i (omega (arith, behind)) (subst (λ b. b < 128) (sym (at.byte small)) small) in
+    let shorter : i + length after < length rest = let n = h.7 in let m : h.1 ≡ i + 1 = at.ends ∙ ap (λ k. i + k) (len_utf8_ascii c small) in omega (arith, n, m) in
+    let boundary : IsCharBoundary rest i = IsCharBoundary-before_ascii rest i (omega (arith, shorter)) (subst (λ b. b < 128) (sym (at.byte small)) small) in
     let front : IsUtf8 run = subst IsUtf8 (sym h.3) (IsUtf8-take rest i u boundary) in
     record {
       whole = sym (take-append-drop i rest) ∙ ap₂ (λ x y. x ++ y) (sym h.3) split;

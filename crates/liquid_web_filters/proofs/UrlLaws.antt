@@ -40,11 +40,11 @@ letters_small (c ∷ cs) h = let q = and_parts (scalar c) (scalars cs) h in All-
 text_small : (s : Text) → IsUtf8 s → All IsByte s
 text_small s u = subst (All IsByte) u.1.1 (letters_small u.0 u.1.0)
 
-abbrev told : Result Text ErrorKind → Answer
-told r = r >>= λ t. Ok (text t)
+abbrev as_answer : Result Text ErrorKind → Answer
+as_answer r = r >>= λ t. Ok (text t)
 
 pub undone : (s : Text) → IsUtf8 s → url_encode_answer (text s) [] >>= (λ e. url_decode_answer e []) ≡ Ok (text s)
-undone s u = ap (λ bs. told (text_of_bytes bs)) (url_round_trip s (text_small s u)) ∙ ap told (of_bytes_text s s u refl)
+undone s u = ap (λ bs. as_answer (text_of_bytes bs)) (url_round_trip s (text_small s u)) ∙ ap as_answer (of_bytes_text s s u refl)
 
 -- ---- encoding, byte by byte
 encoded : (s : Text) → IsTheOne (Texts (Concatenates (λ b bs. url_escaped_byte b) s)) (Ok (text (url_escaped s)))
@@ -150,8 +150,8 @@ decodes_meets (c ∷ h ∷ l ∷ r) = meets_at c h l r (is_escape c h l) refl (d
 decoded : (s : Text) → IsTheOne (Decodes s) (unescaped s)
 decoded s = λ bs. (decodes_is bs s, λ e. subst (Decodes s) (sym e) (decodes_meets s))
 
-answered : (d : Datum) → IsTheOne (λ a. (bs : List ℕ) × (a ≡ told (text_of_bytes bs)) × Decodes (text_of d) bs) (told (text_of_bytes (unescaped (text_of d))))
-answered d = image_one (Decodes (text_of d)) (λ bs. told (text_of_bytes bs)) (unescaped (text_of d)) (decoded (text_of d))
+answered : (d : Datum) → IsTheOne (λ a. (bs : List ℕ) × (a ≡ as_answer (text_of_bytes bs)) × Decodes (text_of d) bs) (as_answer (text_of_bytes (unescaped (text_of d))))
+answered d = image_one (Decodes (text_of d)) (λ bs. as_answer (text_of_bytes bs)) (unescaped (text_of d)) (decoded (text_of d))
 
 pub url_decode_one : (d : Datum) (args : List Datum) → IsTheOne (UrlDecodes d) (url_decode_answer d args)
 url_decode_one nil args = same_one (Ok nil)

@@ -1,4 +1,4 @@
--- What the filters over HTML answer, told without them: relations that hold of the answer and of
+-- What the filters over HTML answer, said without them: relations that hold of the answer and of
 -- nothing else, and laws.
 use Rattle.std.specs.Prelude.{◌≡◌, ℕ, ◌+◌, ◌<◌, ◌≤◌, Bool, true, false, ◌&&◌, ◌||◌, ◌==◌, List, []}
 use Rattle.std.specs.Prelude.{◌∷◌, ◌++◌, length, take, drop, codes, Ok}

@@ -1,4 +1,4 @@
--- What the filters over URLs answer, told without them, and that the second undoes the first.
+-- What the filters over URLs answer, said without them, and that the second undoes the first.
 use Rattle.std.specs.Prelude.{◌≡◌, ◌⊎◌, ℕ, ◌+◌, ◌*◌, true, false, ◌&&◌, ◌==◌, List, [], ◌∷◌, Ok}
 use Rattle.std.specs.Prelude.{if◌then◌else◌}
 use Rattle.std.specs.Char.{digit_value, is_digit}

@@ -13,10 +13,10 @@ FLAGGED = "scpPZ"
 FLAGS = "-_0^#"
 WIDTHS = ("0", "1", "2", "3", "4", "5", "6", "9", "10", "12", "15", "19", "20", "20", "21", "30", "100", "255", "007")
 COLONS = (":", "::", ":::")
-# a fraction's dot and the width behind it
+# a fraction's dot and the width after it
 DOTS = (".", ".", ".0", ".1", ".3", ".9", ".10", ".30", ".255", ".003")
 TEXTS = (" ", " ", "-", "/", ", ", ":", ".", "5", "0", "f", "Y", "T", "week ", "é", "日", "\u00a0", "<b>", "_", "^", "#", "\n")
-# for these a pattern is refused, but for a few where what stands behind them makes a directive of them
+# for these a pattern is refused, but for a few where what stands after them makes a directive of them
 REFUSED = (
     "%", "%-", "%5", "%:", "%0:", "%E", "%i", "%J", "%K", "%L", "%O", "%o", "%v", "%+", "%é", "%日", "% ", "%.", "%.3", "%5.", "%.N", "%.3N", "%.-f", "%.:f", "%..f",
     "%--d", "%_^A", "%^#p", "%-_5d", "%0-d", "%3-d", "%:5z", "%:-z", "%::::", "%::::z", "%::Q", "%:::Q", "%0f", "%00f", "%-0N", "%0N", "%256", "%256d", "%0256Y", "%1000n",

@@ -72,7 +72,7 @@ FIXED = {"n": "\n", "t": "\t", "%": "%"}
 
 @dataclass
 class Directive:
-    """What stands between a % and its letter. For %.f the letter is ".f", and the width is the one behind the dot."""
+    """What stands between a % and its letter. For %.f the letter is ".f", and the width is the one after the dot."""
 
     flag: str
     width: Optional[int]

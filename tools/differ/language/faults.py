@@ -16,4 +16,4 @@ class Fault(Exception):
 
 
 class TooLong(Exception):
-    """The page is too much work for a comparison, so that no end is told of it."""
+    """The page is too much work for a comparison, so that no end is reported of it."""

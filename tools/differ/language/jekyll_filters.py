@@ -55,7 +55,7 @@ def dated(pattern):
 
 
 def spoken_date(month):
-    """The day, the month by the pattern and the year; with ordinal the day as it is counted, and with US behind it the month first."""
+    """The day, the month by the pattern and the year; with ordinal the day as it is counted, and with US after it the month first."""
 
     def answer(value, style="", country=""):
         day, name, year = dated("%d"), dated(month), dated("%Y")

@@ -204,7 +204,7 @@ class Reader:
         return value
 
     def raw(self):
-        """The body of a raw, behind its tag, stripped beside marks."""
+        """The body of a raw, after its tag, stripped beside marks."""
         end = END_OF_RAW.search(self.source, self.at)
         if not end:
             raise Fault("MissingEnd")

@@ -55,7 +55,7 @@ def whole_or_fault(value):
 
 
 class Window:
-    """The items that a loop asks for: so many, behind those that are left out."""
+    """The items that a loop asks for: so many, after those that are left out."""
 
     def __init__(self, loop, environment):
         self.items = items_of(loop.source, environment)

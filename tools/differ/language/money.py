@@ -52,7 +52,7 @@ def in_format(form, cents):
 
 
 def whole_units_alone(form, cents):
-    """As in the format, but whole units have no cents behind them."""
+    """As in the format, but whole units have no cents after them."""
     text = amount(form.style, cents)
     if cents % 100 == 0 and STYLES[form.style][1] is not None:
         text = text[:-3]

@@ -76,15 +76,15 @@ def may_have_begun(fault, end):
     blocks = CONTROLS.get(end) or (end.removeprefix("end"),)
     if name in blocks:
         return fault.kind != "MissingEnd"
-    return fault.kind == "UnknownTag" and not is_misplaced(fault) and any(is_near(name, block) for block in blocks)
+    return fault.kind == "UnknownTag" and not is_misplaced(fault) and any(is_similar(name, block) for block in blocks)
 
 
 def may_end(name, block):
-    """Whether the name is that of an end, or near to that of the block's end."""
-    return name.startswith("end") or is_near(name, f"end{block}")
+    """Whether the name is that of an end, or similar to that of the block's end."""
+    return name.startswith("end") or is_similar(name, f"end{block}")
 
 
-def is_near(name, block):
+def is_similar(name, block):
     """Whether few changes make the one of the other, fewer than the name has letters."""
     return bool(name) and distance(name, block) <= min(MOST_CHANGES, len(name) - 1)
 

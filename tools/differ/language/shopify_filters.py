@@ -46,7 +46,7 @@ def replace_last(text, old, new):
 
 
 def base64_decode(text):
-    """Of what base64 writes: the bits behind the last byte are 0."""
+    """Of what base64 writes: the bits after the last byte are 0."""
     try:
         found = base64.b64decode(text, validate=True)
         if base64.b64encode(found).decode() == text:

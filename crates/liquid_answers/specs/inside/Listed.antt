@@ -8,7 +8,7 @@ use Rattle.liquid_model.specs.Texts.{Text}
 use Rattle.liquid_model.specs.View.{items_view, view}
 use Rattle.liquid_model.specs.declared.value.Value.{Value}
 use Rattle.liquid_jekyll_host_filters.specs.Json.{json_items}
-use Rattle.liquid_answers.specs.Lacking.{AreTold}
+use Rattle.liquid_answers.specs.Lacking.{AreLackingCalls}
 use Rattle.liquid_answers.specs.declared.answers.Answers.{Answers}
 use Rattle.liquid_answers.specs.declared.lacking.Listed.{Listed}
 
@@ -26,7 +26,7 @@ abbrev pub IsAfter : List Value → Value → Type 0
 IsAfter calls call = (last : Value) → slice_get calls (length calls - 1) ≡ Some last →
     on view order last call ≡ Less
 
--- the calls may be told, and the text is their list, but for its end
+-- the table lacks the calls, and the text is their list, but for its end
 pub record AreListed (table : Answers) (listed : Listed) : Type 0 where
-  pub told : AreTold table listed.calls.items
+  pub lacking_calls : AreLackingCalls table listed.calls.items
   pub text : string_bytes listed.text ≡ codes "[" ++ json_items [] (items_view listed.calls.items)

@@ -2,6 +2,6 @@
 use Rattle.std.specs.Prelude.{◌≡◌, false, List, [], ◌∷◌, ⊤}
 use Rattle.liquid_check.specs.Rounds.{Found}
 
-abbrev pub IsFirstTold : List Found → Type 0
-IsFirstTold [] = ⊤
-IsFirstTold (f ∷ fs) = f.follows ≡ false
+abbrev pub IsFirstIndependent : List Found → Type 0
+IsFirstIndependent [] = ⊤
+IsFirstIndependent (f ∷ fs) = f.follows ≡ false

@@ -6,4 +6,4 @@ abbrev pub decreases-resolved::Resolved::into_value : goal.decreases-resolved::R
 decreases-resolved::Resolved::into_value l = 2 * depth l.self
 
 abbrev pub decreases-frame::LoopFrame::object : goal.decreases-frame::LoopFrame::object
-decreases-frame::LoopFrame::object l = 2 * length l.behind.frames.now + 1
+decreases-frame::LoopFrame::object l = 2 * length l.enclosing.frames.now + 1

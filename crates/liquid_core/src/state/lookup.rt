@@ -19,14 +19,14 @@ ghost use Rattle.liquid_core.specs.States.{held_beside, loops_of, FindsLoop, IsP
 ghost use Rattle.liquid_model.specs.declared.error.ErrorKind.TheVariants.{UnknownVariable};
 
 use super::{Data, State};
-use crate::resolved::{Near, Resolved, Scopes, last_held};
+use crate::resolved::{DirectValue, Resolved, Scopes, last_held};
 use liquid_model::{Error, ErrorKind, Found, Quoted, Result, Value, ValueCow, look_up};
 use std::alloc::Global;
 
 impl<'d> State<'d> {
-    /// The value of a name, where a layer holds it. It is lent, and no memory is taken. Loops hold
-    /// no value of their own: while one is under way, a name that it or a scope over it binds is
-    /// not looked for there.
+    /// The value of a name, where a layer holds it. It is borrowed, and no memory is taken. Loops
+    /// hold no value of their own: while one is under way, a name that it or a scope over it binds
+    /// is not looked for there.
     pub fn look_up<'a>(&'a self, name: &str) -> Option<&'a Value>
         ensures value { option_map (λ v. view v.now) result ≡ held_beside self.now name.now }
         ensures plain { IsPlain self.now → option_map (λ v. view v.now) result ≡
@@ -65,26 +65,26 @@ impl<'d> State<'d> {
             return Some(resolved);
         }
         if let Some(value) = look_up(&self.assigned, name) {
-            return Some(Resolved::Near(Found::Held(value)));
+            return Some(Resolved::Local(Found::Held(value)));
         }
         if let Some(value) = self.get_index(name) {
-            return Some(Resolved::Near(Found::Held(value)));
+            return Some(Resolved::Local(Found::Held(value)));
         }
         self.data.find(name)
     }
 
     /// `resolve` of what a value holds, and of numbers.
-    pub(crate) fn near<'a>(&'a self, name: &str) -> Near<'a>
+    pub(crate) fn direct_value<'a>(&'a self, name: &str) -> DirectValue<'a>
         ensures { Says result (lookup (environment_of self.now) name.now) None }
     {
         let scopes = Scopes {
             outer: self.scopes.as_slice(),
             frames: self.frames.as_slice(),
         };
-        match scopes.near(name) {
-            Near::Nothing => match self.beside_loops(name) {
-                Some(value) => Near::Held(value),
-                None => Near::Nothing,
+        match scopes.direct_value(name) {
+            DirectValue::Nothing => match self.beside_loops(name) {
+                Some(value) => DirectValue::Held(value),
+                None => DirectValue::Nothing,
             },
             said => said,
         }
@@ -166,11 +166,11 @@ impl<'d> Data<'d> {
     {
         match self {
             Data::Own(object) => match look_up(object, name) {
-                Some(value) => Some(Resolved::Near(Found::Held(value))),
+                Some(value) => Some(Resolved::Local(Found::Held(value))),
                 None => None,
             },
-            Data::Lent(object) => match look_up(*object, name) {
-                Some(value) => Some(Resolved::Lent(Found::Held(value))),
+            Data::Borrowed(object) => match look_up(*object, name) {
+                Some(value) => Some(Resolved::Borrowed(Found::Held(value))),
                 None => None,
             },
         }
@@ -200,7 +200,7 @@ fn along<'a, 'd>(
 }
 
 fn unknown(alloc: Global, path: &[Value]) -> Error
-    ensures told { IsKindOrMemory UnknownVariable result.kind }
+    ensures kind_or_memory { IsKindOrMemory UnknownVariable result.kind }
     ensures message { HasMessageUnlessMemory (nowhere_message (map view path.now)) result }
 {
     match path.first() {
@@ -215,7 +215,7 @@ fn unknown(alloc: Global, path: &[Value]) -> Error
 
 /// Of a path that begins with this name.
 fn unknown_from(alloc: Global, name: &Value) -> Error
-    ensures told { IsKindOrMemory UnknownVariable result.kind }
+    ensures kind_or_memory { IsKindOrMemory UnknownVariable result.kind }
     ensures message { HasMessageUnlessMemory (nowhere_message (view name.now ∷ [])) result }
 {
     match name.text(alloc) {

@@ -1,13 +1,13 @@
 //! Faults of tags' names and of blocks.
-use super::items::spelling_at;
+use super::misplaced_items::spelling_at;
 use super::names::meant_tag;
-use super::near::nearest;
 use super::outline::{Opener, Otherwise, Outline};
 use super::phrasing::Phrasing;
+use super::similar::most_similar;
 use super::wanted::words_of;
 use crate::block::{Block, end_tag};
 use crate::language::Language;
-use liquid_core::{NearName, nearer};
+use liquid_core::{SimilarName, more_similar};
 use liquid_lexer::{Fault, PlacedPiece};
 use std::alloc::{AllocError, Global};
 
@@ -136,11 +136,11 @@ fn unknown_name<'s>(
     if let Some(words) = meant_tag(name) {
         return Ok(Phrasing::plain(at, words));
     }
-    let near = near_tag(alloc, language, name)?;
-    Ok(match near {
-        Some(near) => {
+    let similar = similar_tag(alloc, language, name)?;
+    Ok(match similar {
+        Some(similar) => {
             let words = "no tag is named `…`; did you mean `…`?";
-            Phrasing::quoting(at, words, name, near.name)
+            Phrasing::quoting(at, words, name, similar.name)
         }
         None if spelling_at(&piece.items, 0) == "=" => {
             let words = "no tag is named `…`; a name is set by `{% assign … = .. %}`";
@@ -154,14 +154,14 @@ fn unknown_name<'s>(
     })
 }
 
-/// The nearest name of a tag, a block or a control word.
-fn near_tag<'n>(
+/// The most similar name of a tag, a block or a control word.
+fn similar_tag<'n>(
     alloc: Global,
     language: &'n Language,
     name: &str,
-) -> Result<Option<NearName<'n>>, AllocError> {
-    let near = nearest(alloc, language.tags.names(), name, None)?;
-    let near = nearest(alloc, language.blocks.names(), name, near)?;
-    let near = nearer(alloc, "else", name, near)?;
-    nearer(alloc, "elsif", name, near)
+) -> Result<Option<SimilarName<'n>>, AllocError> {
+    let similar = most_similar(alloc, language.tags.names(), name, None)?;
+    let similar = most_similar(alloc, language.blocks.names(), name, similar)?;
+    let similar = more_similar(alloc, "else", name, similar)?;
+    more_similar(alloc, "elsif", name, similar)
 }

@@ -1,9 +1,9 @@
 //! Faults of filters: of one that isn't known, and of one with more or fewer arguments than it
 //! takes.
 use super::names::{kind_of_filter, lacking_filter, meant_filter};
-use super::near::nearest;
 use super::numbers::comma_in_argument;
 use super::phrasing::Phrasing;
+use super::similar::most_similar;
 use crate::registered_filter::{FilterRegistry, RegisteredFilter};
 use liquid_lexer::{Item, PlacedItem, PlacedPiece, Symbol};
 use std::alloc::{AllocError, Global};
@@ -38,7 +38,7 @@ pub fn unknown_filter<'s>(
     }
 }
 
-/// Of a filter that isn't registered: what it is called here, or the nearest name.
+/// Of a filter that isn't registered: what it is called here, or the most similar name.
 fn unknown_name<'s>(
     alloc: Global,
     filters: &'s FilterRegistry,
@@ -46,7 +46,7 @@ fn unknown_name<'s>(
 ) -> Result<Phrasing<'s>, AllocError> {
     match meant_elsewhere(filters, call.name, call.from) {
         Some(phrasing) => Ok(phrasing),
-        None => near_filter(alloc, filters, call),
+        None => similar_filter(alloc, filters, call),
     }
 }
 
@@ -73,16 +73,16 @@ pub fn meant_here(filters: &FilterRegistry, name: &str) -> Option<&'static str> 
 }
 
 /// Of a filter whose name no other language has either.
-fn near_filter<'s>(
+fn similar_filter<'s>(
     alloc: Global,
     filters: &'s FilterRegistry,
     call: &WrittenFilter<'s>,
 ) -> Result<Phrasing<'s>, AllocError> {
-    let near = nearest(alloc, filters.names(), call.name, None)?;
-    Ok(match near {
-        Some(near) => {
+    let similar = most_similar(alloc, filters.names(), call.name, None)?;
+    Ok(match similar {
+        Some(similar) => {
             let words = "no filter is named `…`; did you mean `…`?";
-            Phrasing::quoting(call.from, words, call.name, near.name)
+            Phrasing::quoting(call.from, words, call.name, similar.name)
         }
         None => match kind_of_filter(call.name) {
             Some(words) => Phrasing::quoting(

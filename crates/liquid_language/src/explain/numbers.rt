@@ -1,7 +1,7 @@
 //! Numbers that aren't whole.
 use super::characters::{ends_value, is_digit, is_sign};
-use super::habits::{FaultSite, Spot, site_of};
-use super::items::front_before;
+use super::foreign_syntax::{ErrorSite, PieceContext, context_of};
+use super::misplaced_items::front_before;
 use super::phrasing::Phrasing;
 use liquid_lexer::PlacedPiece;
 
@@ -31,7 +31,7 @@ pub fn no_whole<'s>(from: &'s str, before: &'static str, piece: &PlacedPiece<'s>
 
 /// What the message says of a number with a fraction that isn't zero, by what it is for.
 fn words_of_fraction(piece: &PlacedPiece<'_>) -> &'static str {
-    match (last_filter(piece), site_of(piece)) {
+    match (last_filter(piece), context_of(piece)) {
         (Some("times"), _) => {
             "`…` is no whole number, and templates have no others; write `times: ¹ | divided_by: ²`"
         }
@@ -39,11 +39,11 @@ fn words_of_fraction(piece: &PlacedPiece<'_>) -> &'static str {
             "`…` is no whole number, and templates have no others; write `times: ² | divided_by: ¹`"
         }
         (Some("plus" | "minus" | "modulo" | "at_least" | "at_most"), _)
-        | (None, FaultSite::Condition) => {
+        | (None, PieceContext::Condition) => {
             "`…` is no whole number, and templates have no others; count in a smaller unit, of which ² make 1, and write `¹`"
         }
         (Some("append" | "prepend" | "default" | "replace"), _)
-        | (None, FaultSite::Output | FaultSite::Assign) => {
+        | (None, PieceContext::Output | PieceContext::Assign) => {
             "`…` is no whole number, and templates have no others; as a text, `'¤…'`, it can be shown and rounded, and to compute count in a smaller unit, of which ² make 1, and write `¹`"
         }
         _ => "`…` is no whole number, and a whole one is wanted here",
@@ -110,10 +110,10 @@ pub fn comma_in_argument(from: &str) -> Option<Phrasing<'_>> {
 }
 
 /// Whether a number begins by a `.`, after no value that this could be a step of.
-pub fn is_fraction(spot: &Spot<'_>) -> bool {
-    match spot.rest.strip_prefix(".") {
-        Some(after) if spot.at_item => {
-            after.starts_with(is_digit) && !spot.before.ends_with(ends_value)
+pub fn is_fraction(site: &ErrorSite<'_>) -> bool {
+    match site.rest.strip_prefix(".") {
+        Some(after) if site.at_item => {
+            after.starts_with(is_digit) && !site.before.ends_with(ends_value)
         }
         _ => false,
     }

@@ -1,5 +1,5 @@
 //! Which blocks are open at a place, and which piece holds it.
-use crate::block::{Block, BlockContext, Control, Role, body_behind, role_of};
+use crate::block::{Block, BlockContext, Control, Role, body_after, role_of};
 use crate::language::{BlockKind, Language};
 use liquid_lexer::{ParseError, Piece, past_byte, read_body, read_markup, text_before};
 use std::alloc::{AllocError, Global};
@@ -70,14 +70,14 @@ pub fn outline_at<'s>(
     let mut rest = source;
     // each piece takes a byte at least
     for _ in 0..source.len() {
-        let (_, behind) = text_before(rest);
-        if behind.is_empty() {
+        let (_, following) = text_before(rest);
+        if following.is_empty() {
             return Ok(outline);
         }
-        match past(alloc, language, &mut outline, behind)? {
+        match past(alloc, language, &mut outline, following)? {
             Some(after) => rest = after,
             None => {
-                outline.at = behind;
+                outline.at = following;
                 return Ok(outline);
             }
         }
@@ -103,7 +103,7 @@ fn past<'s>(
         Err(ParseError::Fault(_)) => return Ok(None),
         Err(ParseError::Memory) => return Err(AllocError),
     };
-    let body = body_behind(language, outline.context(), &markup.piece);
+    let body = body_after(language, outline.context(), &markup.piece);
     match read_body(body, markup, after) {
         Ok((markup, after)) => {
             enter(language, outline, &markup.piece, text)?;

@@ -1,8 +1,8 @@
 //! Parentheses that hold no range: calls, lists and conditions of other languages.
 use super::characters::{is_digit, is_letter};
 use super::filters::{meant_elsewhere, meant_here};
-use super::habits::{FaultSite, Spot};
-use super::items::{front_before, spelling_before};
+use super::foreign_syntax::{ErrorSite, PieceContext};
+use super::misplaced_items::{front_before, spelling_before};
 use super::phrasing::Phrasing;
 use crate::language::Language;
 use liquid_lexer::PlacedPiece;
@@ -10,61 +10,61 @@ use liquid_lexer::PlacedPiece;
 /// What is meant by parentheses that hold no range.
 pub fn in_parentheses<'s>(
     language: &Language,
-    spot: &Spot<'s>,
+    site: &ErrorSite<'s>,
     piece: &PlacedPiece<'s>,
 ) -> Option<Phrasing<'s>> {
-    if !piece.rest.starts_with("(") || spot.at_item || spot.rest.starts_with("%}") {
+    if !piece.rest.starts_with("(") || site.at_item || site.rest.starts_with("%}") {
         return None;
     }
-    let bar = spelling_before(&piece.items, spot.count.saturating_sub(1));
-    if bar == "|" && spot.count > 1 {
-        return Some(called_filter(language, spot, piece.rest));
+    let bar = spelling_before(&piece.items, site.count.saturating_sub(1));
+    if bar == "|" && site.count > 1 {
+        return Some(called_filter(language, site, piece.rest));
     }
-    if is_call(spot, piece) {
-        return Some(called(language, spot, piece.rest));
+    if is_call(site, piece) {
+        return Some(called(language, site, piece.rest));
     }
-    let is_name = matches!(spot.site, FaultSite::Loop) && spot.count == 0;
+    let is_name = matches!(site.context, PieceContext::Loop) && site.count == 0;
     if !is_name && is_list(piece.rest) {
-        let words = if let FaultSite::Loop = spot.site {
+        let words = if let PieceContext::Loop = site.context {
             "a range is written `(1..5)`; a list can't be written in a template, `'a,b' | split: ','` makes one"
         } else {
             "a list can't be written in a template; `'a,b' | split: ','` makes one"
         };
         return Some(Phrasing::plain(piece.rest, words));
     }
-    Some(Phrasing::plain(piece.rest, no_range(spot)?))
+    Some(Phrasing::plain(piece.rest, no_range(site)?))
 }
 
 /// Of a filter with parentheses after its name.
-fn called_filter<'s>(language: &Language, spot: &Spot<'s>, opening: &'s str) -> Phrasing<'s> {
-    if language.filters.get(spot.before).is_none() {
-        if let Some(phrasing) = meant_elsewhere(&language.filters, spot.before, opening) {
+fn called_filter<'s>(language: &Language, site: &ErrorSite<'s>, opening: &'s str) -> Phrasing<'s> {
+    if language.filters.get(site.before).is_none() {
+        if let Some(phrasing) = meant_elsewhere(&language.filters, site.before, opening) {
             return phrasing;
         }
     }
-    let words = if is_empty(spot, opening) {
+    let words = if is_empty(site, opening) {
         "`…()` is written `…`, without parentheses"
     } else {
         "arguments follow a `:`: write `…: ..` for `…(..)`"
     };
-    Phrasing::quoting(opening, words, spot.before, spot.before)
+    Phrasing::quoting(opening, words, site.before, site.before)
 }
 
 /// Whether the parentheses are empty.
-fn is_empty(spot: &Spot<'_>, opening: &str) -> bool {
-    front_before(opening, spot.rest) == "(" && spot.rest.starts_with(")")
+fn is_empty(site: &ErrorSite<'_>, opening: &str) -> bool {
+    front_before(opening, site.rest) == "(" && site.rest.starts_with(")")
 }
 
 /// Whether the parentheses follow a name directly, as in a call.
-fn is_call(spot: &Spot<'_>, piece: &PlacedPiece<'_>) -> bool {
+fn is_call(site: &ErrorSite<'_>, piece: &PlacedPiece<'_>) -> bool {
     let is_word = matches!(
-        spot.before,
+        site.before,
         "in" | "range" | "not" | "and" | "or" | "if" | "contains"
     );
     match piece.items.last() {
         Some(last) => {
             let end = last.from.len().saturating_sub(last.spelling.len());
-            end == piece.rest.len() && !is_word && spot.before.starts_with(is_letter)
+            end == piece.rest.len() && !is_word && site.before.starts_with(is_letter)
         }
         None => false,
     }
@@ -79,23 +79,23 @@ fn is_list(opening: &str) -> bool {
 }
 
 /// Of a name with parentheses after it.
-fn called<'s>(language: &Language, spot: &Spot<'s>, opening: &'s str) -> Phrasing<'s> {
-    if let FaultSite::Condition = spot.site {
+fn called<'s>(language: &Language, site: &ErrorSite<'s>, opening: &'s str) -> Phrasing<'s> {
+    if let PieceContext::Condition = site.context {
         let words =
             "a condition has no calls; write `a contains 'text'`, or `assign` the value before it";
         return Phrasing::plain(opening, words);
     }
-    match spot.before.rsplit_once('.') {
+    match site.before.rsplit_once('.') {
         Some((front, step)) => called_step(language, front, step, opening),
         None if opening.trim_start_matches('(').starts_with(is_digit) => {
             let words =
                 "`…(..)` isn't known: a place in a list is written `…[0]`, and a filter, as `a | size`, stands for a call";
-            Phrasing::quoting(opening, words, spot.before, spot.before)
+            Phrasing::quoting(opening, words, site.before, site.before)
         }
         None => {
             let words =
                 "`…(..)` isn't known: a filter, as `a | size`, stands for a call, and parentheses hold a range, as `(1..5)`";
-            Phrasing::quoting(opening, words, spot.before, "")
+            Phrasing::quoting(opening, words, site.before, "")
         }
     }
 }
@@ -135,16 +135,16 @@ fn called_step<'s>(
 }
 
 /// What the message says of parentheses that hold no range, where nothing is called.
-fn no_range(spot: &Spot<'_>) -> Option<&'static str> {
-    match spot.site {
-        FaultSite::Condition => {
+fn no_range(site: &ErrorSite<'_>) -> Option<&'static str> {
+    match site.context {
+        PieceContext::Condition => {
             Some("a condition has no parentheses; put one `{% if %}` inside another")
         }
-        FaultSite::Loop if spot.count == 0 => {
+        PieceContext::Loop if site.count == 0 => {
             Some("a loop has one name and no parentheses around it, as `{% for i in list %}`")
         }
-        FaultSite::Loop => Some("a range has two ends and two dots between them, as `(1..5)`"),
-        _ if spot.rest.starts_with("}}") => None,
+        PieceContext::Loop => Some("a range has two ends and two dots between them, as `(1..5)`"),
+        _ if site.rest.starts_with("}}") => None,
         _ => Some(
             "parentheses hold a range alone, as `(1..5)`; a filter, as `a | size`, stands for a call",
         ),

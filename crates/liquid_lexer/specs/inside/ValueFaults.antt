@@ -21,12 +21,12 @@ number_fault None after = NumberLiteral
 number_fault (Some n) after = if is_fraction after then FloatLiteral else BadItem
 
 -- so many bytes at the front are a sign and digits
-abbrev pub fault_behind : ℕ → List ℕ → FaultKind
-fault_behind zero bs = BadItem
-fault_behind (suc n) bs = number_fault (whole_text (take (suc n) bs)) (drop (suc n) bs)
+abbrev pub fault_after : ℕ → List ℕ → FaultKind
+fault_after zero bs = BadItem
+fault_after (suc n) bs = number_fault (whole_text (take (suc n) bs)) (drop (suc n) bs)
 
 -- nothing is left, a quote isn't closed, a number isn't taken, or no item stands there at all
 abbrev pub value_fault : List ℕ → FaultKind
 value_fault [] = Unclosed
-value_fault (b ∷ bs) = if b == double_quote || b == single_quote then Unclosed else fault_behind
+value_fault (b ∷ bs) = if b == double_quote || b == single_quote then Unclosed else fault_after
     (number_len (b ∷ bs)) (b ∷ bs)

@@ -3,9 +3,9 @@ use Rattle.liquid_model.specs.Data.{Datum}
 use Rattle.liquid_model.specs.Maps.{Map, empty, insert}
 use Rattle.liquid_model.specs.View.{view}
 use Rattle.liquid_core.specs.Held.{held}
-use Rattle.liquid_lib.specs.declared.own_state.Given.{Given}
-use Rattle.liquid_lib.specs.declared.own_state.Given.TheVariants.{Names, Lent}
+use Rattle.liquid_lib.specs.declared.isolated_scope.Given.{Given}
+use Rattle.liquid_lib.specs.declared.isolated_scope.Given.TheVariants.{Names, Borrowed}
 
 abbrev pub given_map : Given → Map Datum
 given_map (Names o) = held o
-given_map (Lent name v) = insert empty name.now (view v.now)
+given_map (Borrowed name v) = insert empty name.now (view v.now)

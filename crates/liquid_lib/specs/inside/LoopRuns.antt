@@ -8,7 +8,7 @@ use Rattle.liquid_model.specs.Data.{Datum}
 use Rattle.liquid_model.specs.Maps.{Map}
 use Rattle.liquid_model.specs.Texts.{Text}
 use Rattle.liquid_core.specs.Environment.{Names, local_of}
-use Rattle.liquid_core.specs.States.{layers_of, loops_of, merged_layers, scopes_behind}
+use Rattle.liquid_core.specs.States.{layers_of, loops_of, merged_layers, enclosing_scopes}
 use Rattle.liquid_core.specs.States.{with_scope_popped}
 use Rattle.liquid_core.specs.LoopFrames.{EndsIn, frame_map_at}
 use Rattle.liquid_core.specs.declared.interrupt.Interrupt.{Interrupt}
@@ -16,7 +16,7 @@ use Rattle.liquid_core.specs.declared.state.State.{State}
 use Rattle.liquid_core.specs.declared.frame.Scope.{Scope}
 use Rattle.liquid_core.specs.declared.frame.LoopFrame.{LoopFrame}
 use Rattle.liquid_evaluation.specs.Names.{partials_names}
-use Rattle.liquid_lib.specs.Kept.{LayersKept}
+use Rattle.liquid_lib.specs.StateKept.{LayersKept}
 use Rattle.liquid_lib.specs.inside.LoopTurns.{turn_items}
 use Rattle.liquid_lib.specs.Performs.{Configuration}
 use Rattle.liquid_lib.specs.Sinks.{sink_of}
@@ -28,13 +28,13 @@ use Rattle.liquid_meaning.specs.Runs.{Nothing, Run, write, ◌>>=◌, with_scope
 use Rattle.liquid_meaning.specs.Within.{Within}
 
 -- the local names outside the innermost scope
-abbrev pub behind : State → Map Datum
-behind s = local_of (scopes_behind (layers_of s).scopes)
+abbrev pub enclosing_names : State → Map Datum
+enclosing_names s = local_of (enclosing_scopes (layers_of s).scopes)
 
 -- where a run stands, without the innermost scope
-abbrev pub configuration_behind : {W : Type 0} → (W → Option (List ℕ)) → (W → ℕ) → Output W →
+abbrev pub enclosing_configuration : {W : Type 0} → (W → Option (List ℕ)) → (W → ℕ) → Output W →
     State → Configuration
-configuration_behind contents failure_count out s = record {
+enclosing_configuration contents failure_count out s = record {
   sink = sink_of contents failure_count out;
   environment = merged_layers (with_scope_popped (layers_of s));
 }
@@ -45,8 +45,8 @@ pub record StartsAt (m : ℕ) (s : State) (before : List Scope) (t : LoopFrame) 
   pub count : t.count ≡ m
 
 -- what is kept of the layers without the innermost scope
-abbrev pub KeepsBehind : List Text → Setting → State → State → Type 0
-KeepsBehind names setting old new = (N : Names) → Within N names →
+abbrev pub KeepsEnclosing : List Text → Setting → State → State → Type 0
+KeepsEnclosing names setting old new = (N : Names) → Within N names →
     Within N (partials_names setting.partials) → LayersKept N (with_scope_popped (layers_of old))
     (with_scope_popped (layers_of new))
 

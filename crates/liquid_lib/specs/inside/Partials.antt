@@ -25,7 +25,7 @@ use Rattle.liquid_evaluation.specs.Tree.{Bindings, Nodes}
 use Rattle.liquid_syntax.specs.Templates.{template_nodes, most_of}
 use Rattle.liquid_syntax.specs.declared.template.Template.{Template}
 use Rattle.liquid_lib.specs.declared.context.RunContext.{RunContext}
-use Rattle.liquid_lib.specs.declared.own_state.EachItem.{EachItem}
+use Rattle.liquid_lib.specs.declared.isolated_scope.EachItem.{EachItem}
 use Rattle.liquid_meaning.specs.Meaning.{found, include_scope, partial_name_text, pairs_scope}
 
 -- the pairs, evaluated in order, and what is made of them
@@ -69,7 +69,7 @@ abbrev pub entry_of : {S : Type 0} → (List (Text × Datum) → S) → Result N
 entry_of over look depth bindings e =
     bound_as over bindings e >>= (λ made. look >>= (λ partial. entry_at depth made partial))
 
--- before that the name is evaluated, and it is told with the rest
+-- before that the name is evaluated, and the rest comes with it
 abbrev pub named_entry : {S : Type 0} → (List (Text × Datum) → S) →
     (Text → Result Nodes ErrorKind) → ℕ → Expression → Bindings → Environment →
     Result (S × (Text × (Nodes × ℕ))) ErrorKind

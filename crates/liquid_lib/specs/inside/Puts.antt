@@ -9,7 +9,7 @@ use Rattle.liquid_lib.specs.declared.output.Put.TheVariants.{All, NoMemory, NotW
 use Rattle.liquid_lib.specs.Performs.{WritesText}
 use Rattle.liquid_lib.specs.Sinks.{Sink}
 
--- the text was written, or whatever fault is told of it may be told
+-- the text was written, or any fault of the kind may report that it wasn't
 abbrev pub Puts : Put → Text → Sink → Sink → Type 0
 Puts All t old new = WritesText (Ok tt) t old new
 Puts NoMemory t old new = (e : Error) → e.kind ≡ Memory → WritesText (Err e) t old new

@@ -11,19 +11,20 @@ ghost use Rattle.liquid_evaluation.specs.Tree as tree;
 ghost use Rattle.liquid_syntax.specs.Flats.{Maker, IsForestAt, IsNodeRange, nodes_of, window_view};
 ghost use Rattle.liquid_syntax.specs.Forest.{Forest};
 ghost use Rattle.liquid_lib.specs.inside.Engine.{setting_of, node_in, nodes_in};
-ghost use Rattle.liquid_lib.specs.Kept.{Keeps};
-ghost use Rattle.liquid_lib.specs.inside.LoopRuns.{KeepsBehind, StartsAt, behind, cells_meant};
-ghost use Rattle.liquid_lib.specs.inside.LoopRuns.{configuration_behind, turns_meant};
+ghost use Rattle.liquid_lib.specs.StateKept.{Keeps};
+ghost use Rattle.liquid_lib.specs.inside.LoopRuns.{KeepsEnclosing, StartsAt, cells_meant};
+ghost use Rattle.liquid_lib.specs.inside.LoopRuns.{enclosing_configuration, enclosing_names};
+ghost use Rattle.liquid_lib.specs.inside.LoopRuns.{turns_meant};
 ghost use Rattle.liquid_lib.specs.Performs.{Performs, configuration_of};
 
 use super::run_range;
 use crate::context::RunContext;
 use crate::counted::CountedWrite;
-use crate::loop_turns::{for_frame, row_frame, takes_break};
+use crate::loop_setup::{for_frame, row_frame, takes_break};
 use crate::output::Output;
 use crate::stdlib::Row;
 use liquid_core::{NamedFilters, Result, State};
-use liquid_syntax::{For, Node, TableRow, TwoBodies};
+use liquid_syntax::{BodyEnds, For, Node, TableRow};
 use std::alloc::Global;
 
 /// Runs the body for each item, or the nodes of `else` where there is none.
@@ -35,7 +36,7 @@ pub(super) fn run_for<'d, W: CountedWrite, H: NamedFilters>(
     nodes: &'d [Node],
     at: usize,
     head: &'d For,
-    bodies: TwoBodies,
+    bodies: BodyEnds,
     out: &mut Output<'_, W>,
     state: &mut State<'d>,
 ) -> Result<()>
@@ -101,12 +102,12 @@ fn run_turns<'d, W: CountedWrite, H: NamedFilters>(
     ensures performs { (f : Forest Maker) → IsForestAt nodes.now from f to →
         (before : List Scope) (t : LoopFrame) → StartsAt count state.old before t →
         Performs result
-        (turns_meant t (behind state.old) (nodes_in H.named context.now (nodes_of f)))
-        (configuration_behind W.contents W.failure_count out.old state.old)
-        (configuration_behind W.contents W.failure_count out.new state.new) }
+        (turns_meant t (enclosing_names state.old) (nodes_in H.named context.now (nodes_of f)))
+        (enclosing_configuration W.contents W.failure_count out.old state.old)
+        (enclosing_configuration W.contents W.failure_count out.new state.new) }
     ensures same_writer { out.new.writer.ghost_name ≡ out.old.writer.ghost_name }
     ensures kept { (f : Forest Maker) → IsForestAt nodes.now from f to →
-        KeepsBehind (nodes_names (nodes_of f)) (setting_of H.named context.now) state.old
+        KeepsEnclosing (nodes_names (nodes_of f)) (setting_of H.named context.now) state.old
         state.new }
     ensures loops { without_innermost (loops_of state.new) ≡
         without_innermost (loops_of state.old) }
@@ -184,13 +185,13 @@ fn run_cells<'d, W: CountedWrite, H: NamedFilters>(
         ((t : LoopFrame) × StartsAt row.count state.old before t) }
     ensures performs { (f : Forest Maker) → IsForestAt nodes.now from f to →
         (before : List Scope) (t : LoopFrame) → StartsAt row.count state.old before t →
-        Performs result (cells_meant t row.columns.count (behind state.old)
+        Performs result (cells_meant t row.columns.count (enclosing_names state.old)
         (nodes_in H.named context.now (nodes_of f)))
-        (configuration_behind W.contents W.failure_count out.old state.old)
-        (configuration_behind W.contents W.failure_count out.new state.new) }
+        (enclosing_configuration W.contents W.failure_count out.old state.old)
+        (enclosing_configuration W.contents W.failure_count out.new state.new) }
     ensures same_writer { out.new.writer.ghost_name ≡ out.old.writer.ghost_name }
     ensures kept { (f : Forest Maker) → IsForestAt nodes.now from f to →
-        KeepsBehind (nodes_names (nodes_of f)) (setting_of H.named context.now) state.old
+        KeepsEnclosing (nodes_names (nodes_of f)) (setting_of H.named context.now) state.old
         state.new }
     ensures loops { without_innermost (loops_of state.new) ≡
         without_innermost (loops_of state.old) }

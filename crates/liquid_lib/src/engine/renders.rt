@@ -12,9 +12,9 @@ use super::run_range;
 use crate::context::RunContext;
 use crate::counted::CountedWrite;
 use crate::fault_location::in_partial;
-use crate::loop_turns::ends_items;
+use crate::isolated_scope::{EachItem, enter_render, enter_render_item, left_by};
+use crate::loop_setup::ends_items;
 use crate::output::Output;
-use crate::own_state::{EachItem, enter_render, enter_render_item, left_by};
 use crate::partial::partial_name;
 use liquid_core::{Expression, Interrupt, NamedFilters, Result, State};
 use liquid_syntax::{Binding, Each};
@@ -69,7 +69,7 @@ pub(super) fn run_render_each<'d, W: CountedWrite, H: NamedFilters>(
 {
     let called = partial_name(alloc, name, state)?;
     let source = each.source.items(alloc, state)?;
-    let near = RunContext {
+    let item_context = RunContext {
         partials: &*context.partials,
         host: &*context.host,
         depth: context.depth,
@@ -82,7 +82,15 @@ pub(super) fn run_render_each<'d, W: CountedWrite, H: NamedFilters>(
             source: &source,
             at,
         };
-        let left = run_item(alloc, &near, called.as_str(), bindings, &item, out, state)?;
+        let left = run_item(
+            alloc,
+            &item_context,
+            called.as_str(),
+            bindings,
+            &item,
+            out,
+            state,
+        )?;
         if ends_items(left) {
             return Ok(());
         }

@@ -6,7 +6,7 @@ use Rattle.liquid_syntax.specs.declared.classify.tags.BareTag.TheVariants as tag
 use Rattle.liquid_evaluation.specs.Tree.{break_loop, continue_loop, ifchanged}
 
 abbrev pub bare_view : BareTag → Statement
-bare_view tags.Otherwise = otherwise
+bare_view tags.Else = otherwise
 bare_view tags.Break = leaf break_loop
 bare_view tags.Continue = leaf continue_loop
 bare_view tags.IfChanged = begins (of_one IfChanged (λ f. ifchanged f))

@@ -6,8 +6,8 @@ use Rattle.liquid_syntax.specs.Flats.{Maker, case_flat, flat_of, flats, nodes_of
 use Rattle.liquid_syntax.specs.Forest.{Forest, Bodies, no_bodies, sizes}
 use Rattle.liquid_syntax.specs.Laid.{Flat, ends_of, laid, laid_bodies}
 use Rattle.liquid_syntax.specs.Nesting as nesting
-use Rattle.liquid_syntax.specs.OpenBlocks.{Reading, last, first, unkept, armed, begun, ended, Level}
-use Rattle.liquid_syntax.specs.OpenBlocks.{level, State, block_depth, to_elsif, with_node}
+use Rattle.liquid_syntax.specs.OpenBlocks.{Reading, last, first, case_head, when_body, begun, ended}
+use Rattle.liquid_syntax.specs.OpenBlocks.{Level, level, State, block_depth, to_elsif, with_node}
 use Rattle.liquid_lexer.specs.Readers.{Fails}
 use Rattle.liquid_syntax.specs.Templates.{tree_of}
 use Rattle.liquid_evaluation.specs.Tree.{Node, Nodes, no_nodes, plain}
@@ -19,7 +19,7 @@ use Rattle.liquid_syntax.specs.declared.build.Statement.{Statement}
 use Rattle.liquid_syntax.specs.declared.build.Statement.TheVariants as statements
 use Rattle.liquid_syntax.specs.declared.build.Open.{Open}
 use Rattle.liquid_syntax.specs.declared.build.Stage.{Stage}
-use Rattle.liquid_syntax.specs.declared.build.Stage.TheVariants.{First, Last, Unkept, Armed}
+use Rattle.liquid_syntax.specs.declared.build.Stage.TheVariants.{First, Last, CaseHead, WhenBody}
 use Rattle.liquid_core.specs.Expression.{Expression}
 use Rattle.liquid_core.specs.ExpressionView.{expression_view}
 use Rattle.liquid_evaluation.specs.Tree as tree
@@ -47,35 +47,35 @@ of_arms _ ws o = tree.comment
 abbrev pub opening : Block → Stage → code.Node → nesting.Opening
 opening b First n = nesting.of_two b (of_bodies (flat_of n))
 opening b Last n = nesting.of_one b (of_body (flat_of n))
-opening b Unkept n = nesting.of_many b (of_arms n)
-opening b Armed n = nesting.of_many b (of_arms n)
+opening b CaseHead n = nesting.of_many b (of_arms n)
+opening b WhenBody n = nesting.of_many b (of_arms n)
 
 abbrev pub statement_view : Statement → nesting.Statement
 statement_view (statements.Leaf n) = nesting.leaf ((flat_of n).head [])
-statement_view (statements.Closed n) = nesting.closed ((flat_of n).head [])
+statement_view (statements.Verbatim n) = nesting.closed ((flat_of n).head [])
 statement_view (statements.Begins b stage n) = nesting.begins (opening b stage n)
 statement_view (statements.Elsif n) = nesting.elsif (of_bodies (flat_of n))
 statement_view (statements.When values) = nesting.arm (map expression_view values.items)
-statement_view statements.Otherwise = nesting.otherwise
-statement_view statements.Ends = nesting.ends
+statement_view statements.Else = nesting.otherwise
+statement_view statements.End = nesting.ends
 
 -- the node has room for where its bodies end: two of them, or one, or as many as the `when` parts
 -- that will come
 abbrev pub IsPrepared : Stage → code.Node → Type 0
 IsPrepared First n = (y z : ℕ) × ((flat_of n).ends ≡ y ∷ z ∷ [])
 IsPrepared Last n = (z : ℕ) × ((flat_of n).ends ≡ z ∷ [])
-IsPrepared Unkept n = (t : Expression) × (z : ℕ) × (flat_of n ≡ case_flat t [] [] z) ×
+IsPrepared CaseHead n = (t : Expression) × (z : ℕ) × (flat_of n ≡ case_flat t [] [] z) ×
     ((ws : tree.Whens) (o : Nodes) → of_arms n ws o ≡ tree.case_of t ws o)
-IsPrepared Armed n = ⊥
+IsPrepared WhenBody n = ⊥
 
 abbrev pub IsSound : Statement → Type 0
 IsSound (statements.Leaf n) = (flat_of n).ends ≡ []
-IsSound (statements.Closed n) = (flat_of n).ends ≡ []
+IsSound (statements.Verbatim n) = (flat_of n).ends ≡ []
 IsSound (statements.Begins b stage n) = IsPrepared stage n
 IsSound (statements.Elsif n) = IsPrepared First n
 IsSound (statements.When values) = Unit {0}
-IsSound statements.Otherwise = Unit {0}
-IsSound statements.Ends = Unit {0}
+IsSound statements.Else = Unit {0}
+IsSound statements.End = Unit {0}
 
 -- ---- what is written into a node
 
@@ -105,20 +105,20 @@ EndIsSet at ns ms = (old : Flat Maker) × (old ≡ get_or ns at old) ×
 abbrev pub BodyEnded : Stage → ℕ → List (Flat Maker) → List (Flat Maker) → Type 0
 BodyEnded First at ns ms = EndIsSet at ns ms
 BodyEnded Last at ns ms = ms ≡ ns
-BodyEnded Unkept at ns ms = ms ≡ take (at + 1) ns
-BodyEnded Armed at ns ms = EndIsSet at ns ms
+BodyEnded CaseHead at ns ms = ms ≡ take (at + 1) ns
+BodyEnded WhenBody at ns ms = EndIsSet at ns ms
 
 abbrev pub takes_else : Stage → Bool
 takes_else First = true
 takes_else Last = false
-takes_else Unkept = true
-takes_else Armed = true
+takes_else CaseHead = true
+takes_else WhenBody = true
 
 abbrev pub takes_when : Stage → Bool
 takes_when First = false
 takes_when Last = false
-takes_when Unkept = true
-takes_when Armed = true
+takes_when CaseHead = true
+takes_when WhenBody = true
 
 -- a `case` has one `when` more, whose body begins now
 abbrev pub IsAdded : List Expression → Flat Maker → Flat Maker → Type 0
@@ -130,15 +130,15 @@ IsAdded vs x y = (t : Expression) (vss : List (List Expression)) (es : List ℕ)
 
 -- what a `case` makes of further `when` parts after those with these values and bodies, and of its
 -- else list
-abbrev pub behind_arms : (tree.Whens → Nodes → Node) → List (List Expression) → List Nodes →
+abbrev pub after_arms : (tree.Whens → Nodes → Node) → List (List Expression) → List Nodes →
     tree.Whens → Nodes → Node
-behind_arms make [] fs ws o = make ws o
-behind_arms make (vs ∷ vss) [] ws o = make ws o
-behind_arms make (vs ∷ vss) (f ∷ fs) ws o =
-    behind_arms (λ ws o. make (tree.when vs f ws) o) vss fs ws o
+after_arms make [] fs ws o = make ws o
+after_arms make (vs ∷ vss) [] ws o = make ws o
+after_arms make (vs ∷ vss) (f ∷ fs) ws o =
+    after_arms (λ ws o. make (tree.when vs f ws) o) vss fs ws o
 
 abbrev pub armed_with : Expression → List (List Expression) → List Nodes → tree.Whens → Nodes → Node
-armed_with t vss fs ws o = behind_arms (λ ws o. tree.case_of t ws o) vss fs ws o
+armed_with t vss fs ws o = after_arms (λ ws o. tree.case_of t ws o) vss fs ws o
 
 -- a `case` with as many `when` parts as closed bodies, which begin at k
 abbrev pub IsCase : Flat Maker → Bodies Maker → ℕ → (tree.Whens → Nodes → Node) → Type 0
@@ -156,10 +156,10 @@ Fits o (last b make) x bs k =
 Fits o (first b make) x bs k =
     (o.stage ≡ First) × (o.block ≡ b) × (bs ≡ no_bodies) × ((y z : ℕ) × (x.ends ≡ y ∷ z ∷ [])) ×
     ((g h : Nodes) → make g h ≡ x.head (g ∷ h ∷ []))
-Fits o (unkept b make) x bs k =
-    (o.stage ≡ Unkept) × (o.block ≡ b) × (bs ≡ no_bodies) × IsCase x no_bodies k make
-Fits o (armed b make) x bs k =
-    (o.stage ≡ Armed) × (o.block ≡ b) × (t : Expression) × (vss : List (List Expression)) ×
+Fits o (case_head b make) x bs k =
+    (o.stage ≡ CaseHead) × (o.block ≡ b) × (bs ≡ no_bodies) × IsCase x no_bodies k make
+Fits o (when_body b make) x bs k =
+    (o.stage ≡ WhenBody) × (o.block ≡ b) × (t : Expression) × (vss : List (List Expression)) ×
     (vs : List Expression) × (y z : ℕ) × (length vss ≡ length (bodies_of bs)) ×
     (x ≡ case_flat t (vss ++ vs ∷ []) (ends_of k bs ++ y ∷ []) z)
     × ((g : Nodes) (ws : tree.Whens) (o : Nodes) → make g ws o ≡ armed_with t vss (bodies_of bs)
@@ -202,8 +202,8 @@ AdvancesTo read b (Err e) = Fails e read
 abbrev pub stage_context : Stage → Block → BlockContext
 stage_context First b = InBody b
 stage_context Last b = InLast b
-stage_context Unkept b = InBody b
-stage_context Armed b = InBody b
+stage_context CaseHead b = InBody b
+stage_context WhenBody b = InBody b
 
 abbrev pub context_at : Option Open → BlockContext
 context_at None = Outside
@@ -237,7 +237,8 @@ abbrev pub IsMemory : Result (Unit {0}) ParseError → Type 0
 IsMemory (Ok _) = Unit {0}
 IsMemory (Err e) = e ≡ errors.Memory
 
--- the innermost block has ended with the nodes since, and whether an `elsif` opened it is told
+-- the innermost block has ended with the nodes since, and the answer says whether an `elsif` opened
+-- it
 abbrev pub Closes : List Level → Nodes → Builder → Option Bool → Type 0
 Closes [] cur b None = Unit {0}
 Closes [] cur b (Some k) = ⊥

@@ -3,7 +3,7 @@ use Rattle.std.specs.Prelude.{◌≡◌, ◌<◌, List, [], ◌∷◌, length, O
 use Rattle.std.specs.Prelude.{Vec}
 use Rattle.std.specs.Option.{option_map}
 use Rattle.std.specs.declared.alloc.Global.{Global}
-use Rattle.liquid_syntax.specs.ConditionReading.{operator_of, condition_of, behind_atom}
+use Rattle.liquid_syntax.specs.ConditionReading.{operator_of, condition_of, after_atom}
 use Rattle.liquid_syntax.specs.ConditionReading.{alternatives_of}
 use Rattle.liquid_evaluation.specs.ConditionView.{atom_view, atoms_view}
 use Rattle.liquid_lexer.specs.Readers.{Fails}
@@ -32,7 +32,7 @@ TakesOperator old new (Some operator) =
 
 -- the atom at the front: a condition reads as it and what is left
 abbrev pub TakesAtom : List Token → List Token → Result Atom ParseError → Type 0
-TakesAtom old new (Ok atom) = condition_of old ≡ behind_atom new (atom_view atom)
+TakesAtom old new (Ok atom) = condition_of old ≡ after_atom new (atom_view atom)
 TakesAtom old new (Err e) = Fails e (condition_of old)
 
 -- a conjunction before those that follow it

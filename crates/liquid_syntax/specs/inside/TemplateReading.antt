@@ -12,13 +12,13 @@ use Rattle.liquid_syntax.specs.Classification.{reads}
 use Rattle.liquid_syntax.specs.OpenBlocks.{State, context_of, statement_step, at_end}
 use Rattle.liquid_syntax.specs.declared.build.Builder.{Builder}
 use Rattle.liquid_syntax.specs.inside.Building.{IsBuilding}
-use Rattle.liquid_language.specs.Roles.{body_behind}
+use Rattle.liquid_language.specs.Roles.{body_after}
 use Rattle.liquid_language.specs.declared.language.Language.{Language}
 use Rattle.liquid_evaluation.specs.Tree.{Nodes, no_nodes}
 
 -- the verbatim body after a tag of the name, where one is to be
 abbrev pub body_of : Language → State → Text → Option Body
-body_of l s w = body_behind l (context_of s.0) w
+body_of l s w = body_after l (context_of s.0) w
 
 -- the next piece
 abbrev pub piece_step : Language → State → Piece → Option State
@@ -36,7 +36,7 @@ template_at l source =
 abbrev pub whole_at : Language → State → Markup × Text → Option (Markup × Text)
 whole_at l s m = body_at (wanted_body (body_of l s) m.0.piece) m.0 m.1
 
--- The builder went on to the state after the piece, memory aside, and it is told whether the
+-- The builder went on to the state after the piece, memory aside, and the answer says whether the
 -- closer strips what is left, and what that is. No fault is answered where the piece is taken.
 abbrev pub AddsPiece : Language → Markup × Text → State → Builder →
     Result (Bool × Bor Text) ParseError → Type 0

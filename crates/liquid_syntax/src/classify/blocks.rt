@@ -16,7 +16,7 @@ use crate::chain_items::expected_before;
 use crate::condition_items::read_condition;
 use crate::loop_items::{LoopTag, read_loop};
 use crate::loop_nodes::{For, TableRow};
-use crate::node::{Node, TwoBodies};
+use crate::node::{BodyEnds, Node};
 use crate::value_items::{Separators, read_values};
 use liquid_language::{Block, BlockKind, Control};
 use liquid_lexer::{Expectation, FaultKind, Item, ParseError, is_over, next_value};
@@ -38,7 +38,7 @@ pub(super) fn read_block(
         BlockKind::If => begins(Block::If, Stage::First, read_if(alloc, items, at)),
         BlockKind::Unless => begins(Block::Unless, Stage::First, read_unless(alloc, items, at)),
         BlockKind::Capture => begins(Block::Capture, Stage::Last, read_capture(items, at)),
-        BlockKind::Case => begins(Block::Case, Stage::Unkept, read_case(alloc, items, at)),
+        BlockKind::Case => begins(Block::Case, Stage::CaseHead, read_case(alloc, items, at)),
         BlockKind::IfChanged => read_bare(BareTag::IfChanged, items, at),
         BlockKind::For => begins(Block::For, Stage::First, read_for(alloc, items, at)),
         BlockKind::TableRow => {
@@ -83,8 +83,8 @@ pub(super) fn read_control(
             let node = read_if(alloc, items, at)?;
             Ok(Statement::Elsif(node))
         }
-        Control::Else => Ok(Statement::Otherwise),
-        Control::BareElse => read_bare(BareTag::Otherwise, items, at),
+        Control::Else => Ok(Statement::Else),
+        Control::BareElse => read_bare(BareTag::Else, items, at),
         Control::When => {
             let values = read_values(alloc, items, Separators::CommasOr, at)?;
             Ok(Statement::When(values))
@@ -99,7 +99,7 @@ fn read_if(alloc: Global, items: VecDeque<Item<'_>>, at: &str) -> Result<Node, P
     ensures place { FaultsAt (length at.now) result }
 {
     let condition = read_condition(alloc, items, at)?;
-    Ok(Node::If(condition, TwoBodies::open()))
+    Ok(Node::If(condition, BodyEnds::open()))
 }
 
 /// The node of an `unless`, before its bodies are read.
@@ -109,7 +109,7 @@ fn read_unless(alloc: Global, items: VecDeque<Item<'_>>, at: &str) -> Result<Nod
     ensures place { FaultsAt (length at.now) result }
 {
     let condition = read_condition(alloc, items, at)?;
-    Ok(Node::Unless(condition, TwoBodies::open()))
+    Ok(Node::Unless(condition, BodyEnds::open()))
 }
 
 /// The node of a `for`, before its bodies are read.
@@ -125,7 +125,7 @@ fn read_for(alloc: Global, items: VecDeque<Item<'_>>, at: &str) -> Result<Node, 
         window: read.window,
     };
     let head = Box::new(alloc, head)?;
-    Ok(Node::For(head, TwoBodies::open()))
+    Ok(Node::For(head, BodyEnds::open()))
 }
 
 /// The node of a `tablerow`, before its body is read.
@@ -159,7 +159,7 @@ fn read_capture(items: VecDeque<Item<'_>>, at: &str) -> Result<Node, ParseError>
 
 /// The node of a `case`, before its `when` parts are read.
 fn read_case(alloc: Global, items: VecDeque<Item<'_>>, at: &str) -> Result<Node, ParseError>
-    ensures node { ReadsBlock BlockOf.Case StageOf.Unkept
+    ensures node { ReadsBlock BlockOf.Case StageOf.CaseHead
         (many_or BlockOf.Case (case_for (tokens_view items.entry.items))) result }
     ensures kind { FaultsAs FaultKind.Expected result }
     ensures place { FaultsAt (length at.now) result }

@@ -20,7 +20,7 @@ use std::collections::VecDeque;
 #[derive(Clone, Copy)]
 pub(super) enum BareTag {
     /// `else` of a `for` or a `case`
-    Otherwise,
+    Else,
     Break,
     Continue,
     IfChanged,
@@ -32,7 +32,7 @@ fn statement_of(tag: BareTag) -> Statement
     ensures sound { IsSound result }
 {
     match tag {
-        BareTag::Otherwise => Statement::Otherwise,
+        BareTag::Else => Statement::Else,
         BareTag::Break => Statement::Leaf(Node::Break),
         BareTag::Continue => Statement::Leaf(Node::Continue),
         BareTag::IfChanged => Statement::Begins(Block::IfChanged, Stage::Last, Node::IfChanged(0)),

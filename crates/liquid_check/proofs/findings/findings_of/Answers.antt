@@ -11,7 +11,7 @@ returns-in-Ok-clause-silent c =
 pub rounds-preserved : goal.rounds-preserved
 rounds-preserved c = record {
   rounds = rounds_more c.args.language.now c.args.source.now (string_bytes c.rounds.rest) (string_bytes c.in_ok-blanked.blanked) c.rounds.findings.items c.push.new.self.items _ c.in_ok-push.ensures.items c.rounds.invariant.rounds
-      (round_of c.args.language.now (string_bytes c.rounds.rest) c.as_str.result.now c.as_str-in-rounds.result.now c.in_ok-part.part.front.now c.in_ok-part.part.piece.now c.in_ok-part.part.behind.now (string_bytes c.in_ok-blanked.blanked) _
+      (round_of c.args.language.now (string_bytes c.rounds.rest) c.as_str.result.now c.as_str-in-rounds.result.now c.in_ok-part.part.front.now c.in_ok-part.part.piece.now c.in_ok-part.part.after.now (string_bytes c.in_ok-blanked.blanked) _
       c.as_str.ensures.value c.as_str-in-rounds.ensures.value (search rules) c.in-Err.ensures.parses c.in-Err.ensures.kinds refl refl c.in_ok-part.ensures.part c.in_ok-blanked.ensures);
   first = first_more c.rounds.findings.items c.push.new.self.items _ c.in_ok-push.ensures.items c.rounds.invariant.first (λ e. c.follows.ensures (c.deref.ensures.value ∙ e));
   few = few_more c.rounds.findings.items c.push.new.self.items _ c.in_ok-push.ensures.items (search rules);

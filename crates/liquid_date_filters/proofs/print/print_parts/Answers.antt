@@ -1,7 +1,7 @@
 use Rattle.std.proofs.Common.{refl, sym, ◌∙◌}
 use Rattle.std.proofs.lemmas.Str.{IsUtf8-string_bytes}
 use Rattle.liquid_model.specs.declared.error.ErrorKind.TheVariants.{DateFormat}
-use Rattle.liquid_date_filters.proofs.Faults.{told_faulted}
+use Rattle.liquid_date_filters.proofs.Faults.{kind_faulted}
 use Rattle.liquid_date_filters.proofs.Shows.{shown_of, printed_ok, printed_refused}
 use Rattle.liquid_date_filters.proofs.print.print_parts.Goals as goal
 
@@ -12,6 +12,6 @@ returns-in-Ok c =
 
 pub returns-else-is_short : goal.returns-else-is_short
 returns-else-is_short c =
-    rw (← c.as_bytes.ensures.value) (told_faulted DateFormat c.refused.result.kind _ refl
+    rw (← c.as_bytes.ensures.value) (kind_faulted DateFormat c.refused.result.kind _ refl
     (printed_refused c.new.result _ c.args.filled.now _ c.in-Err.error c.new.ensures.locale c.new.ensures.strict c.requires
     (sym c.is_short.ensures ∙ c.if-is_short.false) c.in-Err.ensures.err) c.refused.ensures)

@@ -25,5 +25,5 @@ returns g c =
 pub returns-in-Some : goal.returns-in-Some
 returns-in-Some g c =
     let answer = g.F.Filter.answer c.args.call.now.filter in
-    one_call (g.F.Filter.within c.args.call.now.filter) (call_of answer c.args.call.now.args.now) (environment_of c.args.state.now) (view c.args.input.now) (map view c.in-Some.lent.now) c.evaluate.result
+    one_call (g.F.Filter.within c.args.call.now.filter) (call_of answer c.args.call.now.args.now) (environment_of c.args.state.now) (view c.args.input.now) (map view c.in-Some.borrowed.now) c.evaluate.result
     c.in-Some.ensures.values c.evaluate.ensures

@@ -38,8 +38,8 @@ returns-clause-value g c =
     answers_if {X = ValueCow} (list_all (λ call. g.F.Filter.within call.filter) c.args.calls.now) cow_view (Ok c.loop-call.value) _
     (calls_end f _ (environment_of c.args.state.now) c.args.calls.now c.loop-call.call-index (cow_view c.loop-call.value) c.loop-call-test.false c.loop-call.invariant.0)
 
-pub returns-in_err-apply_one-clause-lent : goal.returns-in_err-apply_one-clause-lent
-returns-in_err-apply_one-clause-lent g c = λ none. absurd (omega (arith, ap length none, c.loop-call-test.true))
+pub returns-in_err-apply_one-clause-without_calls : goal.returns-in_err-apply_one-clause-without_calls
+returns-in_err-apply_one-clause-without_calls g c = λ none. absurd (omega (arith, ap length none, c.loop-call-test.true))
 
-pub returns-clause-lent : goal.returns-clause-lent
-returns-clause-lent g c = λ none. ap Ok (c.loop-call.invariant.1 none)
+pub returns-clause-without_calls : goal.returns-clause-without_calls
+returns-clause-without_calls g c = λ none. ap Ok (c.loop-call.invariant.1 none)

@@ -1,8 +1,8 @@
 use Rattle.std.proofs.Common.{◌≡◌, [], ◌∷◌, ◌++◌, sym, ap, ◌∙◌}
 use Rattle.liquid_core.specs.ExpressionView.{expression_view, variable_view, steps_view}
 use Rattle.liquid_evaluation.specs.Names.{expression_names, steps_names}
-use Rattle.liquid_evaluation.proofs.Telling.{ended, went_on, item_ended, item_told, all_told}
-use Rattle.liquid_evaluation.proofs.ToldParts.{each_step, literal_names, variable_names}
+use Rattle.liquid_evaluation.proofs.Telling.{ended, went_on, item_ended, item_visited, all_visited}
+use Rattle.liquid_evaluation.proofs.NameParts.{each_step, literal_names, variable_names}
 use Rattle.liquid_evaluation.proofs.visit.+visit.Goals as goal
 
 pub visit_expression-returns-in-Literal : goal.visit_expression-returns-in-Literal
@@ -16,12 +16,12 @@ visit_steps-returns-then-visit_expression g t c =
     (item_ended g.met.V.NameVisitor.laws each_step _ _ _ _ _ _ _ c.loop-step.invariant c.visit_expression.ensures c.if-visit_expression.true c.step-item.is c.loop-step-test.true)
 
 pub visit_steps-loop-step-preserved : goal.visit_steps-loop-step-preserved
-visit_steps-loop-step-preserved g t c = item_told g.met.V.NameVisitor.laws each_step _ _ _ _ _ _ _ c.loop-step.invariant c.visit_expression.ensures c.if-visit_expression.false c.step-item.is c.loop-step-test.true
+visit_steps-loop-step-preserved g t c = item_visited g.met.V.NameVisitor.laws each_step _ _ _ _ _ _ _ c.loop-step.invariant c.visit_expression.ensures c.if-visit_expression.false c.step-item.is c.loop-step-test.true
 
 pub visit_steps-returns : goal.visit_steps-returns
 visit_steps-returns g t c =
     rw (← c.deref-step-items.ensures.value)
-    (all_told g.met.V.NameVisitor.laws each_step _ _ _ _ c.loop-step.invariant c.loop-step-test.false)
+    (all_visited g.met.V.NameVisitor.laws each_step _ _ _ _ c.loop-step.invariant c.loop-step-test.false)
 
 pub visit_variable-returns-then-visit : goal.visit_variable-returns-then-visit
 visit_variable-returns-then-visit g t c =

@@ -5,7 +5,7 @@ use Rattle.std.proofs.lemmas.List.{map-append}
 use Rattle.liquid_lexer.specs.declared.fault.ParseError.TheVariants as errors
 use Rattle.liquid_lexer.specs.ItemReading.{lexed_item, items_at, closer_at}
 use Rattle.liquid_lexer.specs.PieceView.{lexed_items_view}
-use Rattle.liquid_lexer.proofs.ItemTurns.{behind, behind_nothing, one_more, no_more, item_refused}
+use Rattle.liquid_lexer.proofs.ItemTurns.{with_front, after_nothing, one_more, no_more, item_refused}
 use Rattle.liquid_lexer.proofs.ItemLaws.{turn_shorter, nothing_read}
 use Rattle.liquid_lexer.proofs.item.read_items.Goals as goal
 
@@ -13,7 +13,7 @@ pub items-init : goal.items-init
 items-init c = (
   length c.args.text.now,
   omega arith,
-  behind_nothing _ ∙ ap (λ is. behind (lexed_items_view is) (items_at c.args.kind (length c.args.text.now) c.args.text.now)) (sym c.new-items.ensures.items),
+  after_nothing _ ∙ ap (λ is. with_front (lexed_items_view is) (items_at c.args.kind (length c.args.text.now) c.args.text.now)) (sym c.new-items.ensures.items),
   search rules,
 )
 
@@ -44,7 +44,7 @@ items-preserved c =
       n - 1,
       omega (arith, small, l.invariant.1),
       l.invariant.2 ∙ one_more k n (lexed_items_view l.items.items) l.rest.now _ (omega (arith, small, l.invariant.1)) (ap (closer_at k) at ∙ sym c.in_default.ensures) (ap lexed_item at ∙ c.in_ok-item.ensures)
-          ∙ ap (λ is. behind is (items_at k (n - 1) c.in_ok-item.after.now)) (sym (ap lexed_items_view pushed ∙ map-append _ _ _)),
+          ∙ ap (λ is. with_front is (items_at k (n - 1) c.in_ok-item.after.now)) (sym (ap lexed_items_view pushed ∙ map-append _ _ _)),
       search rules,
     )
 

@@ -5,14 +5,14 @@ use Rattle.liquid_core.specs.ExpressionView.{expression_view, steps_view}
 use Rattle.liquid_lexer.proofs.Expressions.{view-Variable}
 use Rattle.liquid_lexer.specs.PieceView.{read_view}
 use Rattle.std.specs.Option.{option_map}
-use Rattle.liquid_lexer.proofs.StepTurns.{behind, behind_nothing, one_more, no_more, refused}
+use Rattle.liquid_lexer.proofs.StepTurns.{with_front, after_nothing, one_more, no_more, refused}
 use Rattle.std.proofs.lemmas.Result.{err_from_is_err_and}
 use Rattle.std.proofs.lemmas.List.{map-append}
 use Rattle.liquid_lexer.proofs.ValueLaws.{step_shorter}
 use Rattle.liquid_lexer.proofs.value.+read_value.Goals as goal
 
 pub read_steps-steps-init : goal.read_steps-steps-init
-read_steps-steps-init t c = (length c.args.text.now, omega arith, behind_nothing _ ∙ ap (λ vs. behind (map expression_view vs) (steps_at (inner_of c.args.depth) (length c.args.text.now) c.args.text.now)) (sym c.new-steps.ensures.items), search rules)
+read_steps-steps-init t c = (length c.args.text.now, omega arith, after_nothing _ ∙ ap (λ vs. with_front (map expression_view vs) (steps_at (inner_of c.args.depth) (length c.args.text.now) c.args.text.now)) (sym c.new-steps.ensures.items), search rules)
 
 pub read_steps-returns-in_err-step : goal.read_steps-returns-in_err-step
 read_steps-returns-in_err-step t c =
@@ -35,7 +35,7 @@ read_steps-steps-preserved t c =
       n - 1,
       omega (arith, less, l.invariant.1),
       l.invariant.2 ∙ one_more (inner_of c.args.depth) n (map expression_view l.steps.items) l.rest.now _ (omega (arith, less, l.invariant.1)) (stepped t c)
-          ∙ ap (λ vs. behind vs (steps_at (inner_of c.args.depth) (n - 1) c.in-Some.after.now)) (sym (ap (map expression_view) pushed ∙ map-append _ _ _)),
+          ∙ ap (λ vs. with_front vs (steps_at (inner_of c.args.depth) (n - 1) c.in-Some.after.now)) (sym (ap (map expression_view) pushed ∙ map-append _ _ _)),
       search rules,
     )
 

@@ -3,7 +3,7 @@ use denote.Shadow.{shadow}
 use denote.Text.{Utf8}
 use Rattle.liquid_core.specs.ExpressionView.{expression_view}
 use Rattle.liquid_lexer.specs.ValueReading.{steps_at, inner_of}
-use Rattle.liquid_lexer.proofs.StepTurns.{behind}
+use Rattle.liquid_lexer.proofs.StepTurns.{with_front}
 use Rattle.liquid_lexer.proofs.value.+read_value.Given as goal
 
 abbrev pub decreases-read_value : goal.decreases-read_value
@@ -21,7 +21,7 @@ decreases-read_step l = 4 * l.depth
 abbrev pub invariant-read_steps-steps : goal.invariant-read_steps-steps
 invariant-read_steps-steps l =
     (n : ℕ) × (length l.rest ≤ n)
-    × (steps_at (inner_of l.depth) (length l.initial.rest) l.initial.rest ≡ behind (map expression_view l.steps.items) (steps_at (inner_of l.depth) n l.rest)) × shadow (Utf8 l.rest)
+    × (steps_at (inner_of l.depth) (length l.initial.rest) l.initial.rest ≡ with_front (map expression_view l.steps.items) (steps_at (inner_of l.depth) n l.rest)) × shadow (Utf8 l.rest)
 
 abbrev pub decreases-read_steps-steps : goal.decreases-read_steps-steps
 decreases-read_steps-steps l = length l.rest

@@ -8,7 +8,7 @@ use Rattle.liquid_core.specs.States.{environment_of, layers_of, with_counter}
 use Rattle.liquid_lib.specs.Performs.{unit, configuration_of}
 use Rattle.liquid_lib.proofs.Counting.{view-Integer}
 use Rattle.liquid_lib.proofs.Joined.{bind_met, bind_faulted, change_met, gives_merged, memory_at, write_met}
-use Rattle.liquid_lib.proofs.Kept.{kept_counter}
+use Rattle.liquid_lib.proofs.StateKept.{kept_counter}
 use Rattle.liquid_lib.proofs.Pieces.{writes_as}
 use Rattle.liquid_meaning.specs.Effects.{counted_to}
 use Rattle.liquid_meaning.specs.Runs.{change, write}

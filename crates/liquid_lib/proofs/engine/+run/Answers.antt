@@ -9,7 +9,7 @@ use Rattle.liquid_model.specs.Maps.{Map}
 use Rattle.liquid_model.specs.declared.error.Error.{Error}
 use Rattle.liquid_model.proofs.Views.{view-Text}
 use Rattle.liquid_core.specs.ExpressionView.{expression_view}
-use Rattle.liquid_core.specs.States.{environment_of, layers_of, loops_of, merged_layers, with_assigned, scopes_behind, with_scope_popped}
+use Rattle.liquid_core.specs.States.{environment_of, layers_of, loops_of, merged_layers, with_assigned, enclosing_scopes, with_scope_popped}
 use Rattle.liquid_core.specs.declared.interrupt.Interrupt.{Interrupt}
 use Rattle.liquid_core.specs.declared.interrupt.Interrupt.TheVariants as interrupts
 use Rattle.liquid_core.specs.Loops.{loop_scope, forloop_object}
@@ -33,7 +33,7 @@ use Rattle.liquid_meaning.proofs.Rules.{comment_rule, break_rule, continue_rule,
 use Rattle.liquid_lib.specs.inside.Changed.{shown_if_changed}
 use Rattle.liquid_lib.specs.inside.Choices.{CaseStands, HasCaseAt, Chosen, NodeComesTo}
 use Rattle.liquid_lib.specs.inside.Engine.{setting_of, node_meant, nodes_meant}
-use Rattle.liquid_lib.specs.Kept.{Keeps, LayersKept}
+use Rattle.liquid_lib.specs.StateKept.{Keeps, LayersKept}
 use Rattle.liquid_lib.specs.inside.Partials.{item_scope}
 use Rattle.liquid_meaning.specs.Within.{Within}
 use Rattle.liquid_evaluation.specs.Names.{partials_names}
@@ -44,11 +44,11 @@ use Rattle.liquid_lib.proofs.Choices.{chosen_inside, chosen_performs, refused_pe
 use Rattle.liquid_lib.proofs.Going.{leaf_performs, leaf_keeps, leaf_other, one, one_performs, one_keeps, one_other, two, two_performs, two_keeps, two_other, going_fault, going_halt, going_node, going_on, going_end, going_past, kept_step, alone_step, leaf_next, node_before, node_within}
 use Rattle.liquid_lib.proofs.Interrupts.{interrupt_of, some_of, none_of}
 use Rattle.liquid_lib.proofs.Joined.{by_rule, bind_met, bind_faulted, buffered_met, buffered_faulted, buffered_memory, change_met, done_met, gives_merged, memory_at}
-use Rattle.liquid_lib.proofs.Kept.{kept_same, kept_after, kept_assigned, kept_interrupt}
+use Rattle.liquid_lib.proofs.StateKept.{kept_same, kept_after, kept_assigned, kept_interrupt}
 use Rattle.liquid_lib.proofs.PartialRuns.{reserve, reserve_left, same_setting, include_found, include_refused, include_runs, item_refused, item_runs, jekyll_found, jekyll_refused, jekyll_runs, render_refused, render_runs, within_all, kept_around, partial_met}
 use Rattle.liquid_lib.proofs.ItemRuns.{items_left, item_on, item_breaks, item_faulted, items_end}
 use Rattle.liquid_lib.proofs.RenderEach.{item_run, name_refused, items_refused, items_met}
-use Rattle.liquid_lib.proofs.Retold.{fault_again, met_again}
+use Rattle.liquid_lib.proofs.SameKindOrMemory.{fault_again, met_again}
 use Rattle.liquid_lib.proofs.Silent.{leaf_loud, one_loud, two_loud, silent_done, silent_next}
 use Rattle.liquid_lib.proofs.Sinks.{Around}
 use Rattle.liquid_lib.proofs.Whole.{stood_in}
@@ -57,12 +57,12 @@ use Rattle.liquid_syntax.specs.declared.loop_nodes.TableRow as heads_TableRow
 use Rattle.liquid_core.specs.declared.frame.Scope.{Scope}
 use Rattle.liquid_core.specs.declared.frame.LoopFrame.{LoopFrame}
 use Rattle.liquid_evaluation.specs.SourceView.{source_view}
-use Rattle.liquid_lib.specs.inside.LoopRuns.{StartsAt, behind, cells_meant, configuration_behind, turns_meant}
+use Rattle.liquid_lib.specs.inside.LoopRuns.{StartsAt, enclosing_names, cells_meant, enclosing_configuration, turns_meant}
 use Rattle.liquid_lib.specs.inside.LoopTurns.{AreRows, IsFor, IsRow, cells_asked, cells_of, items_asked, turn_items, loop_values}
 use Rattle.std.specs.Prelude.{IfOk, IfSome}
 use Rattle.liquid_meaning.specs.Loops.{cell_end}
 use Rattle.liquid_lib.proofs.Turns.{performs_from, may_not_begin}
-use Rattle.liquid_lib.proofs.Turning.{TurnsLead, CellsLead, advanced_behind, at_goes_on, at_kept, at_next, at_off, at_pushed, at_start, cell_fault, cell_faulted, cell_on, cell_ran, cell_unopened, cells_end, cells_start, for_within, from_behind, row_within, kept_cell, kept_from_behind, kept_turn, turn_break, turn_fault, turn_faulted, turn_on, turn_ran, turns_end, turns_start}
+use Rattle.liquid_lib.proofs.Turning.{TurnsLead, CellsLead, enclosing_after_advance, at_goes_on, at_kept, at_next, at_off, at_pushed, at_start, cell_fault, cell_faulted, cell_on, cell_ran, cell_unopened, cells_end, cells_start, for_within, from_enclosing, row_within, kept_cell, kept_from_enclosing, kept_turn, turn_break, turn_fault, turn_faulted, turn_on, turn_ran, turns_end, turns_start}
 use Rattle.liquid_lib.proofs.LoopMeanings.{for_none, for_refused, for_some, row_none, row_refused, row_some}
 use Rattle.liquid_lib.proofs.engine.+run.Goals as goal
 
@@ -928,15 +928,15 @@ loops::run_turns-run_range-requires g t c κs within =
 
 pub loops::run_turns-returns-in_err-run_range-clause-performs : goal.loops::run_turns-returns-in_err-run_range-clause-performs
 loops::run_turns-returns-in_err-run_range-clause-performs g t c f stood before u starts =
-    let over = configuration_behind g.W.CountedWrite.contents g.W.CountedWrite.failure_count in
+    let over = enclosing_configuration g.W.CountedWrite.contents g.W.CountedWrite.failure_count in
     let sink = sink_of g.W.CountedWrite.contents g.W.CountedWrite.failure_count in
     let a = c.turns.invariant.frame before u starts in
-    let pushed = at_pushed before u c.turns.place c.turns.state (scopes_behind (layers_of c.args.state.now).scopes) a c.turns.invariant.scopes in
+    let pushed = at_pushed before u c.turns.place c.turns.state (enclosing_scopes (layers_of c.args.state.now).scopes) a c.turns.invariant.scopes in
     let body = (nodes_meant (setting_of g.H.NamedFilters.named c.args.context.now) c.args.context.now.depth (nodes_of f)) in
     let kept = c.in_err-run_range.ensures.kept f stood (λ n. true) (within_all _) (within_all _) in
     let p = err_from_is_err_and c.from_residual.result c.from_residual.ensures.1 in
-    rw (p.1, p.2) (turn_fault u (behind c.args.state.now) body c.args.count c.turns.place (over c.args.out.now c.args.state.now) (over c.turns.out c.turns.state) (over c.run_range.new.out c.run_range.new.state) c.in_err-run_range.field-0.0 c.turns.invariant.within (c.turns.invariant.leads f stood before u starts)
-    (turn_faulted u c.turns.place (behind c.args.state.now) body (sink c.turns.out) (sink c.run_range.new.out) (layers_of c.turns.state) (layers_of c.run_range.new.state) pushed kept.scopes c.in_err-run_range.field-0.0 (c.in_err-run_range.ensures.performs f stood)))
+    rw (p.1, p.2) (turn_fault u (enclosing_names c.args.state.now) body c.args.count c.turns.place (over c.args.out.now c.args.state.now) (over c.turns.out c.turns.state) (over c.run_range.new.out c.run_range.new.state) c.in_err-run_range.field-0.0 c.turns.invariant.within (c.turns.invariant.leads f stood before u starts)
+    (turn_faulted u c.turns.place (enclosing_names c.args.state.now) body (sink c.turns.out) (sink c.run_range.new.out) (layers_of c.turns.state) (layers_of c.run_range.new.state) pushed kept.scopes c.in_err-run_range.field-0.0 (c.in_err-run_range.ensures.performs f stood)))
 
 pub loops::run_turns-returns-in_err-run_range-clause-kept : goal.loops::run_turns-returns-in_err-run_range-clause-kept
 loops::run_turns-returns-in_err-run_range-clause-kept g t c f stood N names inside =
@@ -949,15 +949,15 @@ loops::run_turns-returns-in_err-run_range-clause-loops g t c =
 
 pub loops::run_turns-returns-then-takes_break-clause-performs : goal.loops::run_turns-returns-then-takes_break-clause-performs
 loops::run_turns-returns-then-takes_break-clause-performs g t c f stood before u starts =
-    let over = configuration_behind g.W.CountedWrite.contents g.W.CountedWrite.failure_count in
+    let over = enclosing_configuration g.W.CountedWrite.contents g.W.CountedWrite.failure_count in
     let sink = sink_of g.W.CountedWrite.contents g.W.CountedWrite.failure_count in
     let a = c.turns.invariant.frame before u starts in
-    let pushed = at_pushed before u c.turns.place c.turns.state (scopes_behind (layers_of c.args.state.now).scopes) a c.turns.invariant.scopes in
+    let pushed = at_pushed before u c.turns.place c.turns.state (enclosing_scopes (layers_of c.args.state.now).scopes) a c.turns.invariant.scopes in
     let body = (nodes_meant (setting_of g.H.NamedFilters.named c.args.context.now) c.args.context.now.depth (nodes_of f)) in
     let kept = c.in_ok-run_range.ensures.kept f stood (λ n. true) (within_all _) (within_all _) in
-    let ran = turn_ran u c.turns.place (behind c.args.state.now) body (sink c.turns.out) (sink c.run_range.new.out) (layers_of c.turns.state) (layers_of c.run_range.new.state) pushed kept.scopes c.in_ok-run_range.field-0 (layers_of c.takes_break.new.state) c.takes_break.ensures.cleared (c.in_ok-run_range.ensures.performs f stood) in
+    let ran = turn_ran u c.turns.place (enclosing_names c.args.state.now) body (sink c.turns.out) (sink c.run_range.new.out) (layers_of c.turns.state) (layers_of c.run_range.new.state) pushed kept.scopes c.in_ok-run_range.field-0 (layers_of c.takes_break.new.state) c.takes_break.ensures.cleared (c.in_ok-run_range.ensures.performs f stood) in
     let left = (layers_of c.run_range.new.state).registers.interrupt in
-    turn_break u (behind c.args.state.now) body c.args.count c.turns.place (over c.args.out.now c.args.state.now) (over c.turns.out c.turns.state) (over c.run_range.new.out c.takes_break.new.state) tt left c.turns.invariant.within (c.turns.invariant.leads f stood before u starts) ran (sym c.takes_break.ensures.was ∙ c.if-takes_break.true)
+    turn_break u (enclosing_names c.args.state.now) body c.args.count c.turns.place (over c.args.out.now c.args.state.now) (over c.turns.out c.turns.state) (over c.run_range.new.out c.takes_break.new.state) tt left c.turns.invariant.within (c.turns.invariant.leads f stood before u starts) ran (sym c.takes_break.ensures.was ∙ c.if-takes_break.true)
 
 pub loops::run_turns-returns-then-takes_break-clause-kept : goal.loops::run_turns-returns-then-takes_break-clause-kept
 loops::run_turns-returns-then-takes_break-clause-kept g t c f stood N names inside =
@@ -970,16 +970,16 @@ loops::run_turns-returns-then-takes_break-clause-loops g t c =
 
 pub loops::run_turns-returns-then-place-count-clause-performs : goal.loops::run_turns-returns-then-place-count-clause-performs
 loops::run_turns-returns-then-place-count-clause-performs g t c f stood before u starts =
-    let over = configuration_behind g.W.CountedWrite.contents g.W.CountedWrite.failure_count in
+    let over = enclosing_configuration g.W.CountedWrite.contents g.W.CountedWrite.failure_count in
     let sink = sink_of g.W.CountedWrite.contents g.W.CountedWrite.failure_count in
     let a = c.turns.invariant.frame before u starts in
-    let pushed = at_pushed before u c.turns.place c.turns.state (scopes_behind (layers_of c.args.state.now).scopes) a c.turns.invariant.scopes in
+    let pushed = at_pushed before u c.turns.place c.turns.state (enclosing_scopes (layers_of c.args.state.now).scopes) a c.turns.invariant.scopes in
     let body = (nodes_meant (setting_of g.H.NamedFilters.named c.args.context.now) c.args.context.now.depth (nodes_of f)) in
     let kept = c.in_ok-run_range.ensures.kept f stood (λ n. true) (within_all _) (within_all _) in
-    let ran = turn_ran u c.turns.place (behind c.args.state.now) body (sink c.turns.out) (sink c.run_range.new.out) (layers_of c.turns.state) (layers_of c.run_range.new.state) pushed kept.scopes c.in_ok-run_range.field-0 (layers_of c.takes_break.new.state) c.takes_break.ensures.cleared (c.in_ok-run_range.ensures.performs f stood) in
+    let ran = turn_ran u c.turns.place (enclosing_names c.args.state.now) body (sink c.turns.out) (sink c.run_range.new.out) (layers_of c.turns.state) (layers_of c.run_range.new.state) pushed kept.scopes c.in_ok-run_range.field-0 (layers_of c.takes_break.new.state) c.takes_break.ensures.cleared (c.in_ok-run_range.ensures.performs f stood) in
     let left = (layers_of c.run_range.new.state).registers.interrupt in
-    turns_end u (behind c.args.state.now) body c.args.count tt (c.turns.place + 1) (over c.args.out.now c.args.state.now) (over c.run_range.new.out c.takes_break.new.state) c.if-place-count.true
-    (turn_on u (behind c.args.state.now) body c.args.count c.turns.place (over c.args.out.now c.args.state.now) (over c.turns.out c.turns.state) (over c.run_range.new.out c.takes_break.new.state) left c.turns.invariant.within (c.turns.invariant.leads f stood before u starts) ran (sym c.takes_break.ensures.was ∙ c.if-takes_break.false))
+    turns_end u (enclosing_names c.args.state.now) body c.args.count tt (c.turns.place + 1) (over c.args.out.now c.args.state.now) (over c.run_range.new.out c.takes_break.new.state) c.if-place-count.true
+    (turn_on u (enclosing_names c.args.state.now) body c.args.count c.turns.place (over c.args.out.now c.args.state.now) (over c.turns.out c.turns.state) (over c.run_range.new.out c.takes_break.new.state) left c.turns.invariant.within (c.turns.invariant.leads f stood before u starts) ran (sym c.takes_break.ensures.was ∙ c.if-takes_break.false))
 
 pub loops::run_turns-returns-then-place-count-clause-kept : goal.loops::run_turns-returns-then-place-count-clause-kept
 loops::run_turns-returns-then-place-count-clause-kept g t c f stood N names inside =
@@ -997,11 +997,11 @@ loops::run_turns-advance-requires g t c =
 
 pub loops::run_turns-turns-preserved : goal.loops::run_turns-turns-preserved
 loops::run_turns-turns-preserved g t c =
-    let over = configuration_behind g.W.CountedWrite.contents g.W.CountedWrite.failure_count in
+    let over = enclosing_configuration g.W.CountedWrite.contents g.W.CountedWrite.failure_count in
     let sink = sink_of g.W.CountedWrite.contents g.W.CountedWrite.failure_count in
     let advanced : (before : List Scope) (u : LoopFrame) → StartsAt c.args.count c.args.state.now before u → with_scope_popped (layers_of c.advance.new.self) ≡ with_scope_popped (layers_of c.takes_break.new.state) = λ before u starts.
     let a = at_kept before u c.turns.place c.turns.state c.takes_break.new.state (c.takes_break.ensures.loops ∙ c.in_ok-run_range.ensures.loops) (c.turns.invariant.frame before u starts) in
-    advanced_behind a.now (a.now.at + 1) (layers_of c.takes_break.new.state) (layers_of c.advance.new.self) (c.advance.ensures.turned before a.now a.innermost) in
+    enclosing_after_advance a.now (a.now.at + 1) (layers_of c.takes_break.new.state) (layers_of c.advance.new.self) (c.advance.ensures.turned before a.now a.innermost) in
     let (before0, (u0, starts0)) = c.requires.start in
     let (f0, stood0) = c.requires.range in
     let all = c.in_ok-run_range.ensures.kept f0 stood0 (λ n. true) (within_all _) (within_all _) in
@@ -1009,26 +1009,26 @@ loops::run_turns-turns-preserved g t c =
       within = (let within : c.turns.place < c.args.count = c.turns.invariant.within in omega (arith, within, c.if-place-count.false));
       leads = λ f stood before u starts.
           let a = c.turns.invariant.frame before u starts in
-          let pushed = at_pushed before u c.turns.place c.turns.state (scopes_behind (layers_of c.args.state.now).scopes) a c.turns.invariant.scopes in
+          let pushed = at_pushed before u c.turns.place c.turns.state (enclosing_scopes (layers_of c.args.state.now).scopes) a c.turns.invariant.scopes in
           let body = (nodes_meant (setting_of g.H.NamedFilters.named c.args.context.now) c.args.context.now.depth (nodes_of f)) in
           let kept = c.in_ok-run_range.ensures.kept f stood (λ n. true) (within_all _) (within_all _) in
-          let ran = turn_ran u c.turns.place (behind c.args.state.now) body (sink c.turns.out) (sink c.run_range.new.out) (layers_of c.turns.state) (layers_of c.run_range.new.state) pushed kept.scopes c.in_ok-run_range.field-0 (layers_of c.takes_break.new.state) c.takes_break.ensures.cleared (c.in_ok-run_range.ensures.performs f stood) in
+          let ran = turn_ran u c.turns.place (enclosing_names c.args.state.now) body (sink c.turns.out) (sink c.run_range.new.out) (layers_of c.turns.state) (layers_of c.run_range.new.state) pushed kept.scopes c.in_ok-run_range.field-0 (layers_of c.takes_break.new.state) c.takes_break.ensures.cleared (c.in_ok-run_range.ensures.performs f stood) in
           let left = (layers_of c.run_range.new.state).registers.interrupt in
-          subst (λ l. TurnsLead u (behind c.args.state.now) body c.args.count (c.turns.place + 1) (over c.args.out.now c.args.state.now) (record { sink = sink c.run_range.new.out; environment = merged_layers l })) (sym (advanced before u starts))
-          (turn_on u (behind c.args.state.now) body c.args.count c.turns.place (over c.args.out.now c.args.state.now) (over c.turns.out c.turns.state) (over c.run_range.new.out c.takes_break.new.state) left c.turns.invariant.within (c.turns.invariant.leads f stood before u starts) ran (sym c.takes_break.ensures.was ∙ c.if-takes_break.false));
+          subst (λ l. TurnsLead u (enclosing_names c.args.state.now) body c.args.count (c.turns.place + 1) (over c.args.out.now c.args.state.now) (record { sink = sink c.run_range.new.out; environment = merged_layers l })) (sym (advanced before u starts))
+          (turn_on u (enclosing_names c.args.state.now) body c.args.count c.turns.place (over c.args.out.now c.args.state.now) (over c.turns.out c.turns.state) (over c.run_range.new.out c.takes_break.new.state) left c.turns.invariant.within (c.turns.invariant.leads f stood before u starts) ran (sym c.takes_break.ensures.was ∙ c.if-takes_break.false));
       frame = λ before u starts. at_next before u c.turns.place c.takes_break.new.state c.advance.new.self (at_kept before u c.turns.place c.turns.state c.takes_break.new.state (c.takes_break.ensures.loops ∙ c.in_ok-run_range.ensures.loops) (c.turns.invariant.frame before u starts)) c.advance.ensures.loops;
-      scopes = ap (λ l. l.scopes) (advanced before0 u0 starts0) ∙ ap (λ l. scopes_behind l.scopes) c.takes_break.ensures.cleared ∙ ap scopes_behind all.scopes ∙ c.turns.invariant.scopes;
+      scopes = ap (λ l. l.scopes) (advanced before0 u0 starts0) ∙ ap (λ l. enclosing_scopes l.scopes) c.takes_break.ensures.cleared ∙ ap enclosing_scopes all.scopes ∙ c.turns.invariant.scopes;
       kept = λ f stood N names inside. subst (λ l. LayersKept N (with_scope_popped (layers_of c.args.state.now)) l) (sym (advanced before0 u0 starts0)) (kept_turn N (layers_of c.args.state.now) (layers_of c.turns.state) (layers_of c.run_range.new.state) (layers_of c.takes_break.new.state) (c.turns.invariant.kept f stood N names inside) (c.run_range.ensures.kept f stood N names inside) c.takes_break.ensures.cleared);
       same_writer = c.run_range.ensures.same_writer ∙ c.turns.invariant.same_writer;
     }
 
 pub loops::run_turns-turns-init : goal.loops::run_turns-turns-init
 loops::run_turns-turns-init g t c =
-    let over = configuration_behind g.W.CountedWrite.contents g.W.CountedWrite.failure_count in
+    let over = enclosing_configuration g.W.CountedWrite.contents g.W.CountedWrite.failure_count in
     let (before, (u, starts)) = c.requires.start in
     record {
       within = (let below : u.at < u.count = u.within.0 in omega (arith, below, starts.first, starts.count));
-      leads = λ f stood before u starts. turns_start u (behind c.args.state.now) (nodes_meant (setting_of g.H.NamedFilters.named c.args.context.now) c.args.context.now.depth (nodes_of f)) c.args.count (over c.args.out.now c.args.state.now) starts.count;
+      leads = λ f stood before u starts. turns_start u (enclosing_names c.args.state.now) (nodes_meant (setting_of g.H.NamedFilters.named c.args.context.now) c.args.context.now.depth (nodes_of f)) c.args.count (over c.args.out.now c.args.state.now) starts.count;
       frame = λ before u starts. at_start before u c.args.count c.args.state.now starts;
       scopes = refl;
       kept = λ f stood N names inside. kept_same N _ _ refl;
@@ -1041,12 +1041,12 @@ loops::run_cells-run_range-requires g t c κs within =
 
 pub loops::run_cells-returns-in_err-open-clause-performs : goal.loops::run_cells-returns-in_err-open-clause-performs
 loops::run_cells-returns-in_err-open-clause-performs g t c f stood before u starts =
-    let over = configuration_behind g.W.CountedWrite.contents g.W.CountedWrite.failure_count in
+    let over = enclosing_configuration g.W.CountedWrite.contents g.W.CountedWrite.failure_count in
     let sink = sink_of g.W.CountedWrite.contents g.W.CountedWrite.failure_count in
     let body = (nodes_meant (setting_of g.H.NamedFilters.named c.args.context.now) c.args.context.now.depth (nodes_of f)) in
     let p = err_from_is_err_and c.from_residual.result c.from_residual.ensures.1 in
-    rw (p.1, p.2) (cell_fault u c.args.row.columns.count (behind c.args.state.now) body c.args.row.count c.cells.place (over c.args.out.now c.args.state.now) (over c.cells.out c.cells.state) (over c.open.new.out c.cells.state) c.in_err-open.field-0.0 c.cells.invariant.within (c.cells.invariant.leads f stood before u starts)
-    (cell_unopened u c.cells.place c.args.row.columns.count (behind c.args.state.now) body c.in_err-open.field-0.0 (sink c.cells.out) (sink c.open.new.out) _ c.in_err-open.ensures.writes))
+    rw (p.1, p.2) (cell_fault u c.args.row.columns.count (enclosing_names c.args.state.now) body c.args.row.count c.cells.place (over c.args.out.now c.args.state.now) (over c.cells.out c.cells.state) (over c.open.new.out c.cells.state) c.in_err-open.field-0.0 c.cells.invariant.within (c.cells.invariant.leads f stood before u starts)
+    (cell_unopened u c.cells.place c.args.row.columns.count (enclosing_names c.args.state.now) body c.in_err-open.field-0.0 (sink c.cells.out) (sink c.open.new.out) _ c.in_err-open.ensures.writes))
 
 pub loops::run_cells-returns-in_err-open-clause-loops : goal.loops::run_cells-returns-in_err-open-clause-loops
 loops::run_cells-returns-in_err-open-clause-loops g t c =
@@ -1055,15 +1055,15 @@ loops::run_cells-returns-in_err-open-clause-loops g t c =
 
 pub loops::run_cells-returns-in_err-run_range-clause-performs : goal.loops::run_cells-returns-in_err-run_range-clause-performs
 loops::run_cells-returns-in_err-run_range-clause-performs g t c f stood before u starts =
-    let over = configuration_behind g.W.CountedWrite.contents g.W.CountedWrite.failure_count in
+    let over = enclosing_configuration g.W.CountedWrite.contents g.W.CountedWrite.failure_count in
     let sink = sink_of g.W.CountedWrite.contents g.W.CountedWrite.failure_count in
     let a = c.cells.invariant.frame before u starts in
-    let pushed = at_pushed before u c.cells.place c.cells.state (scopes_behind (layers_of c.args.state.now).scopes) a c.cells.invariant.scopes in
+    let pushed = at_pushed before u c.cells.place c.cells.state (enclosing_scopes (layers_of c.args.state.now).scopes) a c.cells.invariant.scopes in
     let body = (nodes_meant (setting_of g.H.NamedFilters.named c.args.context.now) c.args.context.now.depth (nodes_of f)) in
     let kept = c.in_err-run_range.ensures.kept f stood (λ n. true) (within_all _) (within_all _) in
     let p = err_from_is_err_and c.from_residual-in_err-run_range.result c.from_residual-in_err-run_range.ensures.1 in
-    rw (p.1, p.2) (cell_fault u c.args.row.columns.count (behind c.args.state.now) body c.args.row.count c.cells.place (over c.args.out.now c.args.state.now) (over c.cells.out c.cells.state) (over c.run_range.new.out c.run_range.new.state) c.in_err-run_range.field-0.0 c.cells.invariant.within (c.cells.invariant.leads f stood before u starts)
-    (cell_faulted u c.cells.place (behind c.args.state.now) body (sink c.open.new.out) (sink c.run_range.new.out) (layers_of c.cells.state) (layers_of c.run_range.new.state) pushed kept.scopes c.args.row.columns.count c.in_ok-open.field-0 c.in_err-run_range.field-0.0 (sink c.cells.out) c.in_ok-open.ensures.writes (c.in_err-run_range.ensures.performs f stood)))
+    rw (p.1, p.2) (cell_fault u c.args.row.columns.count (enclosing_names c.args.state.now) body c.args.row.count c.cells.place (over c.args.out.now c.args.state.now) (over c.cells.out c.cells.state) (over c.run_range.new.out c.run_range.new.state) c.in_err-run_range.field-0.0 c.cells.invariant.within (c.cells.invariant.leads f stood before u starts)
+    (cell_faulted u c.cells.place (enclosing_names c.args.state.now) body (sink c.open.new.out) (sink c.run_range.new.out) (layers_of c.cells.state) (layers_of c.run_range.new.state) pushed kept.scopes c.args.row.columns.count c.in_ok-open.field-0 c.in_err-run_range.field-0.0 (sink c.cells.out) c.in_ok-open.ensures.writes (c.in_err-run_range.ensures.performs f stood)))
 
 pub loops::run_cells-returns-in_err-run_range-clause-kept : goal.loops::run_cells-returns-in_err-run_range-clause-kept
 loops::run_cells-returns-in_err-run_range-clause-kept g t c f stood N names inside =
@@ -1076,15 +1076,15 @@ loops::run_cells-returns-in_err-run_range-clause-loops g t c =
 
 pub loops::run_cells-returns-in_err-close-clause-performs : goal.loops::run_cells-returns-in_err-close-clause-performs
 loops::run_cells-returns-in_err-close-clause-performs g t c f stood before u starts =
-    let over = configuration_behind g.W.CountedWrite.contents g.W.CountedWrite.failure_count in
+    let over = enclosing_configuration g.W.CountedWrite.contents g.W.CountedWrite.failure_count in
     let sink = sink_of g.W.CountedWrite.contents g.W.CountedWrite.failure_count in
     let a = c.cells.invariant.frame before u starts in
-    let pushed = at_pushed before u c.cells.place c.cells.state (scopes_behind (layers_of c.args.state.now).scopes) a c.cells.invariant.scopes in
+    let pushed = at_pushed before u c.cells.place c.cells.state (enclosing_scopes (layers_of c.args.state.now).scopes) a c.cells.invariant.scopes in
     let body = (nodes_meant (setting_of g.H.NamedFilters.named c.args.context.now) c.args.context.now.depth (nodes_of f)) in
     let kept = c.in_ok-run_range.ensures.kept f stood (λ n. true) (within_all _) (within_all _) in
     let p = err_from_is_err_and c.from_residual-in_err-close.result c.from_residual-in_err-close.ensures.1 in
-    rw (p.1, p.2) (cell_fault u c.args.row.columns.count (behind c.args.state.now) body c.args.row.count c.cells.place (over c.args.out.now c.args.state.now) (over c.cells.out c.cells.state) (over c.close.new.out c.run_range.new.state) c.in_err-close.field-0.0 c.cells.invariant.within (c.cells.invariant.leads f stood before u starts)
-    (cell_ran u c.cells.place (behind c.args.state.now) body (sink c.open.new.out) (sink c.run_range.new.out) (layers_of c.cells.state) (layers_of c.run_range.new.state) pushed kept.scopes c.args.row.columns.count c.in_ok-open.field-0 c.in_ok-run_range.field-0 (Err c.in_err-close.field-0.0) (sink c.cells.out) (sink c.close.new.out) c.in_ok-open.ensures.writes (c.in_ok-run_range.ensures.performs f stood)
+    rw (p.1, p.2) (cell_fault u c.args.row.columns.count (enclosing_names c.args.state.now) body c.args.row.count c.cells.place (over c.args.out.now c.args.state.now) (over c.cells.out c.cells.state) (over c.close.new.out c.run_range.new.state) c.in_err-close.field-0.0 c.cells.invariant.within (c.cells.invariant.leads f stood before u starts)
+    (cell_ran u c.cells.place (enclosing_names c.args.state.now) body (sink c.open.new.out) (sink c.run_range.new.out) (layers_of c.cells.state) (layers_of c.run_range.new.state) pushed kept.scopes c.args.row.columns.count c.in_ok-open.field-0 c.in_ok-run_range.field-0 (Err c.in_err-close.field-0.0) (sink c.cells.out) (sink c.close.new.out) c.in_ok-open.ensures.writes (c.in_ok-run_range.ensures.performs f stood)
     (subst (λ n. WritesText (Err c.in_err-close.field-0.0) (cell_end c.cells.place n c.args.row.columns.count) (sink c.run_range.new.out) (sink c.close.new.out)) (sym starts.count) c.in_err-close.ensures.writes)))
 
 pub loops::run_cells-returns-in_err-close-clause-kept : goal.loops::run_cells-returns-in_err-close-clause-kept
@@ -1098,15 +1098,15 @@ loops::run_cells-returns-in_err-close-clause-loops g t c =
 
 pub loops::run_cells-returns-then-place-row-clause-performs : goal.loops::run_cells-returns-then-place-row-clause-performs
 loops::run_cells-returns-then-place-row-clause-performs g t c f stood before u starts =
-    let over = configuration_behind g.W.CountedWrite.contents g.W.CountedWrite.failure_count in
+    let over = enclosing_configuration g.W.CountedWrite.contents g.W.CountedWrite.failure_count in
     let sink = sink_of g.W.CountedWrite.contents g.W.CountedWrite.failure_count in
     let a = c.cells.invariant.frame before u starts in
-    let pushed = at_pushed before u c.cells.place c.cells.state (scopes_behind (layers_of c.args.state.now).scopes) a c.cells.invariant.scopes in
+    let pushed = at_pushed before u c.cells.place c.cells.state (enclosing_scopes (layers_of c.args.state.now).scopes) a c.cells.invariant.scopes in
     let body = (nodes_meant (setting_of g.H.NamedFilters.named c.args.context.now) c.args.context.now.depth (nodes_of f)) in
     let kept = c.in_ok-run_range.ensures.kept f stood (λ n. true) (within_all _) (within_all _) in
-    cells_end u c.args.row.columns.count (behind c.args.state.now) body c.args.row.count tt (c.cells.place + 1) (over c.args.out.now c.args.state.now) (over c.close.new.out c.run_range.new.state) c.if-place-row.true
-    (cell_on u c.args.row.columns.count (behind c.args.state.now) body c.args.row.count c.cells.place (over c.args.out.now c.args.state.now) (over c.cells.out c.cells.state) (over c.close.new.out c.run_range.new.state) c.in_ok-close.field-0 c.cells.invariant.within (c.cells.invariant.leads f stood before u starts)
-    (cell_ran u c.cells.place (behind c.args.state.now) body (sink c.open.new.out) (sink c.run_range.new.out) (layers_of c.cells.state) (layers_of c.run_range.new.state) pushed kept.scopes c.args.row.columns.count c.in_ok-open.field-0 c.in_ok-run_range.field-0 (Ok c.in_ok-close.field-0) (sink c.cells.out) (sink c.close.new.out) c.in_ok-open.ensures.writes (c.in_ok-run_range.ensures.performs f stood)
+    cells_end u c.args.row.columns.count (enclosing_names c.args.state.now) body c.args.row.count tt (c.cells.place + 1) (over c.args.out.now c.args.state.now) (over c.close.new.out c.run_range.new.state) c.if-place-row.true
+    (cell_on u c.args.row.columns.count (enclosing_names c.args.state.now) body c.args.row.count c.cells.place (over c.args.out.now c.args.state.now) (over c.cells.out c.cells.state) (over c.close.new.out c.run_range.new.state) c.in_ok-close.field-0 c.cells.invariant.within (c.cells.invariant.leads f stood before u starts)
+    (cell_ran u c.cells.place (enclosing_names c.args.state.now) body (sink c.open.new.out) (sink c.run_range.new.out) (layers_of c.cells.state) (layers_of c.run_range.new.state) pushed kept.scopes c.args.row.columns.count c.in_ok-open.field-0 c.in_ok-run_range.field-0 (Ok c.in_ok-close.field-0) (sink c.cells.out) (sink c.close.new.out) c.in_ok-open.ensures.writes (c.in_ok-run_range.ensures.performs f stood)
     (subst (λ n. WritesText (Ok c.in_ok-close.field-0) (cell_end c.cells.place n c.args.row.columns.count) (sink c.run_range.new.out) (sink c.close.new.out)) (sym starts.count) c.in_ok-close.ensures.writes)))
 
 pub loops::run_cells-returns-then-place-row-clause-kept : goal.loops::run_cells-returns-then-place-row-clause-kept
@@ -1139,11 +1139,11 @@ loops::run_cells-advance-requires g t c =
 
 pub loops::run_cells-cells-preserved : goal.loops::run_cells-cells-preserved
 loops::run_cells-cells-preserved g t c =
-    let over = configuration_behind g.W.CountedWrite.contents g.W.CountedWrite.failure_count in
+    let over = enclosing_configuration g.W.CountedWrite.contents g.W.CountedWrite.failure_count in
     let sink = sink_of g.W.CountedWrite.contents g.W.CountedWrite.failure_count in
     let advanced : (before : List Scope) (u : LoopFrame) → StartsAt c.args.row.count c.args.state.now before u → with_scope_popped (layers_of c.advance.new.self) ≡ with_scope_popped (layers_of c.run_range.new.state) = λ before u starts.
     let a = at_kept before u c.cells.place c.cells.state c.run_range.new.state c.in_ok-run_range.ensures.loops (c.cells.invariant.frame before u starts) in
-    advanced_behind a.now (a.now.at + 1) (layers_of c.run_range.new.state) (layers_of c.advance.new.self) (c.advance.ensures.turned before a.now a.innermost) in
+    enclosing_after_advance a.now (a.now.at + 1) (layers_of c.run_range.new.state) (layers_of c.advance.new.self) (c.advance.ensures.turned before a.now a.innermost) in
     let (before0, (u0, starts0)) = c.requires.start in
     let (f0, stood0) = c.requires.range in
     let all = c.in_ok-run_range.ensures.kept f0 stood0 (λ n. true) (within_all _) (within_all _) in
@@ -1151,26 +1151,26 @@ loops::run_cells-cells-preserved g t c =
       within = (let within : c.cells.place < c.args.row.count = c.cells.invariant.within in omega (arith, within, c.if-place-row.false));
       leads = λ f stood before u starts.
           let a = c.cells.invariant.frame before u starts in
-          let pushed = at_pushed before u c.cells.place c.cells.state (scopes_behind (layers_of c.args.state.now).scopes) a c.cells.invariant.scopes in
+          let pushed = at_pushed before u c.cells.place c.cells.state (enclosing_scopes (layers_of c.args.state.now).scopes) a c.cells.invariant.scopes in
           let body = (nodes_meant (setting_of g.H.NamedFilters.named c.args.context.now) c.args.context.now.depth (nodes_of f)) in
           let kept = c.in_ok-run_range.ensures.kept f stood (λ n. true) (within_all _) (within_all _) in
-          subst (λ l. CellsLead u c.args.row.columns.count (behind c.args.state.now) body c.args.row.count (c.cells.place + 1) (over c.args.out.now c.args.state.now) (record { sink = sink c.close.new.out; environment = merged_layers l })) (sym (advanced before u starts))
-          (cell_on u c.args.row.columns.count (behind c.args.state.now) body c.args.row.count c.cells.place (over c.args.out.now c.args.state.now) (over c.cells.out c.cells.state) (over c.close.new.out c.run_range.new.state) c.in_ok-close.field-0 c.cells.invariant.within (c.cells.invariant.leads f stood before u starts)
-          (cell_ran u c.cells.place (behind c.args.state.now) body (sink c.open.new.out) (sink c.run_range.new.out) (layers_of c.cells.state) (layers_of c.run_range.new.state) pushed kept.scopes c.args.row.columns.count c.in_ok-open.field-0 c.in_ok-run_range.field-0 (Ok c.in_ok-close.field-0) (sink c.cells.out) (sink c.close.new.out) c.in_ok-open.ensures.writes (c.in_ok-run_range.ensures.performs f stood)
+          subst (λ l. CellsLead u c.args.row.columns.count (enclosing_names c.args.state.now) body c.args.row.count (c.cells.place + 1) (over c.args.out.now c.args.state.now) (record { sink = sink c.close.new.out; environment = merged_layers l })) (sym (advanced before u starts))
+          (cell_on u c.args.row.columns.count (enclosing_names c.args.state.now) body c.args.row.count c.cells.place (over c.args.out.now c.args.state.now) (over c.cells.out c.cells.state) (over c.close.new.out c.run_range.new.state) c.in_ok-close.field-0 c.cells.invariant.within (c.cells.invariant.leads f stood before u starts)
+          (cell_ran u c.cells.place (enclosing_names c.args.state.now) body (sink c.open.new.out) (sink c.run_range.new.out) (layers_of c.cells.state) (layers_of c.run_range.new.state) pushed kept.scopes c.args.row.columns.count c.in_ok-open.field-0 c.in_ok-run_range.field-0 (Ok c.in_ok-close.field-0) (sink c.cells.out) (sink c.close.new.out) c.in_ok-open.ensures.writes (c.in_ok-run_range.ensures.performs f stood)
           (subst (λ n. WritesText (Ok c.in_ok-close.field-0) (cell_end c.cells.place n c.args.row.columns.count) (sink c.run_range.new.out) (sink c.close.new.out)) (sym starts.count) c.in_ok-close.ensures.writes)));
       frame = λ before u starts. at_next before u c.cells.place c.run_range.new.state c.advance.new.self (at_kept before u c.cells.place c.cells.state c.run_range.new.state c.in_ok-run_range.ensures.loops (c.cells.invariant.frame before u starts)) c.advance.ensures.loops;
-      scopes = ap (λ l. l.scopes) (advanced before0 u0 starts0) ∙ ap scopes_behind all.scopes ∙ c.cells.invariant.scopes;
+      scopes = ap (λ l. l.scopes) (advanced before0 u0 starts0) ∙ ap enclosing_scopes all.scopes ∙ c.cells.invariant.scopes;
       kept = λ f stood N names inside. subst (λ l. LayersKept N (with_scope_popped (layers_of c.args.state.now)) l) (sym (advanced before0 u0 starts0)) (kept_cell N (layers_of c.args.state.now) (layers_of c.cells.state) (layers_of c.run_range.new.state) (c.cells.invariant.kept f stood N names inside) (c.run_range.ensures.kept f stood N names inside));
       same_writer = c.close.ensures.same_writer ∙ c.run_range.ensures.same_writer ∙ c.open.ensures.same_writer ∙ c.cells.invariant.same_writer;
     }
 
 pub loops::run_cells-cells-init : goal.loops::run_cells-cells-init
 loops::run_cells-cells-init g t c =
-    let over = configuration_behind g.W.CountedWrite.contents g.W.CountedWrite.failure_count in
+    let over = enclosing_configuration g.W.CountedWrite.contents g.W.CountedWrite.failure_count in
     let (before, (u, starts)) = c.requires.start in
     record {
       within = (let below : u.at < u.count = u.within.0 in omega (arith, below, starts.first, starts.count));
-      leads = λ f stood before u starts. cells_start u c.args.row.columns.count (behind c.args.state.now) (nodes_meant (setting_of g.H.NamedFilters.named c.args.context.now) c.args.context.now.depth (nodes_of f)) c.args.row.count (over c.args.out.now c.args.state.now) starts.count;
+      leads = λ f stood before u starts. cells_start u c.args.row.columns.count (enclosing_names c.args.state.now) (nodes_meant (setting_of g.H.NamedFilters.named c.args.context.now) c.args.context.now.depth (nodes_of f)) c.args.row.count (over c.args.out.now c.args.state.now) starts.count;
       frame = λ before u starts. at_start before u c.args.row.count c.args.state.now starts;
       scopes = refl;
       kept = λ f stood N names inside. kept_same N _ _ refl;
@@ -1231,12 +1231,12 @@ loops::run_for-returns-clause-performs g t c b d here after =
     let starts : StartsAt c.in-Some.frame.count c.push_frame.new.self (loops_of c.args.state.now) c.in-Some.frame = record { innermost = c.in_ok-push_frame.ensures.over; first = begins.first; count = refl } in
     let some : 0 < c.in-Some.frame.count = (let below : c.in-Some.frame.at < c.in-Some.frame.count = c.in-Some.frame.within.0 in omega (arith, below)) in
     for_some (setting_of g.H.NamedFilters.named c.args.context.now) (deeper_meaning (setting_of g.H.NamedFilters.named c.args.context.now) c.args.context.now.depth) (string_bytes c.args.head.now.variable) (source_view c.args.head.now.source) (window_view c.args.head.now.window) (nodes_of b) (nodes_of d) c.in-Some.frame c.run_turns-answer.result (place c.args.out.now c.args.state.now) (place c.run_turns-answer.new.out c.pop_scope.new.self) some items begins
-    (from_behind (frame_map c.in-Some.frame (environment_of c.args.state.now).local) (layers_of c.args.state.now) (layers_of c.push_frame.new.self) (layers_of c.run_turns-answer.new.state) (layers_of c.pop_scope.new.self) c.in_ok-push_frame.ensures.pushed c.pop_scope.ensures.popped c.run_turns-answer.result (λ local. turns_meant c.in-Some.frame local (nodes_meant (setting_of g.H.NamedFilters.named c.args.context.now) c.args.context.now.depth (nodes_of b))) (sink c.args.out.now) (sink c.run_turns-answer.new.out)
+    (from_enclosing (frame_map c.in-Some.frame (environment_of c.args.state.now).local) (layers_of c.args.state.now) (layers_of c.push_frame.new.self) (layers_of c.run_turns-answer.new.state) (layers_of c.pop_scope.new.self) c.in_ok-push_frame.ensures.pushed c.pop_scope.ensures.popped c.run_turns-answer.result (λ local. turns_meant c.in-Some.frame local (nodes_meant (setting_of g.H.NamedFilters.named c.args.context.now) c.args.context.now.depth (nodes_of b))) (sink c.args.out.now) (sink c.run_turns-answer.new.out)
     (c.run_turns-answer.ensures.performs b here (loops_of c.args.state.now) c.in-Some.frame starts))
 
 pub loops::run_for-returns-clause-kept : goal.loops::run_for-returns-clause-kept
 loops::run_for-returns-clause-kept g t c b d here after N names inside =
-    kept_from_behind (frame_map c.in-Some.frame (environment_of c.args.state.now).local) (layers_of c.args.state.now) (layers_of c.push_frame.new.self) (layers_of c.run_turns-answer.new.state) (layers_of c.pop_scope.new.self) c.in_ok-push_frame.ensures.pushed c.pop_scope.ensures.popped N
+    kept_from_enclosing (frame_map c.in-Some.frame (environment_of c.args.state.now).local) (layers_of c.args.state.now) (layers_of c.push_frame.new.self) (layers_of c.run_turns-answer.new.state) (layers_of c.pop_scope.new.self) c.in_ok-push_frame.ensures.pushed c.pop_scope.ensures.popped N
     (c.run_turns-answer.ensures.kept b here N (for_within N (string_bytes c.args.head.now.variable) (source_view c.args.head.now.source) (window_view c.args.head.now.window) (nodes_of b) (nodes_of d) names).0 inside)
 
 pub loops::run_for-returns-clause-loops : goal.loops::run_for-returns-clause-loops
@@ -1282,12 +1282,12 @@ loops::run_tablerow-returns-clause-performs g t c b here =
     let items : cells_asked (source_view c.args.head.now.source) (window_view c.args.head.now.window) (option_map expression_view c.args.head.now.cols) (environment_of c.args.state.now) ≡ Ok (Some (turn_items c.in-Some.frame, c.in-Some.columns.count)) = subst (λ o. cells_asked (source_view c.args.head.now.source) (window_view c.args.head.now.window) (option_map expression_view c.args.head.now.cols) (environment_of c.args.state.now) ≡ Ok (cells_of o)) c.in-Some.is c.in_ok-frame.ensures.items in
     let starts : StartsAt c.in-Some.frame.count c.push_frame.new.self (loops_of c.args.state.now) c.in-Some.frame = record { innermost = c.in_ok-push_frame.ensures.over; first = begins.first; count = refl } in
     row_some (setting_of g.H.NamedFilters.named c.args.context.now) (deeper_meaning (setting_of g.H.NamedFilters.named c.args.context.now) c.args.context.now.depth) (string_bytes c.args.head.now.variable) (source_view c.args.head.now.source) (window_view c.args.head.now.window) (option_map expression_view c.args.head.now.cols) (nodes_of b) c.in-Some.frame c.in-Some.columns.count c.run_cells-answer.result (place c.args.out.now c.args.state.now) (place c.run_cells-answer.new.out c.pop_scope.new.self) items begins
-    (from_behind (frame_map c.in-Some.frame (environment_of c.args.state.now).local) (layers_of c.args.state.now) (layers_of c.push_frame.new.self) (layers_of c.run_cells-answer.new.state) (layers_of c.pop_scope.new.self) c.in_ok-push_frame.ensures.pushed c.pop_scope.ensures.popped c.run_cells-answer.result (λ local. cells_meant c.in-Some.frame c.in-Some.columns.count local (nodes_meant (setting_of g.H.NamedFilters.named c.args.context.now) c.args.context.now.depth (nodes_of b))) (sink c.args.out.now) (sink c.run_cells-answer.new.out)
+    (from_enclosing (frame_map c.in-Some.frame (environment_of c.args.state.now).local) (layers_of c.args.state.now) (layers_of c.push_frame.new.self) (layers_of c.run_cells-answer.new.state) (layers_of c.pop_scope.new.self) c.in_ok-push_frame.ensures.pushed c.pop_scope.ensures.popped c.run_cells-answer.result (λ local. cells_meant c.in-Some.frame c.in-Some.columns.count local (nodes_meant (setting_of g.H.NamedFilters.named c.args.context.now) c.args.context.now.depth (nodes_of b))) (sink c.args.out.now) (sink c.run_cells-answer.new.out)
     (c.run_cells-answer.ensures.performs b here (loops_of c.args.state.now) c.in-Some.frame starts))
 
 pub loops::run_tablerow-returns-clause-kept : goal.loops::run_tablerow-returns-clause-kept
 loops::run_tablerow-returns-clause-kept g t c b here N names inside =
-    kept_from_behind (frame_map c.in-Some.frame (environment_of c.args.state.now).local) (layers_of c.args.state.now) (layers_of c.push_frame.new.self) (layers_of c.run_cells-answer.new.state) (layers_of c.pop_scope.new.self) c.in_ok-push_frame.ensures.pushed c.pop_scope.ensures.popped N
+    kept_from_enclosing (frame_map c.in-Some.frame (environment_of c.args.state.now).local) (layers_of c.args.state.now) (layers_of c.push_frame.new.self) (layers_of c.run_cells-answer.new.state) (layers_of c.pop_scope.new.self) c.in_ok-push_frame.ensures.pushed c.pop_scope.ensures.popped N
     (c.run_cells-answer.ensures.kept b here N (row_within N (string_bytes c.args.head.now.variable) (source_view c.args.head.now.source) (window_view c.args.head.now.window) (option_map expression_view c.args.head.now.cols) (nodes_of b) names) inside)
 
 pub loops::run_tablerow-returns-clause-loops : goal.loops::run_tablerow-returns-clause-loops

@@ -3,9 +3,9 @@ use Rattle.liquid_syntax.specs.Flats.{Maker, IsForestAt, nodes_of}
 use Rattle.liquid_syntax.specs.Forest.{Forest}
 use Rattle.liquid_evaluation.specs.Names.{nodes_names}
 use Rattle.liquid_lib.specs.inside.Engine.{setting_of, nodes_in}
-use Rattle.liquid_lib.specs.Kept.{Keeps, AreRenderNodes}
+use Rattle.liquid_lib.specs.StateKept.{Keeps, AreRenderNodes}
 use Rattle.liquid_lib.specs.Performs.{configuration_of}
-use Rattle.liquid_core.specs.States.{layers_of, loops_of, scopes_behind}
+use Rattle.liquid_core.specs.States.{layers_of, loops_of, enclosing_scopes}
 use Rattle.liquid_lib.proofs.Going.{Going}
 use Rattle.liquid_lib.proofs.Silent.{SilentOn}
 use Rattle.liquid_lib.proofs.PartialRuns.{reserve}
@@ -18,7 +18,7 @@ use Rattle.liquid_lib.proofs.ItemRuns.{items_left}
 use Rattle.liquid_lib.proofs.RenderEach.{item_run}
 use Rattle.liquid_core.specs.declared.frame.Scope.{Scope}
 use Rattle.liquid_core.specs.declared.frame.LoopFrame.{LoopFrame}
-use Rattle.liquid_lib.specs.inside.LoopRuns.{KeepsBehind, StartsAt, behind, configuration_behind}
+use Rattle.liquid_lib.specs.inside.LoopRuns.{KeepsEnclosing, StartsAt, enclosing_names, enclosing_configuration}
 use Rattle.liquid_lib.proofs.Turning.{AtTurn, CellsLead, TurnsLead, Leads}
 use Rattle.liquid_lib.proofs.engine.+run.Given as goal
 
@@ -98,14 +98,14 @@ decreases-loops::run_cells g l = 4 * (l.to - l.from) + 2 + reserve l.context.now
 
 abbrev pub invariant-loops::run_turns-turns : goal.invariant-loops::run_turns-turns
 invariant-loops::run_turns-turns g l =
-    let over = configuration_behind g.W.CountedWrite.contents g.W.CountedWrite.failure_count in
+    let over = enclosing_configuration g.W.CountedWrite.contents g.W.CountedWrite.failure_count in
     record {
       within : l.place < l.count;
       leads : (f : Forest Maker) → IsForestAt l.nodes l.from f l.to → (before : List Scope) (t : LoopFrame) → StartsAt l.count l.initial.state before t
-          → TurnsLead t (behind l.initial.state) (nodes_in g.H.NamedFilters.named l.context (nodes_of f)) l.count l.place (over l.initial.out l.initial.state) (over l.out l.state);
+          → TurnsLead t (enclosing_names l.initial.state) (nodes_in g.H.NamedFilters.named l.context (nodes_of f)) l.count l.place (over l.initial.out l.initial.state) (over l.out l.state);
       frame : (before : List Scope) (t : LoopFrame) → StartsAt l.count l.initial.state before t → AtTurn before t l.place l.state;
-      scopes : scopes_behind (layers_of l.state).scopes ≡ scopes_behind (layers_of l.initial.state).scopes;
-      kept : (f : Forest Maker) → IsForestAt l.nodes l.from f l.to → KeepsBehind (nodes_names (nodes_of f)) (setting_of g.H.NamedFilters.named l.context) l.initial.state l.state;
+      scopes : enclosing_scopes (layers_of l.state).scopes ≡ enclosing_scopes (layers_of l.initial.state).scopes;
+      kept : (f : Forest Maker) → IsForestAt l.nodes l.from f l.to → KeepsEnclosing (nodes_names (nodes_of f)) (setting_of g.H.NamedFilters.named l.context) l.initial.state l.state;
       same_writer : l.out.writer.ghost_name ≡ l.initial.out.writer.ghost_name;
     }
 
@@ -114,14 +114,14 @@ decreases-loops::run_turns-turns g l = l.count - l.place
 
 abbrev pub invariant-loops::run_cells-cells : goal.invariant-loops::run_cells-cells
 invariant-loops::run_cells-cells g l =
-    let over = configuration_behind g.W.CountedWrite.contents g.W.CountedWrite.failure_count in
+    let over = enclosing_configuration g.W.CountedWrite.contents g.W.CountedWrite.failure_count in
     record {
       within : l.place < l.row.count;
       leads : (f : Forest Maker) → IsForestAt l.nodes l.from f l.to → (before : List Scope) (t : LoopFrame) → StartsAt l.row.count l.initial.state before t
-          → CellsLead t l.row.columns.count (behind l.initial.state) (nodes_in g.H.NamedFilters.named l.context (nodes_of f)) l.row.count l.place (over l.initial.out l.initial.state) (over l.out l.state);
+          → CellsLead t l.row.columns.count (enclosing_names l.initial.state) (nodes_in g.H.NamedFilters.named l.context (nodes_of f)) l.row.count l.place (over l.initial.out l.initial.state) (over l.out l.state);
       frame : (before : List Scope) (t : LoopFrame) → StartsAt l.row.count l.initial.state before t → AtTurn before t l.place l.state;
-      scopes : scopes_behind (layers_of l.state).scopes ≡ scopes_behind (layers_of l.initial.state).scopes;
-      kept : (f : Forest Maker) → IsForestAt l.nodes l.from f l.to → KeepsBehind (nodes_names (nodes_of f)) (setting_of g.H.NamedFilters.named l.context) l.initial.state l.state;
+      scopes : enclosing_scopes (layers_of l.state).scopes ≡ enclosing_scopes (layers_of l.initial.state).scopes;
+      kept : (f : Forest Maker) → IsForestAt l.nodes l.from f l.to → KeepsEnclosing (nodes_names (nodes_of f)) (setting_of g.H.NamedFilters.named l.context) l.initial.state l.state;
       same_writer : l.out.writer.ghost_name ≡ l.initial.out.writer.ghost_name;
     }
 

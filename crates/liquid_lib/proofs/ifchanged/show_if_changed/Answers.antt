@@ -5,7 +5,7 @@ use Rattle.liquid_core.proofs.States.{changed_set}
 use Rattle.liquid_lib.specs.inside.Changed.{written_unless_last}
 use Rattle.liquid_lib.specs.Performs.{Performs, configuration_of, unit}
 use Rattle.liquid_lib.proofs.Joined.{bind_met, bind_faulted, change_met, read_met}
-use Rattle.liquid_lib.proofs.Kept.{kept_changed}
+use Rattle.liquid_lib.proofs.StateKept.{kept_changed}
 use Rattle.liquid_meaning.specs.Effects.{changed_to}
 use Rattle.liquid_meaning.specs.Runs.{change, ◌>>=◌}
 use Rattle.liquid_lib.proofs.ifchanged.show_if_changed.Goals as goal

@@ -72,11 +72,11 @@ impl<'p> ForloopObject<'p> {
             (put (codes "index0") (count self.now.index0)
             (pairs_view object.old.entries))))) }
     {
-        let behind = self.length - self.index0;
+        let remaining = self.length - self.index0;
         put_number(alloc, object, "index0", self.index0)?;
         put_number(alloc, object, "index", self.index0 + 1)?;
-        put_number(alloc, object, "rindex0", behind - 1)?;
-        put_number(alloc, object, "rindex", behind)
+        put_number(alloc, object, "rindex0", remaining - 1)?;
+        put_number(alloc, object, "rindex", remaining)
     }
 
     /// Whether the item is the first, and the last.

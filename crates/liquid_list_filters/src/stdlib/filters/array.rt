@@ -1,7 +1,7 @@
 //! Filters over lists.
 pub mod ends;
 pub mod join;
-pub mod keep;
-pub mod rows;
+pub mod reverse_and_concat;
+pub mod selection;
 pub mod sequence;
 pub mod sort;

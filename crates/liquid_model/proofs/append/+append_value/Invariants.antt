@@ -4,7 +4,7 @@ use Rattle.liquid_model.specs.View.{items_view, pairs_view}
 use Rattle.liquid_model.proofs.Appending.{Going}
 use Rattle.liquid_model.proofs.append.+append_value.Given as goal
 
--- a part of the text stands behind what was there, and the items or pairs that are left have the rest of it
+-- a part of the text stands after what was there, and the items or pairs that are left have the rest of it
 abbrev pub invariant-append_items-loop-item : goal.invariant-append_items-loop-item
 invariant-append_items-loop-item l =
     Going (string_bytes l.initial.out) (string_bytes l.out) (items_text (items_view l.item-items)) (items_text (items_view (drop l.item-index l.item-items)))

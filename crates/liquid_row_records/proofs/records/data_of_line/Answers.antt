@@ -1,11 +1,11 @@
 use Rattle.std.proofs.Common.{true, ◌≡◌}
 use Rattle.std.specs.Prelude.{◌||◌}
-use Rattle.liquid_row_records.proofs.LineReadings.{first_asked, formed, second_asked, unformed, unread, wanted_kind}
+use Rattle.liquid_row_records.proofs.LineReadings.{first_asked, formed, second_asked, unformed, invalid_utf8, wanted_kind}
 use Rattle.liquid_row_records.proofs.records.data_of_line.Goals as goal
 use Rattle.liquid_row_records.proofs.records.data_of_line.Goals.{else-not-form-via-then-not-form+else-not-form-2, else-not-form-via-else-not-form}
 
 pub returns-in_default : goal.returns-in_default
-returns-in_default c = unread c.args.form c.args.line.now c.in_default.ensures.cases.0
+returns-in_default c = invalid_utf8 c.args.form c.args.line.now c.in_default.ensures.cases.0
 
 pub returns-then-not-form-2 : goal.returns-then-not-form-2
 returns-then-not-form-2 c = unformed c.args.form c.args.line.now c.in-Ok.text.now c.in-Ok.ensures.cases c.if-not-form.true c.if-not-form-2.true

@@ -18,5 +18,5 @@ returns-in-Ok c =
 
 pub returns : goal.returns
 returns c =
-    faulted (decoded_text c.args.bytes.items) _ c.new.result.kind c.new.ensures.told
+    faulted (decoded_text c.args.bytes.items) _ c.new.result.kind c.new.ensures.kind_or_memory
     (not_decoded c.args.bytes.items (λ h. let f = c.in-Err.ensures.succeeds h in cc)) refl

@@ -1,5 +1,5 @@
 use Rattle.liquid_site.proofs.Untouched.{untouched}
-use Rattle.liquid_site.proofs.Kept.{kept_from_scratch, pages_kept}
+use Rattle.liquid_site.proofs.KeptPages.{kept_from_scratch, pages_kept}
 use Rattle.liquid_site.proofs.laws.site_laws.Goals as goal
 
 pub returns-clause-untouched : goal.returns-clause-untouched

@@ -1,13 +1,13 @@
 use Rattle.std.proofs.Common.{◌++◌, ◌∙◌}
 use Rattle.std.proofs.lemmas.Result.{err_from_is_err_and}
-use Rattle.liquid_site_files.proofs.Disks.{already, is_needed, no_more, none_told, put_alone, put_there, stays_needed, unchanged_at}
+use Rattle.liquid_site_files.proofs.Disks.{already, is_needed, no_more, none_if_err, put_alone, put_there, stays_needed, unchanged_at}
 use Rattle.liquid_site_files.proofs.written.write_page.Goals as goal
 
 pub returns-in_err-path-clause-written : goal.returns-in_err-path-clause-written
 returns-in_err-path-clause-written g c = no_more _ _ _ _ (err_from_is_err_and c.from_residual.result c.from_residual.ensures.1).1
 
 pub returns-in_err-path-clause-needed : goal.returns-in_err-path-clause-needed
-returns-in_err-path-clause-needed g c = none_told _ _ _ _ (err_from_is_err_and c.from_residual.result c.from_residual.ensures.1).1
+returns-in_err-path-clause-needed g c = none_if_err _ _ _ _ (err_from_is_err_and c.from_residual.result c.from_residual.ensures.1).1
 
 pub returns-in_err-path-clause-others : goal.returns-in_err-path-clause-others
 returns-in_err-path-clause-others g c = unchanged_at _ _
@@ -16,7 +16,7 @@ pub returns-in_err-holds-clause-written : goal.returns-in_err-holds-clause-writt
 returns-in_err-holds-clause-written g c = no_more _ _ _ _ (err_from_is_err_and c.from_residual-in_err-holds.result c.from_residual-in_err-holds.ensures.1).1
 
 pub returns-in_err-holds-clause-needed : goal.returns-in_err-holds-clause-needed
-returns-in_err-holds-clause-needed g c = none_told _ _ _ _ (err_from_is_err_and c.from_residual-in_err-holds.result c.from_residual-in_err-holds.ensures.1).1
+returns-in_err-holds-clause-needed g c = none_if_err _ _ _ _ (err_from_is_err_and c.from_residual-in_err-holds.result c.from_residual-in_err-holds.ensures.1).1
 
 pub returns-in_err-holds-clause-others : goal.returns-in_err-holds-clause-others
 returns-in_err-holds-clause-others g c = unchanged_at _ _

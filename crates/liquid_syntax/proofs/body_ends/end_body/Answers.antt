@@ -16,18 +16,18 @@ returns-in-First-clause-ended c =
     let set = map-set flat_of ns.items at c.end_before_last.new.node ∙ ap (slice_set (flats ns.items) at) (c.end_before_last.ensures ∙ ap (λ n. before_last_ended n (flat_of old)) long) in
     subst (λ (s : Stage). BodyEnded s at (flats ns.items) (flats (slice_set ns.items at c.end_before_last.new.node))) (sym c.in-First.is) (flat_of old, was, set)
 
-pub returns-in-Unkept-clause-ended : goal.returns-in-Unkept-clause-ended
-returns-in-Unkept-clause-ended c =
+pub returns-in-CaseHead-clause-ended : goal.returns-in-CaseHead-clause-ended
+returns-in-CaseHead-clause-ended c =
     let ns = c.args.nodes.now in
     let at = c.args.block.node_index in
-    subst (λ (s : Stage). BodyEnded s at (flats ns.items) (flats c.truncate.new.self.items)) (sym c.in-Unkept.is) (ap flats c.truncate.ensures.items ∙ sym (take-map flat_of (at + 1) ns.items))
+    subst (λ (s : Stage). BodyEnded s at (flats ns.items) (flats c.truncate.new.self.items)) (sym c.in-CaseHead.is) (ap flats c.truncate.ensures.items ∙ sym (take-map flat_of (at + 1) ns.items))
 
-pub returns-in-Armed-clause-ended : goal.returns-in-Armed-clause-ended
-returns-in-Armed-clause-ended c =
+pub returns-in-WhenBody-clause-ended : goal.returns-in-WhenBody-clause-ended
+returns-in-WhenBody-clause-ended c =
     let ns = c.args.nodes.now in
     let at = c.args.block.node_index in
-    let old = c.index_mut-in-Armed.result.now in
+    let old = c.index_mut-in-WhenBody.result.now in
     let long = c.len-end.ensures ∙ ns.ok.0 ∙ sym (length-map ns.items flat_of) in
-    let was = ap flat_of c.index_mut-in-Armed.ensures.value ∙ sym (get_or-map flat_of ns.items at old) in
-    let set = map-set flat_of ns.items at c.end_before_last-in-Armed.new.node ∙ ap (slice_set (flats ns.items) at) (c.end_before_last-in-Armed.ensures ∙ ap (λ n. before_last_ended n (flat_of old)) long) in
-    subst (λ (s : Stage). BodyEnded s at (flats ns.items) (flats (slice_set ns.items at c.end_before_last-in-Armed.new.node))) (sym c.in-Armed.is) (flat_of old, was, set)
+    let was = ap flat_of c.index_mut-in-WhenBody.ensures.value ∙ sym (get_or-map flat_of ns.items at old) in
+    let set = map-set flat_of ns.items at c.end_before_last-in-WhenBody.new.node ∙ ap (slice_set (flats ns.items) at) (c.end_before_last-in-WhenBody.ensures ∙ ap (λ n. before_last_ended n (flat_of old)) long) in
+    subst (λ (s : Stage). BodyEnded s at (flats ns.items) (flats (slice_set ns.items at c.end_before_last-in-WhenBody.new.node))) (sym c.in-WhenBody.is) (flat_of old, was, set)

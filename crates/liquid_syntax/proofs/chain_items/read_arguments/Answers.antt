@@ -4,12 +4,12 @@ use Rattle.std.specs.Option.{option_map}
 use Rattle.liquid_core.specs.ExpressionView.{expression_view}
 use Rattle.liquid_lexer.specs.Tokens.{tokens_view}
 use Rattle.liquid_syntax.specs.ChainReading.{arguments_of, filters_of}
-use Rattle.liquid_syntax.proofs.ChainCalls.{behind, behind_nothing, not_colon, colon, one_argument_more, last_argument, no_value, faulted}
+use Rattle.liquid_syntax.proofs.ChainCalls.{with_front, after_nothing, not_colon, colon, one_argument_more, last_argument, no_value, faulted}
 use Rattle.liquid_syntax.proofs.chain_items.read_arguments.Goals as goal
 
 pub arguments-init : goal.arguments-init
 arguments-init c = record {
-  called = λ known. behind_nothing _ ∙ ap (λ xs. behind (map expression_view xs) (arguments_of known (tokens_view c.skip.new.items.items))) (sym c.in_ok-arguments.ensures.items);
+  called = λ known. after_nothing _ ∙ ap (λ xs. with_front (map expression_view xs) (arguments_of known (tokens_view c.skip.new.items.items))) (sym c.in_ok-arguments.ensures.items);
   shorter = omega arith;
 }
 
@@ -38,6 +38,6 @@ arguments-preserved c =
     let pushed = c.in_ok-push.ensures.items in
     record {
       called = λ known. c.arguments.invariant.called known ∙ one_argument_more known (map expression_view c.arguments.arguments.items) _ _ _ _ (sym c.in-Some.ensures.value) c.if-not-skip-2.ensures.0
-          ∙ ap (λ xs. behind xs (arguments_of known (tokens_view c.skip-in-arguments.new.items.items))) (sym (ap (map expression_view) pushed ∙ map-append _ _ _));
+          ∙ ap (λ xs. with_front xs (arguments_of known (tokens_view c.skip-in-arguments.new.items.items))) (sym (ap (map expression_view) pushed ∙ map-append _ _ _));
       shorter = omega (arith, c.arguments.invariant.shorter, c.if-not-skip-2.ensures.1, c.in-Some.ensures.shorter);
     }

@@ -3,12 +3,12 @@ use Rattle.liquid_core.specs.ExpressionView.{expression_view}
 use Rattle.liquid_lexer.specs.Tokens.{tokens_view}
 use Rattle.liquid_syntax.specs.Chains.{Filters}
 use Rattle.liquid_syntax.specs.ChainReading.{arguments_of}
-use Rattle.liquid_syntax.proofs.ChainCalls.{behind}
+use Rattle.liquid_syntax.proofs.ChainCalls.{with_front}
 use Rattle.liquid_syntax.proofs.chain_items.read_arguments.Given as goal
 
 abbrev pub invariant-arguments : goal.invariant-arguments
 invariant-arguments l = record {
-  called : (known : Filters) → arguments_of known (tokens_view l.initial.items.items) ≡ behind (map expression_view l.arguments.items) (arguments_of known (tokens_view l.items.items));
+  called : (known : Filters) → arguments_of known (tokens_view l.initial.items.items) ≡ with_front (map expression_view l.arguments.items) (arguments_of known (tokens_view l.items.items));
   shorter : length l.items.items ≤ length l.initial.items.items;
 }
 

@@ -5,13 +5,13 @@ use Rattle.liquid_lexer.specs.Tokens.{tokens_view}
 use Rattle.liquid_evaluation.specs.ChainView.{chain_filter_view}
 use Rattle.liquid_language.specs.Registered.{registered_in}
 use Rattle.liquid_syntax.specs.ChainReading.{filters_of}
-use Rattle.liquid_syntax.proofs.ChainCalls.{left_over, none_left, filters_behind, filters_nothing, no_filter, no_bar, filter_refused, one_filter, faulted}
+use Rattle.liquid_syntax.proofs.ChainCalls.{left_over, none_left, filters_after, filters_nothing, no_filter, no_bar, filter_refused, one_filter, faulted}
 use Rattle.liquid_syntax.proofs.chain_items.read_filters.Goals as goal
 
 pub filters-init : goal.filters-init
 filters-init c =
     let known = registered_in c.args.known.now in
-    filters_nothing known _ ∙ ap (λ fs. filters_behind known (map chain_filter_view fs) (filters_of known (tokens_view c.args.items.now.items))) (sym c.new-filters.ensures.items)
+    filters_nothing known _ ∙ ap (λ fs. filters_after known (map chain_filter_view fs) (filters_of known (tokens_view c.args.items.now.items))) (sym c.new-filters.ensures.items)
 
 pub returns-clause-filters : goal.returns-clause-filters
 returns-clause-filters c = c.filters.invariant ∙ no_filter (registered_in c.args.known.now) (map chain_filter_view c.filters.filters.items) _ (none_left c.filters.items.items (sym c.is_over.ensures ∙ c.filters-test.false))
@@ -34,4 +34,4 @@ filters-preserved c =
     let left = tokens_view c.read_filter.new.items.items in
     c.filters.invariant
     ∙ one_filter known (map chain_filter_view c.filters.filters.items) (tokens_view c.filters.items.items) _ some c.if-not-skip.ensures.0 (chain_filter_view c.in_ok-read_filter.field-0) left c.in_ok-read_filter.ensures.taken
-    ∙ ap (λ fs. filters_behind known fs (filters_of known left)) (sym (ap (map chain_filter_view) c.in_ok-push.ensures.items ∙ map-append _ _ _))
+    ∙ ap (λ fs. filters_after known fs (filters_of known left)) (sym (ap (map chain_filter_view) c.in_ok-push.ensures.items ∙ map-append _ _ _))

@@ -1,6 +1,6 @@
 use Rattle.std.proofs.Common.{◌≡◌, sym, subst}
 use Rattle.liquid_core.specs.ExpressionView.{expression_view}
-use Rattle.liquid_syntax.specs.ConditionReading.{condition_of, behind_atom}
+use Rattle.liquid_syntax.specs.ConditionReading.{condition_of, after_atom}
 use Rattle.liquid_lexer.specs.Tokens.{tokens_view}
 use Rattle.liquid_evaluation.specs.Tree.{bare}
 use Rattle.liquid_syntax.proofs.ChainCalls.{faulted}
@@ -15,7 +15,7 @@ returns-in_default-next_operator-clause-taken c =
     let e = c.in_default-next_operator.ensures in
     let all = tokens_view c.args.items.now.items in
     let x = expression_view c.in-Some.left in
-    subst (λ is. condition_of all ≡ behind_atom (tokens_view is) (bare x)) (sym e.1) (bare_atom all (tokens_view c.next_value.new.items.items) x (sym c.in-Some.ensures.value) e.0)
+    subst (λ is. condition_of all ≡ after_atom (tokens_view is) (bare x)) (sym e.1) (bare_atom all (tokens_view c.next_value.new.items.items) x (sym c.in-Some.ensures.value) e.0)
 
 pub returns-in_default-next_value-clause-taken : goal.returns-in_default-next_value-clause-taken
 returns-in_default-next_value-clause-taken c =

@@ -5,7 +5,7 @@ use Rattle.liquid_lexer.specs.Tokens.{tokens_view}
 use Rattle.liquid_syntax.proofs.ConditionTurns.{conjunctions_then}
 use Rattle.liquid_syntax.proofs.condition_items.read_condition.Given as goal
 
--- what is left gives, behind the conjunctions that were read, what the whole gives
+-- what is left gives, after the conjunctions that were read, what the whole gives
 abbrev pub invariant-conjunctions : goal.invariant-conjunctions
 invariant-conjunctions l =
     condition_of (tokens_view l.initial.items.items) ≡ conjunctions_then (map atoms_view l.conjunctions.items) (condition_of (tokens_view l.items.items))

@@ -5,7 +5,7 @@ use Rattle.liquid_lexer.specs.Tokens.{tokens_view}
 use Rattle.liquid_syntax.proofs.ConditionTurns.{atoms_then}
 use Rattle.liquid_syntax.proofs.condition_items.read_conjunction.Given as goal
 
--- what is left gives, behind the atoms that were read, what the whole gives
+-- what is left gives, after the atoms that were read, what the whole gives
 abbrev pub invariant-atoms : goal.invariant-atoms
 invariant-atoms l = record {
   taken : condition_of (tokens_view l.initial.items.items) ≡ atoms_then (map atom_view l.atoms.items) (condition_of (tokens_view l.items.items));

@@ -5,11 +5,11 @@ use Rattle.liquid_syntax.specs.Bound.{ends_pairs, one_first, bound_pairs}
 use Rattle.liquid_syntax.specs.Flats.{binding_view, bindings_view}
 use Rattle.liquid_syntax.proofs.ChainCalls.{faulted}
 use Rattle.liquid_syntax.proofs.ItemLaws.{one_shorter}
-use Rattle.liquid_syntax.proofs.Repetition.{behind_is, behind_those, last_loop, more_loop, stuck_loop}
+use Rattle.liquid_syntax.proofs.Repetition.{after_is, after_those, last_loop, more_loop, stuck_loop}
 use Rattle.liquid_syntax.proofs.pair_items.read_pairs.Goals as goal
 
 pub pairs-init : goal.pairs-init
-pairs-init c = behind_is (bindings_view c.args.first.items) (bound_pairs c.args.style (tokens_view c.args.items.items))
+pairs-init c = after_is (bindings_view c.args.first.items) (bound_pairs c.args.style (tokens_view c.args.items.items))
 
 pub returns-in_default-clause-pairs : goal.returns-in_default-clause-pairs
 returns-in_default-clause-pairs c =
@@ -25,7 +25,7 @@ pairs-preserved c =
     let left = tokens_view c.next_of.new.items.items in
     l.invariant
     ∙ more_loop (one_first s) (ends_pairs s) (one_shorter s) (bindings_view l.pairs.items) (tokens_view l.items.items) (binding_view c.in-Some.pair) left (sym c.ends_pairs.ensures ∙ c.pairs-test.true) (sym c.in-Some.ensures.value)
-    ∙ ap (λ ps. behind_those ps (bound_pairs s left)) (sym (ap (map binding_view) c.in_ok-push.ensures.items ∙ map-append _ _ _))
+    ∙ ap (λ ps. after_those ps (bound_pairs s left)) (sym (ap (map binding_view) c.in_ok-push.ensures.items ∙ map-append _ _ _))
 
 pub returns-clause-pairs : goal.returns-clause-pairs
 returns-clause-pairs c =

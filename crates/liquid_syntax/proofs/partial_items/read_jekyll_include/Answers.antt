@@ -8,20 +8,20 @@ use Rattle.liquid_syntax.specs.Flats.{bindings_view}
 use Rattle.liquid_syntax.specs.Classification.{leaf_or}
 use Rattle.liquid_syntax.specs.PartialItems.{jekyll_node}
 use Rattle.liquid_syntax.specs.declared.pair_items.PairStyle.TheVariants.{JekyllInclude}
-use Rattle.liquid_syntax.proofs.PartialTurns.{jekyll_read, jekyll_refused, jekyll_stuck, pairs_alone, unread}
+use Rattle.liquid_syntax.proofs.PartialTurns.{jekyll_read, jekyll_refused, jekyll_stuck, pairs_alone, malformed}
 use Rattle.liquid_syntax.proofs.ChainCalls.{faulted}
 use Rattle.liquid_syntax.proofs.partial_items.read_jekyll_include.Goals as goal
 
 pub returns-in_default-clause-statement : goal.returns-in_default-clause-statement
 returns-in_default-clause-statement c =
     let e = c.expected_before.result in
-    unread jekyll_node _ e (faulted e _ (jekyll_stuck c.args.items.items c.in_default.ensures.spelling))
+    malformed jekyll_node _ e (faulted e _ (jekyll_stuck c.args.items.items c.in_default.ensures.spelling))
 
 pub returns-in_err-all-clause-statement : goal.returns-in_err-all-clause-statement
 returns-in_err-all-clause-statement c =
     let e = c.in_err-all.field-0.0 in
     let p = err_from_is_err_and c.from_residual-in_err-all.result c.from_residual-in_err-all.ensures.1 in
-    rw (p.1, p.2) (unread jekyll_node _ e (jekyll_refused c.args.items.items (tokens_view c.next_spelled.new.items.items) (expression_view c.in-Some.value) c.in-Some.spelling.now c.in-Some.ensures.value c.in-Some.ensures.spelling
+    rw (p.1, p.2) (malformed jekyll_node _ e (jekyll_refused c.args.items.items (tokens_view c.next_spelled.new.items.items) (expression_view c.in-Some.value) c.in-Some.spelling.now c.in-Some.ensures.value c.in-Some.ensures.spelling
     c.new.result.items e c.new.ensures.items c.in_err-all.ensures.pairs))
 
 pub returns-clause-statement : goal.returns-clause-statement

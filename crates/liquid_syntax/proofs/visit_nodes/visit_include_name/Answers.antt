@@ -1,5 +1,5 @@
 use Rattle.std.proofs.Common.{◌≡◌, length, arith}
-use Rattle.liquid_syntax.proofs.ToldNodes.{no_include, an_include}
+use Rattle.liquid_syntax.proofs.NodeNames.{no_include, an_include}
 use Rattle.liquid_syntax.proofs.visit_nodes.visit_include_name.Goals as goal
 
 pub returns-then-is_empty : goal.returns-then-is_empty

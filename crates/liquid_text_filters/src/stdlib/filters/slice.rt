@@ -8,7 +8,7 @@ ghost use Rattle.liquid_text_filters.specs.Slice.{items_part, part, slice_answer
 ghost use Rattle.liquid_text_filters.specs.Laws.{SlicesInput};
 
 use crate::argument::whole_or;
-use crate::part::{after_characters, first_characters};
+use crate::text_parts::{after_characters, first_characters};
 use liquid_core::{Error, ErrorKind, Filter, Result, Value};
 use liquid_filter_base::text_of;
 use std::alloc::Global;

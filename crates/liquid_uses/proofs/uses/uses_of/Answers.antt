@@ -7,7 +7,7 @@ pub returns-then-covers-clause-covers : goal.returns-then-covers-clause-covers
 returns-then-covers-clause-covers c = λ answers. c.covers.ensures answers c.if-covers.true
 
 pub returns-then-covers-clause-alone : goal.returns-then-covers-clause-alone
-returns-then-covers-clause-alone c = sees_alone (uses_view c.in_ok-settled.settled) c.args.partials.now c.args.template.now (λ answers. c.covers.ensures answers c.if-covers.true)
+returns-then-covers-clause-alone c = sees_alone (uses_view c.in_ok-fixpoint.fixpoint) c.args.partials.now c.args.template.now (λ answers. c.covers.ensures answers c.if-covers.true)
 
 pub returns-else-covers-clause-covers : goal.returns-else-covers-clause-covers
 returns-else-covers-clause-covers c =

@@ -21,7 +21,7 @@ use denote.Triple.Walked.{Stays, stay_dropped, walk_of, Goes-dropped}
 use Rattle.std.specs.declared.option.Option.TheVariants.{Some}
 use Rattle.std.proofs.ResultValues.{and_tt}
 use Rattle.std.proofs.raw_atomic.Walks.{proved_at, leaves}
-use Rattle.liquid_c.proofs.MachineValues.{Z, Kept, Handle, two, three, two_good, kept_out, sealed_in}
+use Rattle.liquid_c.proofs.MachineValues.{Z, RawBox, Handle, two, three, two_good, raw_box_out, sealed_in}
 use Rattle.liquid_c.specs.contracts.handle.Handle.seal.{ended, clauses}
 use Rattle.liquid_c.specs.contracts.handle.Handle.seal.Key.{name as #self}
 use Rattle.liquid_c.proofs.handle.Handle.seal.Statement.{statement}
@@ -30,11 +30,11 @@ use Rattle.liquid_c.proofs.handle.Handle.seal.Code as code
 pub seal_spec : {M : Type 1} → statement M
 seal_spec 𝓤 𝓛 𝓜 𝓡 wired =
     let H = 𝓛.H in let 𝓣 = tables 𝓤 H 𝓜 𝓡 𝓡.env in let c = clauses 𝓛 𝓜.mem 𝓡.returns in
-    let hs : Stays ended.signature.params ended.kept = (stay_dropped (plain (λ _. Kept)) yes, tt) in
-    proved_at 𝓛 ended hs c 𝓜 𝓡 (Goes-dropped 𝓛 0 (plain (λ _. Kept)) yes (λ κs x f. refl), tt) #self code.function (code.unfolded 𝓤 H 𝓜 𝓡 wired) (λ z are.
+    let hs : Stays ended.signature.params ended.kept = (stay_dropped (plain (λ _. RawBox)) yes, tt) in
+    proved_at 𝓛 ended hs c 𝓜 𝓡 (Goes-dropped 𝓛 0 (plain (λ _. RawBox)) yes (λ κs x f. refl), tt) #self code.function (code.unfolded 𝓤 H 𝓜 𝓡 wired) (λ z are.
     let κs = z.0.0 in let d = z.0.3.0 in let Post : Val → SProp 𝓤 = (walk_of 𝓛 ended hs c).post z in let Run : List Val → SProp 𝓤 = λ ws. WpFn 𝓤 H 𝓣.C 𝓣.Λ code.function ws Post in
     qed 𝓛 ((‵ ftrue ⊛ ‵ (owns (types_at ended.signature.params κs) z.0.3 z.0.4)) ∷ raw ((c κs z.0.3).requires z.1) ∷ []) ∵ split ! $ move ! (1 ∷ []) $ fsplit ! $
-    kept_out ! d z.0.4.0 (λ b o h e ws fits. let w : Val = two (vptr b o) h in let v : Val = three (vbool true) (vptr b o) h in
+    raw_box_out ! d z.0.4.0 (λ b o h e ws fits. let w : Val = two (vptr b o) h in let v : Val = three (vbool true) (vptr b o) h in
     suffices ! (Run (w ∷ [])) (subst (λ (us : List Val). ent 𝓤 (Run (w ∷ [])) (Run us)) (sym (λ i. ws i ++ [])) (id⊢ 𝓤 (Run (w ∷ [])))) $
     enter ! 𝓣.C 𝓣.Λ code.function (w ∷ []) Post $ alloc_all ! (λ l. pass_all ! refl (two_good b o h fits, tt) $
     sets ! (of_opd ! (get_in ! (fld ! refl (stop !)) (sub ! 0 refl (whole !)))) refl (tt, tt) $ sets ! (of_opd ! (get_in ! (fld ! refl (stop !)) (sub ! 1 refl (whole !)))) refl fits $

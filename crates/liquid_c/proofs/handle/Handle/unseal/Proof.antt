@@ -27,7 +27,7 @@ use Rattle.std.proofs.alloc.Shapes.{after}
 use Rattle.std.proofs.option.Made.{Some-of, none_of}
 use Rattle.std.proofs.ResultValues.{and_tt}
 use Rattle.std.proofs.raw_atomic.Walks.{proved_at, leaves}
-use Rattle.liquid_c.proofs.MachineValues.{Z, Kept, Handle, two, three, two_good, kept_in, either_owned, handle_out}
+use Rattle.liquid_c.proofs.MachineValues.{Z, RawBox, Handle, two, three, two_good, raw_box_in, either_owned, handle_out}
 use Rattle.liquid_c.specs.contracts.handle.Handle.unseal.{ended, clauses}
 use Rattle.liquid_c.specs.contracts.handle.Handle.unseal.Key.{name as #self}
 use Rattle.liquid_c.proofs.handle.Handle.unseal.Statement.{statement}
@@ -42,27 +42,27 @@ unseal_spec 𝓤 𝓛 𝓜 𝓡 wired =
     let Out : RattleType = type_at ended.signature.result κs in
     qed 𝓛 ((‵ ftrue ⊛ ‵ (owns (types_at ended.signature.params κs) z.0.3 z.0.4)) ∷ raw ((c κs z.0.3).requires z.1) ∷ []) ∵ split ! $ move ! (1 ∷ []) $ fsplit ! $
     handle_out ! d z.0.4.0 (λ h ws fits. either_owned ! d.alloc d.there d.at d.held
-    (λ b o x ey ep ex. let w : Val = three (vbool true) (vptr b o) h in let told : z.0.4.0 ≡ w ∷ [] = ws ∙ (λ i. three (vbool (ey i)) (ptr_val (ep i)) h ∷ []) in
-    let made : Val = two (vptr b o) h in let v : Val = live 1 (vcons made vnil) in let r : Kept.Denot = record { ptr = block_ptr b o; alloc = d.alloc; value = x } in
+    (λ b o x ey ep ex. let w : Val = three (vbool true) (vptr b o) h in let only_value : z.0.4.0 ≡ w ∷ [] = ws ∙ (λ i. three (vbool (ey i)) (ptr_val (ep i)) h ∷ []) in
+    let made : Val = two (vptr b o) h in let v : Val = live 1 (vcons made vnil) in let r : RawBox.Denot = record { ptr = block_ptr b o; alloc = d.alloc; value = x } in
     let good : T (has_ty (layout Out) v) × WT v = (and_tt _ (two_good b o h fits).0, (record { fits = lit< tt }, ((two_good b o h fits).1, tt))) in
-    suffices ! (Run (w ∷ [])) (subst (λ (us : List Val). ent 𝓤 (Run (w ∷ [])) (Run us)) (sym (λ i. told i ++ [])) (id⊢ 𝓤 (Run (w ∷ [])))) $
+    suffices ! (Run (w ∷ [])) (subst (λ (us : List Val). ent 𝓤 (Run (w ∷ [])) (Run us)) (sym (λ i. only_value i ++ [])) (id⊢ 𝓤 (Run (w ∷ [])))) $
     enter ! 𝓣.C 𝓣.Λ fn (w ∷ []) Post $ alloc_all ! (λ l. let Ev = env fn.locals l in pass_all ! refl ((and_tt (has_ty (layout Z) h) fits.0, (tt, (tt, (fits.1, tt)))), tt) $
     sets ! (of_opd ! (get_in ! (fld ! refl (stop !)) (sub ! 0 refl (whole !)))) refl (tt, tt) $ sets ! (of_opd ! (get_in ! (fld ! refl (stop !)) (sub ! 1 refl (whole !)))) refl (tt, tt) $
     sets ! (of_opd ! (get_in ! (fld ! refl (stop !)) (sub ! 2 refl (whole !)))) refl fits $ sets ! (of_opd ! (get ! refl)) refl (tt, tt) $
     first ! $ branches ! (get ! refl) (λ _. sets ! (of_opd ! (get ! refl)) refl (tt, tt) $ sets ! (agg ! (and_then ! (get ! refl) (and_then ! (get ! refl) (no_more !)))) refl (two_good b o h fits) $
     sets_last ! (agg ! (and_then ! (lit ! tt) (and_then ! (get ! refl) (no_more !)))) refl good $ exec ! 𝓣.C 𝓣.Λ Ev (after 5 fn.body) (at_ret Ev Post) $ sets ! (of_opd ! (get ! refl)) refl good $
-    kept_in ! b o h d.alloc x $ use1 𝓛 (‵ (Out.own_val (Some r) (v ∷ []))) (Some-of 𝓛 Kept r made) $
+    raw_box_in ! b o h d.alloc x $ use1 𝓛 (‵ (Out.own_val (Some r) (v ∷ []))) (Some-of 𝓛 RawBox r made) $
     use0 𝓛 (raw (fact 𝓤 (Some x ≡ d.held))) (fact_i 𝓤 (Some x ≡ d.held) (emp 𝓤) (sym ex)) $ nothing ! $ nothing ! $ fjoin ! $
     returns ! (look_at ! 0 refl) $ free_all ! refl $ keep ! (4 ∷ 0 ∷ 2 ∷ 1 ∷ []) $ by ! (leaves 𝓛 ended hs c z v (Some r) (tt, tt) (tt, tt))) (λ wrong. absurd wrong)))
-    (λ ey ex. let w : Val = three (vbool false) (ptr_val d.at) h in let told : z.0.4.0 ≡ w ∷ [] = ws ∙ (λ i. three (vbool (ey i)) (ptr_val d.at) h ∷ []) in let v : Val = live 0 vnil in
+    (λ ey ex. let w : Val = three (vbool false) (ptr_val d.at) h in let only_value : z.0.4.0 ≡ w ∷ [] = ws ∙ (λ i. three (vbool (ey i)) (ptr_val d.at) h ∷ []) in let v : Val = live 0 vnil in
     let at = ((rawptr_Lawful 𝓛).typed d.at _ refl).0 in
-    suffices ! (Run (w ∷ [])) (subst (λ (us : List Val). ent 𝓤 (Run (w ∷ [])) (Run us)) (sym (λ i. told i ++ [])) (id⊢ 𝓤 (Run (w ∷ [])))) $
+    suffices ! (Run (w ∷ [])) (subst (λ (us : List Val). ent 𝓤 (Run (w ∷ [])) (Run us)) (sym (λ i. only_value i ++ [])) (id⊢ 𝓤 (Run (w ∷ [])))) $
     enter ! 𝓣.C 𝓣.Λ fn (w ∷ []) Post $ alloc_all ! (λ l. let Ev = env fn.locals l in
     pass_all ! refl ((both (has_ty (layout RawPtr) (ptr_val d.at)) (has_ty (layout Z) h && true) at.0 (and_tt (has_ty (layout Z) h) fits.0), (tt, (at.1, (fits.1, tt)))), tt) $
     sets ! (of_opd ! (get_in ! (fld ! refl (stop !)) (sub ! 0 refl (whole !)))) refl (tt, tt) $ sets ! (of_opd ! (get_in ! (fld ! refl (stop !)) (sub ! 1 refl (whole !)))) refl at $
     sets ! (of_opd ! (get_in ! (fld ! refl (stop !)) (sub ! 2 refl (whole !)))) refl fits $ sets ! (of_opd ! (get ! refl)) refl (tt, tt) $
     first ! $ branches ! (get ! refl) (λ wrong. absurd wrong) (λ _. sets_last ! (agg ! (and_then ! (lit ! tt) (no_more !))) refl (tt, (record { fits = lit< tt }, tt)) $
     exec ! 𝓣.C 𝓣.Λ Ev (after 5 fn.body) (at_ret Ev Post) $ sets ! (of_opd ! (get ! refl)) refl (tt, (record { fits = lit< tt }, tt)) $
-    use0 𝓛 (‵ (Out.own_val None (v ∷ []))) (none_of 𝓛 Kept) $
+    use0 𝓛 (‵ (Out.own_val None (v ∷ []))) (none_of 𝓛 RawBox) $
     use0 𝓛 (raw (fact 𝓤 (None ≡ d.held))) (fact_i 𝓤 (None ≡ d.held) (emp 𝓤) (sym ex)) $ nothing ! $ nothing ! $ fjoin ! $
     returns ! (look_at ! 0 refl) $ free_all ! refl $ keep ! (6 ∷ 0 ∷ 2 ∷ 1 ∷ []) $ by ! (leaves 𝓛 ended hs c z v None (tt, tt) (tt, tt)))))))

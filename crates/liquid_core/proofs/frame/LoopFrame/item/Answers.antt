@@ -9,7 +9,7 @@ pub returns-then-place-items-clause-value : goal.returns-then-place-items-clause
 returns-then-place-items-clause-value c =
     let t = c.args.self.now in
     let at : t.from + c.if-self.place ≡ place_of t.reversed t.from t.count t.at = elim c.if-self.branch [ then-self w ↦ rw (w.if-self, w.place-is) (search rules) | else-self w ↦ rw (w.if-self, w.place-is) (search rules) ] in
-    rw (sym at, c.in-Lent.is) (ap view c.index-items-place.is ∙ item_within c.in-Lent.items.now (t.from + c.if-self.place) _ c.if-place-items.true)
+    rw (sym at, c.in-Borrowed.is) (ap view c.index-items-place.is ∙ item_within c.in-Borrowed.items.now (t.from + c.if-self.place) _ c.if-place-items.true)
 
 pub returns-then-place-len-clause-value : goal.returns-then-place-len-clause-value
 returns-then-place-len-clause-value c =

@@ -14,7 +14,7 @@ use Rattle.liquid_evaluation.specs.Calls.{Call, applied}
 use Rattle.liquid_evaluation.specs.Tree.{FilterCall}
 use Rattle.liquid_evaluation.specs.ChainView.{chain_view, chain_filter_view}
 use Rattle.liquid_evaluation.specs.Evaluation.{answers_with, calls_by, chain_value, entry_value}
-use Rattle.liquid_evaluation.proofs.Calls.{chain_from, chain_faulted, faulted_told, filters_more, filters_stop, filters_end}
+use Rattle.liquid_evaluation.proofs.Calls.{chain_from, chain_faulted, faulted_again, filters_more, filters_stop, filters_end}
 use Rattle.liquid_evaluation.proofs.chain.FilterChain.evaluate_cow.Goals as goal
 
 pub returns-in_err-value-clause-value : goal.returns-in_err-value-clause-value
@@ -33,7 +33,7 @@ returns-in-Err-clause-value g c =
     let value_with : Call → Result Datum ErrorKind = λ call. applied (call ∷ []) (cow_view c.loop-stored.value) e in
     filters_stop (answers_with (g.H.NamedFilters.named c.args.host.now)) chain_filter_view (chain_value (answers_with (g.H.NamedFilters.named c.args.host.now)) (chain_view c.args.self.now) e) e c.deref-stored-items.result.now c.loop-stored.stored-index c.stored-item.result (cow_view c.loop-stored.value)
     c.of_filter.result.kind c.loop-stored-test.true c.stored-item.is
-    (faulted_told c.in-Err.fault.kind c.of_filter.result.kind (value_with _) c.of_filter.ensures (subst (λ call. Faulted c.in-Err.fault.kind (value_with call)) c.call.ensures.call (rw c.as_value.ensures at c.in-Err.ensures)))
+    (faulted_again c.in-Err.fault.kind c.of_filter.result.kind (value_with _) c.of_filter.ensures (subst (λ call. Faulted c.in-Err.fault.kind (value_with call)) c.call.ensures.call (rw c.as_value.ensures at c.in-Err.ensures)))
     c.loop-stored.invariant
 
 pub loop-stored-preserved : goal.loop-stored-preserved

@@ -16,7 +16,7 @@ use Rattle.liquid_site.specs.Contents.{Contents, page_of, pages_from_scratch}
 use Rattle.liquid_site.specs.PartViews.{site_parts_view}
 use Rattle.liquid_site.specs.declared.parts.SiteParts.{SiteParts}
 use Rattle.liquid_site.specs.Steps.{set_page, remove_page, set_partial, remove_partial, set_value, remove_value, set_data, stepped, saturated_sum, mentioning}
-use Rattle.liquid_site.proofs.Kept.{without_shown}
+use Rattle.liquid_site.proofs.KeptPages.{without_shown}
 use Rattle.liquid_site.proofs.Shown.{shown_as, shown_without}
 use Rattle.liquid_site.proofs.Applying.{applied, held_there, no_partial, no_value, raised_none, value_there}
 use Rattle.liquid_site.proofs.parts.SiteParts.apply.Goals as goal

@@ -4,7 +4,7 @@ use Rattle.liquid_syntax.specs.Templates.{tree_of}
 use Rattle.liquid_site.specs.Contents.{page_of, all_pages, pages_from_scratch}
 use Rattle.liquid_site.specs.PartViews.{site_parts_view}
 use Rattle.liquid_site.specs.Parts.{by_name, trees_in}
-use Rattle.liquid_site.proofs.Kept.{put_shown}
+use Rattle.liquid_site.proofs.KeptPages.{put_shown}
 use Rattle.liquid_site.proofs.Placing.{names_shown}
 use Rattle.liquid_site.proofs.Shown.{same_names, shown_as, shown_put}
 use Rattle.liquid_site.proofs.parts.SiteParts.set_page.Goals as goal

@@ -4,7 +4,7 @@ use Rattle.liquid_language.specs.declared.language.BlockKind.{BlockKind}
 use Rattle.liquid_lexer.specs.Tokens.{tokens_view}
 use Rattle.liquid_lexer.specs.declared.fault.FaultKind.TheVariants.{Expected}
 use Rattle.liquid_syntax.specs.Classification.{block_statement}
-use Rattle.liquid_syntax.specs.declared.build.Stage.TheVariants.{First, Last, Unkept}
+use Rattle.liquid_syntax.specs.declared.build.Stage.TheVariants.{First, Last, CaseHead}
 use Rattle.liquid_syntax.specs.inside.Classifies.{Classifies}
 use Rattle.liquid_syntax.proofs.Begun.{begins_as, begins_kind, begins_place, two_read}
 use Rattle.liquid_syntax.proofs.classify.blocks.read_block.Goals as goal
@@ -45,13 +45,13 @@ returns-in-Capture-clause-place c = begins_place blocks.Capture Last c.read_capt
 pub returns-in-Case-clause-statement : goal.returns-in-Case-clause-statement
 returns-in-Case-clause-statement c =
     subst (λ (k : BlockKind). Classifies (block_statement (tokens_view c.args.items.items) k) c.begins-in-Case.result) (sym c.in-Case.is)
-    (begins_as blocks.Case Unkept c.read_case.result c.begins-in-Case.result c.begins-in-Case.ensures _ c.read_case.ensures.node)
+    (begins_as blocks.Case CaseHead c.read_case.result c.begins-in-Case.result c.begins-in-Case.ensures _ c.read_case.ensures.node)
 
 pub returns-in-Case-clause-kind : goal.returns-in-Case-clause-kind
-returns-in-Case-clause-kind c = begins_kind blocks.Case Unkept c.read_case.result c.begins-in-Case.result c.begins-in-Case.ensures Expected c.read_case.ensures.kind
+returns-in-Case-clause-kind c = begins_kind blocks.Case CaseHead c.read_case.result c.begins-in-Case.result c.begins-in-Case.ensures Expected c.read_case.ensures.kind
 
 pub returns-in-Case-clause-place : goal.returns-in-Case-clause-place
-returns-in-Case-clause-place c = begins_place blocks.Case Unkept c.read_case.result c.begins-in-Case.result c.begins-in-Case.ensures (length c.args.at.now) c.read_case.ensures.place
+returns-in-Case-clause-place c = begins_place blocks.Case CaseHead c.read_case.result c.begins-in-Case.result c.begins-in-Case.ensures (length c.args.at.now) c.read_case.ensures.place
 
 pub returns-in-For-clause-statement : goal.returns-in-For-clause-statement
 returns-in-For-clause-statement c =

@@ -3,7 +3,7 @@ use Rattle.liquid_lexer.specs.Tokens.{tokens_view}
 use Rattle.liquid_syntax.specs.Loops.{parts_in, parts_after}
 use Rattle.liquid_syntax.proofs.loop_items.Loop.take_parts.Given as goal
 
--- what is left gives, behind the parts that were read, what the whole gives
+-- what is left gives, after the parts that were read, what the whole gives
 abbrev pub invariant-parts : goal.invariant-parts
 invariant-parts l = record {
   read : parts_after l.kind (parts_in l.initial.self) (tokens_view l.initial.items.items) ≡ parts_after l.kind (parts_in l.self) (tokens_view l.items.items);

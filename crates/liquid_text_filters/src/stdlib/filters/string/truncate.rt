@@ -9,7 +9,7 @@ ghost use Rattle.liquid_filter_base.specs.Stands.{Stands};
 ghost use Rattle.liquid_text_filters.specs.Laws.{TruncatesText, TruncatesTextByWords};
 
 use crate::argument::{text_or, whole_or};
-use crate::part::{before, joined};
+use crate::text_parts::{before, joined};
 use liquid_core::{Filter, Result, Value};
 use liquid_filter_base::text_of;
 use std::alloc::Global;

@@ -14,8 +14,8 @@ returns-then-is_whole c = λ w h. c.is_whole.ensures (present (known_needs (chai
 
 pub returns-in-Kind : goal.returns-in-Kind
 returns-in-Kind c = λ w h.
-    let told = rw c.deref.ensures.value at c.after_kind.ensures in
-    subst (λ f. sees c.args.self (present (filter_needs f (map expression_view c.args.filter.now.arguments.items) w)) ≡ true) (sym (ap stored_view c.in-Kind.is)) (told w h)
+    let passes = rw c.deref.ensures.value at c.after_kind.ensures in
+    subst (λ f. sees c.args.self (present (filter_needs f (map expression_view c.args.filter.now.arguments.items) w)) ≡ true) (sym (ap stored_view c.in-Kind.is)) (passes w h)
 
 pub returns-in-Host : goal.returns-in-Host
 returns-in-Host c = λ w h. never (sees c.refused.result w) (c.refused.ensures w) h _

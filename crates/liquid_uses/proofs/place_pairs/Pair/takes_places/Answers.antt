@@ -10,8 +10,8 @@ loop-key-preserved c = λ h.
     let e : Entry = (c.in-Some.key.now, c.in-Some.asked.now) in
     let rest : c.loop-key.key-iterator ≡ e ∷ c.next.new.self = search rules in
     let passed : c.takes_place.result ≡ true = search rules in
-    let told = rw c.as_str.ensures.value at c.takes_place.ensures in
-    c.loop-key.invariant (subst (λ es. Placed c.args.self (members_view es)) (sym rest) (placed_more c.args.self (string_bytes c.in-Some.key.now) (use_view c.in-Some.asked.now) (members_view c.next.new.self) (told passed) h))
+    let passes = rw c.as_str.ensures.value at c.takes_place.ensures in
+    c.loop-key.invariant (subst (λ es. Placed c.args.self (members_view es)) (sym rest) (placed_more c.args.self (string_bytes c.in-Some.key.now) (use_view c.in-Some.asked.now) (members_view c.next.new.self) (passes passed) h))
 
 pub returns : goal.returns
 returns c = λ h.

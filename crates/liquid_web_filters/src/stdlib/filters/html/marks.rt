@@ -43,7 +43,7 @@ pub fn without_tags(alloc: Global, text: &str) -> Result<String>
 }
 
 /// One pass: each opener is cut with what follows it, up to the end of the first closer after it. A
-/// text without a pair of them is lent.
+/// text without a pair of them is borrowed.
 fn without_pairs<'a>(
     alloc: Global,
     text: &'a str,

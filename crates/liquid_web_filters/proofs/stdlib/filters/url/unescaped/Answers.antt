@@ -14,4 +14,4 @@ returns-in-Ok c =
 pub returns-in-Err-Utf8 : goal.returns-in-Err-Utf8
 returns-in-Err-Utf8 c =
     let raw = c.percent_decode.ensures.bytes ∙ ap percent_decode (c.deref.ensures.value ∙ c.in_ok-bytes.ensures) in
-    faulted (text_of_bytes (unescaped c.args.text.now)) _ c.new.result.kind c.new.ensures.told (of_bytes_not _ (λ h. let f = c.in-Err-Utf8.ensures.utf8 (subst IsUtf8 (sym raw) h) in cc (f, c.in-Err-Utf8.field-0-is))) refl
+    faulted (text_of_bytes (unescaped c.args.text.now)) _ c.new.result.kind c.new.ensures.kind_or_memory (of_bytes_not _ (λ h. let f = c.in-Err-Utf8.ensures.utf8 (subst IsUtf8 (sym raw) h) in cc (f, c.in-Err-Utf8.field-0-is))) refl

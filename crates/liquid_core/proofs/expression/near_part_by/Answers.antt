@@ -1,7 +1,0 @@
-use Rattle.liquid_core.specs.LoopFrames.{frame_object}
-use Rattle.liquid_core.proofs.Said.{said_by_literal}
-use Rattle.liquid_core.proofs.expression.near_part_by.Goals as goal
-
-pub returns-in-Literal : goal.returns-in-Literal
-returns-in-Literal c e local =
-    said_by_literal c.near_stepped.result (frame_object c.args.frame.now local) c.args.index.now c.in-Literal.part e c.in-Literal.is (c.near_stepped.ensures local)

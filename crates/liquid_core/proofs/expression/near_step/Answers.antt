@@ -1,6 +1,0 @@
-use Rattle.std.proofs.Common.{subst, sym, ap, ◌∙◌}
-use Rattle.liquid_core.proofs.Said.{by_literal}
-use Rattle.liquid_core.proofs.expression.near_step.Goals as goal
-
-pub returns-in-Literal : goal.returns-in-Literal
-returns-in-Literal c e = by_literal c.near_part.result c.args.value.now c.args.index.now c.in-Literal.part e c.in-Literal.is c.near_part.ensures

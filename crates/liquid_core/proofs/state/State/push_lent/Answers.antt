@@ -1,7 +1,0 @@
-use Rattle.std.proofs.Common.{refl}
-use Rattle.liquid_core.specs.declared.frame.Scope.TheVariants.{Lent}
-use Rattle.liquid_core.proofs.States.{pushed_turn}
-use Rattle.liquid_core.proofs.state.State.push_lent.Goals as goal
-
-pub returns-clause-pushed : goal.returns-clause-pushed
-returns-clause-pushed c = pushed_turn c.args.self.now _ (Lent c.args.name c.args.value) c.in_ok-push.ensures.items refl refl refl refl refl refl refl
