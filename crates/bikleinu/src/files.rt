@@ -1,4 +1,6 @@
 //! The files of pages.
+ghost use Rattle.std.specs.Prelude.{◌≡◌, None};
+
 use liquid_command_files::put_file;
 use liquid_records::{Disk, DiskFault};
 use std::{fs, io};
@@ -13,12 +15,17 @@ pub struct Files<'r> {
 }
 
 impl<'r> Files<'r> {
-    pub fn new(rt: &'r HostRuntime) -> Files<'r> {
+    /// The files of the system, none of which was refused yet.
+    pub fn new(rt: &'r HostRuntime) -> Files<'r>
+        ensures { result.reason ≡ None }
+    {
         Files { rt, reason: None }
     }
 
     /// Why the last file that was refused was.
-    pub fn reason(&self) -> Option<io::ErrorKind> {
+    pub fn reason(&self) -> Option<io::ErrorKind>
+        ensures { result ≡ self.now.reason }
+    {
         self.reason
     }
 

@@ -32,13 +32,16 @@ pub fn language_with(alloc: Global, filters: Option<FilterSet>) -> Result<Langua
     }
 }
 
-/// The page of a template, within limits, with the filters of a set where one is given.
+/// The page of a template, within limits, with the filters of a set where one is given. Without a
+/// set the answer is `Memory` where a growth was refused, and no other kind.
 pub fn page_with(
     alloc: Global,
     filters: Option<FilterSet>,
     parts: &PageParts,
     limits: Limits,
-) -> Result<LimitedPage> {
+) -> Result<LimitedPage>
+    ensures memory { filters ≡ None → IfErr result (λ e. e.kind ≡ ErrorKind.Memory) }
+{
     match filters {
         Some(FilterSet::Jekyll) => jekyll_page(alloc, parts, limits),
         Some(FilterSet::Shopify) => shopify_page(alloc, parts, limits),

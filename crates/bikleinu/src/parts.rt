@@ -1,4 +1,6 @@
 //! What pages are made of.
+ghost use Rattle.std.specs.Prelude.{◌≡◌};
+
 use crate::filters::language_with;
 use liquid_command_files::{Source, Sources, Stop, print_fault, read_data};
 use liquid_commands::{Inputs, Missing};
@@ -71,7 +73,11 @@ pub fn read_pattern(rt: &HostRuntime, pattern: &str) -> Result<Template, Stop> {
 
 impl PageParts {
     /// Puts nil into the data where they lack what the template asks for, unless that is a fault.
-    pub fn complete(&mut self, alloc: Global, missing: Missing) -> Result<(), Stop> {
+    pub fn complete(&mut self, alloc: Global, missing: Missing) -> Result<(), Stop>
+        ensures template { self.new.template ≡ self.old.template }
+        ensures partials { self.new.partials ≡ self.old.partials }
+        ensures strict { missing ≡ Missing.Fault → self.new.«data» ≡ self.old.«data» }
+    {
         if let Missing::Nil = missing {
             let uses = uses_of(alloc, &self.template, &self.partials)?;
             complete(alloc, &mut self.data, &uses)?;

@@ -15,7 +15,12 @@ pub struct Progress {
 }
 
 impl Progress {
-    pub fn new(rt: &HostRuntime, is_shown: bool) -> Progress {
+    /// No page yet, and no record that failed. With `is_shown` the pages so far are printed, once a
+    /// second.
+    pub fn new(rt: &HostRuntime, is_shown: bool) -> Progress
+        ensures pages { result.pages ≡ 0 }
+        ensures failed { result.failed ≡ 0 }
+    {
         let began = if is_shown {
             Instant::now(rt).ok()
         } else {

@@ -1,4 +1,6 @@
 //! Where the pages of a merge go.
+ghost use Rattle.std.specs.Prelude.{◌≡◌, true};
+
 use crate::files::{Files, Nowhere};
 use crate::report::Report;
 use liquid_command_files::{Stop, print_text};
@@ -21,8 +23,10 @@ pub enum Target<'r> {
 }
 
 impl<'r> Target<'r> {
-    /// The files of a merge, or their names alone.
-    pub fn files(rt: &'r HostRuntime, merge: Merge, dry_run: bool) -> Target<'r> {
+    /// The files of a merge, or their names alone: a dry run writes no file.
+    pub fn files(rt: &'r HostRuntime, merge: Merge, dry_run: bool) -> Target<'r>
+        ensures names { dry_run ≡ true → result ≡ Target.Names merge }
+    {
         if dry_run {
             Target::Names(merge)
         } else {

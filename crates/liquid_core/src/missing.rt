@@ -165,7 +165,7 @@ fn push_advice(
     if state.sees_alone() {
         return write!(
             words,
-            "; a partial that `render` runs sees only what is passed to it, as by `{quoted}: {quoted}`"
+            "; a partial that `render` runs sees only what it is given, as by `{quoted}: {quoted}`"
         );
     }
     if variable.indexes.is_empty() {
