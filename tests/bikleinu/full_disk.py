@@ -1,4 +1,5 @@
-"""Merges onto a disk that fills up: a page that doesn't fit leaves no part, each record that fails is reported, and `--from` goes on."""
+"""Merges where files can't grow, and onto a disk that is full: a page that doesn't fit leaves no part. Each record whose file would be
+too large is reported, a full disk ends the merge by one line, and `--from` goes on."""
 import os
 import resource
 import subprocess
@@ -24,6 +25,26 @@ def filled_up(program):
         if (left := pages_in(room)) != {name: text for name, text in wanted.items() if int(name) <= FIT}:
             return f"it leaves {sorted(left)}, or a part"
         printed, status = merged(program, room, "--from", str(FIT + 1))
+        return None if status == 0 and pages_in(room) == wanted else f"gone on with: status {status}, and it prints {printed}"
+
+
+def filled(program):
+    """What went wrong of a merge onto a disk that is full at its second page, and of the merge that goes on from there, or None."""
+    with tempfile.TemporaryDirectory() as room:
+        with open(f"{room}/t", "w", encoding="utf-8") as file:
+            file.write("{{ id }}")
+        with open(f"{room}/r", "w", encoding="utf-8") as file:
+            file.writelines(f'{{"id": {n}}}\n' for n in range(1, 5))
+        os.mkdir(f"{room}/mails")
+        os.symlink("/dev/full", f"{room}/mails/2")
+        printed, status = merged(program, room)
+        if (printed, status) != (["error: record 2: the file `mails/2` can't be written: No space left on device"], 1):
+            return f"status {status}, and it prints {printed}"
+        os.remove(f"{room}/mails/2")
+        if (left := pages_in(room)) != {"1": "1"}:
+            return f"it leaves {sorted(left)}"
+        printed, status = merged(program, room, "--from", "2")
+        wanted = {str(n): str(n) for n in range(1, 5)}
         return None if status == 0 and pages_in(room) == wanted else f"gone on with: status {status}, and it prints {printed}"
 
 

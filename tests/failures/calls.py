@@ -9,6 +9,7 @@ PAGE = {"t": LINES + "{% include 'foot' %}", "d": DATA, "parts/foot": "yours, {{
 RECORDS = "".join(f'{{"id": {n}, "name": "Name {n}"}}\n' for n in (1, 2, 3, 3, 4))
 SITE = {"site/data": DATA, "site/partials/foot": "yours, {{ name }}", "out/a": "old", "out/notes": "no page"}
 SITE |= {f"site/pages/{name}": f"{name}: {LINES}{{% include 'foot' %}}" for name in "abc"}
+SOUND = {"site/a": "a {{ name }}", "site/b": "b", "site/sub/c": "c", "d": DATA}
 BROKEN = {"site/a": "{% fro %}{{ b | upcas }}", "site/b": "{{", "site/c": "{% else if %}"}
 
 
@@ -24,6 +25,8 @@ class Call:
     prints: bool = True
     # whether it goes on without a folder that can't be read, also where memory was refused, and may then find something else
     passes_over: bool = False
+    # whether it is a merge: a record that runs out of memory stops no other, and a full disk is reported once
+    merges: bool = False
 
     @property
     def program(self):
@@ -40,15 +43,18 @@ CALLS = [
     Call("a page in a file", "bikleinu render t d -p parts -o p", {**PAGE, "p": "old"}, prints=False),
     Call("a page of Jekyll's", "bikleinu render t d -p parts --filters jekyll --dates --decimals text", {**PAGE, "t": LINES + "{{ name | jsonify }}"}),
     Call("a page of Shopify's", "bikleinu render t d -p parts --filters shopify --max-bytes 9999", {**PAGE, "t": LINES + "{{ 5 | money }}"}),
-    Call("pages in files", "bikleinu merge t r -d d -p parts -o 'm/{{ id }}'", {**PAGE, "r": RECORDS, "m/2": "old"}, prints=False),
-    Call("pages on standard output", "bikleinu merge t - -d d -p parts --progress", PAGE, RECORDS),
-    Call("pages of a table", "bikleinu merge t r.csv -d d -p parts -o '{{ id }}'", {**PAGE, "r.csv": "id,name\n1,Ada\n2\n3,Cy\n"}, prints=False),
-    Call("names of files", "bikleinu merge t r -d d -p parts -o 'm/{{ id }}' --dry-run", {**PAGE, "r": RECORDS}),
+    Call("pages in files", "bikleinu merge t r -d d -p parts -o 'm/{{ id }}'", {**PAGE, "r": RECORDS, "m/2": "old"}, prints=False, merges=True),
+    Call("pages on standard output", "bikleinu merge t - -d d -p parts --progress", PAGE, RECORDS, merges=True),
+    Call("pages of a table", "bikleinu merge t r.csv -d d -p parts -o '{{ id }}'", {**PAGE, "r.csv": "id,name\n1,Ada\n2\n3,Cy\n"}, prints=False, merges=True),
+    Call("names of files", "bikleinu merge t r -d d -p parts -o 'm/{{ id }}' --dry-run", {**PAGE, "r": RECORDS}, merges=True),
     Call("faults of a folder", "bikleinu check site -d d", {**BROKEN, "d": DATA}, passes_over=True),
+    Call("a folder without a fault", "bikleinu check site -d d", SOUND, passes_over=True),
+    Call("a folder within another, twice", "bikleinu check site -p site/sub", SOUND, passes_over=True),
     Call("faults as JSON", "bikleinu check site -p site --format json", BROKEN, passes_over=True),
     Call("paths", "bikleinu paths t -p parts", PAGE),
     Call("a schema", "bikleinu paths t -p parts --format json-schema", PAGE),
     Call("a site", "liquid_folder site site/data out", SITE, "site/pages/a\nsite/data\n\nnowhere\n", prints=False),
+    Call("a site after a line that names no file of it", "liquid_folder site site/data out", SITE, "nowhere\nsite/pages/a\n\n", prints=False),
 ]
 
 # calls that are killed, most of whose time goes into what they write

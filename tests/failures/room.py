@@ -67,9 +67,15 @@ class Room:
         """What is wrong where something was refused, of which a line has to tell in these words, or None."""
         if status != 1:
             return f"status {status}: {printed[-2:]}"
-        if not plain.page.startswith(page) and not self.call.passes_over:
+        if not self.is_part(plain.page, page) and not self.call.passes_over:
             return f"it writes {page[-80:]!r}"
         if not any(wanted.fullmatch(line) for line in printed if line not in plain.printed):
             return f"it prints {printed[-3:]}"
         strange = self.strange_files(plain)
         return f"it leaves {strange}" if strange else None
+
+    def is_part(self, whole, page):
+        """Whether the page is a beginning of the whole one, or, of a merge, lacks one record's."""
+        front = len(os.path.commonprefix([whole, page]))
+        back = len(os.path.commonprefix([whole[::-1], page[::-1]])) if self.call.merges else 0
+        return front + back >= len(page)

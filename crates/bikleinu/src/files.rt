@@ -1,7 +1,7 @@
 //! The files of pages.
 ghost use Rattle.std.specs.Prelude.{◌≡◌, None};
 
-use liquid_command_files::put_file;
+use liquid_disk::put_file;
 use liquid_records::{Disk, DiskFault};
 use std::{fs, io};
 
@@ -10,7 +10,7 @@ use std::{fs, io};
 #[derive(Drop)]
 pub struct Files<'r> {
     rt: &'r HostRuntime,
-    /// Why the last file that was refused was.
+    /// Why the system last refused a file.
     reason: Option<io::ErrorKind>,
 }
 
@@ -22,7 +22,7 @@ impl<'r> Files<'r> {
         Files { rt, reason: None }
     }
 
-    /// Why the last file that was refused was.
+    /// Why the system last refused a file.
     pub fn reason(&self) -> Option<io::ErrorKind>
         ensures { result ≡ self.now.reason }
     {

@@ -39,8 +39,8 @@ fn main(rt: HostRuntime) -> ExitCode {
 fn run(rt: &HostRuntime) -> Result<(), Stop> {
     let words = words_given(rt)?;
     match program(rt.alloc())?.try_get_matches_from(words.as_slice()) {
-        Ok(matches) => called(rt, &matches),
-        Err(answer) => answered(rt, &explained(rt.alloc(), answer, &words)?),
+        Ok(matches) => run_command(rt, &matches),
+        Err(answer) => print_help_or_error(rt, &explained(rt.alloc(), answer, &words)?),
     }
 }
 
@@ -56,7 +56,7 @@ fn explained(alloc: Global, answer: clap::Error, words: &[String]) -> Result<cla
 }
 
 /// Does what a command is called for.
-fn called(rt: &HostRuntime, matches: &ArgMatches<'_>) -> Result<(), Stop> {
+fn run_command(rt: &HostRuntime, matches: &ArgMatches<'_>) -> Result<(), Stop> {
     match matches.subcommand() {
         Some(("render", given)) => render(rt, &render_call(rt.alloc(), given)?),
         Some(("merge", given)) => merge(rt, &merge_call(rt.alloc(), given)?),
@@ -73,7 +73,7 @@ fn checked(rt: &HostRuntime, given: &ArgMatches<'_>) -> Result<(), Stop> {
 }
 
 /// Prints the help or the version that was asked for, or what is wrong in the command line.
-fn answered(rt: &HostRuntime, answer: &clap::Error) -> Result<(), Stop> {
+fn print_help_or_error(rt: &HostRuntime, answer: &clap::Error) -> Result<(), Stop> {
     if answer.kind() == ErrorKind::OutOfMemory {
         return Err(Stop::from(AllocError));
     }

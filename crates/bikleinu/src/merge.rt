@@ -2,7 +2,7 @@
 use crate::parts::{PageParts, read_parts, read_pattern};
 use crate::progress::Progress;
 use crate::report::Report;
-use crate::target::Target;
+use crate::target::{RecordOutcome, Target};
 use liquid_command_files::{Sources, Stop, called, form_of};
 use liquid_commands::{MergeCall, is_selected};
 use liquid_excerpts::{Reason, ShownPath};
@@ -13,7 +13,8 @@ use std::alloc::AllocError;
 use std::io::Read;
 use std::{fs, io};
 
-/// Writes the page of each record. A record's fault is printed, and stops no other.
+/// Writes the page of each record. A record's fault is printed, and stops no other: the merge ends
+/// where the disk is full, or where the records or standard output fail.
 pub fn merge(rt: &HostRuntime, call: &MergeCall<'_>) -> Result<(), Stop> {
     let parts = read_parts(rt, &call.inputs)?;
     let PageParts {
@@ -64,7 +65,7 @@ impl Run<'_> {
             if !self.advance(&mut records)? {
                 break;
             }
-            target = self.one(target, &records, &mut progress)?;
+            self.one(&mut target, &records, &mut progress)?;
         }
         progress.end(self.rt)
     }
@@ -104,27 +105,38 @@ impl Run<'_> {
         Ok(false)
     }
 
-    /// Merges one record.
-    fn one<'r, R: Read + Drop>(
+    /// Merges one record. A disk that is full ends the merge, and that is printed.
+    fn one<R: Read + Drop>(
         &self,
-        target: Target<'r>,
+        target: &mut Target<'_>,
         records: &Records<R>,
         progress: &mut Progress,
-    ) -> Result<Target<'r>, Stop> {
+    ) -> Result<(), Stop> {
         let number = records.number();
-        let form = form_of(self.call.inputs.forms);
-        let (target, outcome) = match records.data(self.rt.alloc(), form)? {
-            Ok(data) => target.take(self.rt, self.call.separator, number as usize, data)?,
-            Err(fault) => (target, Err(Report::from(fault))),
+        let Err(report) = self.taken(target, records)? else {
+            progress.done(self.rt);
+            return Ok(());
         };
-        match outcome {
-            Ok(()) => progress.done(self.rt),
-            Err(report) => {
-                report.print(self.rt, &self.sources, number, records.text());
-                progress.failed(self.rt);
-            }
+        report.print(self.rt, &self.sources, number, records.text());
+        if report.ends_merge() {
+            return Err(Stop::Faulted);
         }
-        Ok(target)
+        progress.failed(self.rt);
+        Ok(())
+    }
+
+    /// Takes one record: whether its page is there, or why not.
+    fn taken<R: Read + Drop>(
+        &self,
+        target: &mut Target<'_>,
+        records: &Records<R>,
+    ) -> Result<RecordOutcome, Stop> {
+        let number = records.number() as usize;
+        match records.data(self.rt.alloc(), form_of(self.call.inputs.forms)) {
+            Ok(Ok(data)) => target.take(self.rt, self.call.separator, number, data),
+            Ok(Err(fault)) => Ok(Err(Report::from(fault))),
+            Err(fault) => Ok(Err(Report::Fault(fault))),
+        }
     }
 
     fn unreadable(&self, kind: io::ErrorKind) -> Stop {

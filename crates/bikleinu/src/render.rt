@@ -1,8 +1,9 @@
 //! The command `render`.
 use crate::filters::page_with;
 use crate::parts::read_parts;
-use liquid_command_files::{Sources, Stop, end_line, print_text, put_file};
+use liquid_command_files::{Sources, Stop, end_line, print_text};
 use liquid_commands::RenderCall;
+use liquid_disk::put_file;
 use liquid_lib::{LimitReached, LimitedPage, Limits, Page};
 
 /// Writes the page of a template. A page that ends by a fault goes to standard output up to there,

@@ -1,6 +1,11 @@
 //! What is printed of a record that has no page.
+ghost use Rattle.std.specs.Prelude.{◌≡◌};
+ghost use Rattle.bikleinu.specs.Reports.{ends_merge};
+
 use liquid_command_files::{Sources, print_excerpt};
-use liquid_excerpts::system_words;
+use liquid_core::Error;
+use liquid_disk::is_disk_full;
+use liquid_excerpts::{ShownFault, system_words};
 use liquid_records::{Failure, Why};
 use liquid_row_records::{RecordFault, RowFault};
 use std::{fmt, io};
@@ -14,8 +19,10 @@ pub enum Report {
     NoRow(RowFault),
     /// There is no page.
     NoPage(Why),
-    /// The page is in no file; and why the last file that was refused was.
+    /// The page is in no file; and why the system last refused a file.
     NoFile(Failure, Option<io::ErrorKind>),
+    /// Memory ran out for it.
+    Fault(Error),
 }
 
 impl From<RecordFault> for Report {
@@ -29,6 +36,16 @@ impl From<RecordFault> for Report {
 }
 
 impl Report {
+    /// Whether no further page can be written: the disk that refused this one is full.
+    pub fn ends_merge(&self) -> bool
+        ensures { result ≡ ends_merge self.now }
+    {
+        match self {
+            Report::NoFile(Failure::Unwritten(_), Some(kind)) => is_disk_full(*kind),
+            _ => false,
+        }
+    }
+
     /// Prints it in one line on standard error, and the line of the text that a fault is in. What
     /// that refuses is lost.
     pub fn print(&self, rt: &HostRuntime, sources: &Sources, number: u64, text: &str) {
@@ -50,6 +67,10 @@ impl fmt::Display for Report {
             Report::NotUtf8 => f.write_str("its line isn't UTF-8"),
             Report::NoRow(fault) => write!(f, "{fault}"),
             Report::NoPage(why) => write!(f, "{why}"),
+            Report::Fault(fault) => {
+                let fault = ShownFault { fault };
+                write!(f, "{fault}")
+            }
             Report::NoFile(failure, reason) => match (failure, reason) {
                 (Failure::Unwritten(_), Some(kind)) => {
                     let words = system_words(*kind);

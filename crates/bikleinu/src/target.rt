@@ -4,22 +4,38 @@ ghost use Rattle.std.specs.Prelude.{◌≡◌, true};
 use crate::files::{Files, Nowhere};
 use crate::report::Report;
 use liquid_command_files::{Stop, print_text};
+use liquid_core::Result as Answer;
 use liquid_records::{Disk, Fate, Job, Made, Merge, RecordResult};
 use liquid_row_records::RecordData;
 use std::alloc::Global;
 
 /// Whether a record's page is there, or why not.
-pub type Taken = Result<(), Report>;
+pub type RecordOutcome = Result<(), Report>;
 
 /// Where the pages of a merge go.
 #[derive(Drop)]
 pub enum Target<'r> {
     /// Each into the file of its name.
-    Files(Merge, Files<'r>),
+    Files(FileMerge<'r>),
     /// Nowhere: the names of the files are printed.
     Names(Merge),
     /// All to standard output.
     Output(Job),
+}
+
+/// A merge, and the files that its pages go into.
+#[derive(Drop)]
+pub struct FileMerge<'r> {
+    merge: Merge,
+    files: Files<'r>,
+}
+
+impl FileMerge<'_> {
+    /// Takes one record: whether its file has its page, or why not.
+    fn take(&mut self, alloc: Global, number: usize, data: RecordData<'_>) -> RecordOutcome {
+        let fate = merged(alloc, &mut self.merge, number, data, &mut self.files);
+        file_outcome(fate, &self.files)
+    }
 }
 
 impl<'r> Target<'r> {
@@ -30,36 +46,28 @@ impl<'r> Target<'r> {
         if dry_run {
             Target::Names(merge)
         } else {
-            Target::Files(merge, Files::new(rt))
+            Target::Files(FileMerge {
+                merge,
+                files: Files::new(rt),
+            })
         }
     }
 
-    /// Takes one record: whether its page is there, or why not.
+    /// Takes one record: whether its page is there, or why not. Standard output that can't be
+    /// written ends the merge.
     pub fn take(
-        self,
+        &mut self,
         rt: &HostRuntime,
         separator: &str,
         number: usize,
         data: RecordData<'_>,
-    ) -> Result<(Target<'r>, Taken), Stop> {
+    ) -> Result<RecordOutcome, Stop> {
         match self {
-            Target::Files(merge, files) => {
-                let mut files = files;
-                let (merge, fate) = merged(rt.alloc(), merge, number, data, &mut files)?;
-                let taken = written(fate, &files);
-                Ok((Target::Files(merge, files), taken))
-            }
+            Target::Files(file_merge) => Ok(file_merge.take(rt.alloc(), number, data)),
             Target::Names(merge) => {
-                let (merge, fate) = merged(rt.alloc(), merge, number, data, &mut Nowhere)?;
-                Ok((Target::Names(merge), named(rt, fate)?))
+                print_name(rt, merged(rt.alloc(), merge, number, data, &mut Nowhere))
             }
-            Target::Output(job) => {
-                let (job, outcome) = match data {
-                    RecordData::Text(text) => job.made_of_json(rt.alloc(), text, None)?,
-                    RecordData::Data(data) => job.made(rt.alloc(), data, None)?,
-                };
-                Ok((Target::Output(job), printed(rt, separator, outcome)?))
-            }
+            Target::Output(job) => printed(rt, separator, made(rt.alloc(), job, data)),
         }
     }
 }
@@ -67,45 +75,60 @@ impl<'r> Target<'r> {
 /// A record that a merge takes.
 fn merged<D: Disk>(
     alloc: Global,
-    merge: Merge,
+    merge: &mut Merge,
     number: usize,
     data: RecordData<'_>,
     disk: &mut D,
-) -> Result<(Merge, Fate), Stop> {
+) -> Answer<Fate> {
     match data {
-        RecordData::Text(text) => Ok(merge.take_json(alloc, number, text, disk)?),
-        RecordData::Data(data) => Ok(merge.take(alloc, number, data, disk)?),
+        RecordData::Text(text) => merge.take_json(alloc, number, text, disk),
+        RecordData::Data(data) => merge.take(alloc, number, data, disk),
+    }
+}
+
+/// A record whose page goes into no file.
+fn made(alloc: Global, job: &mut Job, data: RecordData<'_>) -> Answer<RecordResult<Made>> {
+    match data {
+        RecordData::Text(text) => job.make_page_of_json(alloc, text, None),
+        RecordData::Data(data) => job.make_page(alloc, data, None),
     }
 }
 
 /// A record whose page was to go into a file.
-fn written(fate: Fate, files: &Files<'_>) -> Taken {
+fn file_outcome(fate: Answer<Fate>, files: &Files<'_>) -> RecordOutcome {
     match fate {
-        Ok(_) => Ok(()),
-        Err(failure) => Err(Report::NoFile(failure, files.reason())),
+        Ok(Ok(_)) => Ok(()),
+        Ok(Err(failure)) => Err(Report::NoFile(failure, files.reason())),
+        Err(fault) => Err(Report::Fault(fault)),
     }
 }
 
 /// A record whose file's name is printed.
-fn named(rt: &HostRuntime, fate: Fate) -> Result<Taken, Stop> {
+fn print_name(rt: &HostRuntime, fate: Answer<Fate>) -> Result<RecordOutcome, Stop> {
     match fate {
-        Ok(name) => {
+        Ok(Ok(name)) => {
             print_text(rt, name.as_str())?;
             print_text(rt, "\n")?;
             Ok(Ok(()))
         }
-        Err(failure) => Ok(Err(Report::NoFile(failure, None))),
+        Ok(Err(failure)) => Ok(Err(Report::NoFile(failure, None))),
+        Err(fault) => Ok(Err(Report::Fault(fault))),
     }
 }
 
 /// A record whose page is printed.
-fn printed(rt: &HostRuntime, separator: &str, outcome: RecordResult<Made>) -> Result<Taken, Stop> {
+fn printed(
+    rt: &HostRuntime,
+    separator: &str,
+    outcome: Answer<RecordResult<Made>>,
+) -> Result<RecordOutcome, Stop> {
     match outcome {
-        Ok(Made { name: _, text }) => {
+        Ok(Ok(Made { name: _, text })) => {
             print_text(rt, text.as_str())?;
             print_text(rt, separator)?;
             Ok(Ok(()))
         }
-        Err(why) => Ok(Err(Report::NoPage(why))),
+        Ok(Err(why)) => Ok(Err(Report::NoPage(why))),
+        Err(fault) => Ok(Err(Report::Fault(fault))),
     }
 }

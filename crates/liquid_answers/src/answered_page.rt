@@ -6,9 +6,9 @@ ghost use Rattle.liquid_answers.specs.Answering.{IsAnswered, IsShort};
 ghost use Rattle.liquid_answers.specs.Lacking.{IsLacking};
 
 use crate::answers::Answers;
-use crate::asked::Asked;
 use crate::filter::TableFilters;
 use crate::lacking::{Lacking, lacking_of, list_lacking};
+use crate::missing_calls::MissingCalls;
 use liquid_core::{ErrorKind, Object, Result};
 use liquid_lib::{LimitedPage, Surroundings, Template, render_hosted_page};
 use std::alloc::Global;
@@ -63,7 +63,7 @@ fn lacking_in(
     ensures lacking { IfOk result (λ it. IfSome it (IsLacking table.now)) }
     ensures memory { IfErr result (λ e. e.kind ≡ ErrorKind.Memory) }
 {
-    let asked = RefCell::new(Asked::new(alloc));
+    let asked = RefCell::new(MissingCalls::new(alloc));
     let borrowed = Some(&asked);
     let filters = TableFilters {
         table,

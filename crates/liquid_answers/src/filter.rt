@@ -7,7 +7,7 @@ ghost use Rattle.liquid_model.specs.declared.error.ErrorKind.TheVariants.{Unsupp
 ghost use Rattle.liquid_answers.specs.Tables.{answers_by, stand_in};
 
 use crate::answers::{Answers, call_of, has_name};
-use crate::asked::{Asked, note};
+use crate::missing_calls::{MissingCalls, note};
 use liquid_core::{Error, ErrorKind, NamedFilters, Result, Value};
 use std::alloc::{AllocError, Global};
 use std::cell::RefCell;
@@ -18,7 +18,7 @@ use std::cell::RefCell;
 pub(crate) struct TableFilters<'t, 'c> {
     pub(crate) table: &'t Answers,
     /// Where the lacking calls are kept.
-    pub(crate) asked: Option<&'c RefCell<Asked>>,
+    pub(crate) asked: Option<&'c RefCell<MissingCalls>>,
 }
 
 impl NamedFilters for TableFilters<'_, '_> {
@@ -54,7 +54,7 @@ fn unsupported(alloc: Global) -> Error
 }
 
 /// What is answered to a call that the table lacks.
-fn answer_without(asked: Option<&RefCell<Asked>>, call: Value) -> Result<Value>
+fn answer_without(asked: Option<&RefCell<MissingCalls>>, call: Value) -> Result<Value>
     ensures { Tells view result (stand_in (is_some asked.entry)) }
 {
     match asked {

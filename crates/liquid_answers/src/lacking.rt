@@ -9,8 +9,8 @@ ghost use Rattle.liquid_answers.specs.declared.answers.Answers.{Answers};
 ghost use Rattle.liquid_answers.specs.inside.Listed.{AreListed, IsAfter, IsNone, comma_after};
 
 use crate::answers::Answers;
-use crate::asked::{Asked, MOST_BYTES, MOST_CALLS};
 use crate::json::json_of;
+use crate::missing_calls::{MOST_BYTES, MOST_CALLS, MissingCalls};
 use liquid_core::{ErrorKind, Result, Value};
 use std::alloc::Global;
 
@@ -111,7 +111,7 @@ fn separator(calls: &[Value]) -> &str
 }
 
 /// Those of the calls that a table lacks, as far as they may be listed.
-pub(crate) fn list_lacking(alloc: Global, asked: Asked, table: &Answers) -> Result<Listed>
+pub(crate) fn list_lacking(alloc: Global, asked: MissingCalls, table: &Answers) -> Result<Listed>
     ensures listed { IfOk result (AreListed table.now) }
     ensures memory { IfErr result (λ e. e.kind ≡ ErrorKind.Memory) }
 {

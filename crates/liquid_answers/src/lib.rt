@@ -4,10 +4,10 @@
 
 mod answered_page;
 mod answers;
-mod asked;
 mod filter;
 mod json;
 mod lacking;
+mod missing_calls;
 
 pub use answered_page::{Answered, render_page_answered};
 pub use answers::{Answer, Answers};

@@ -13,7 +13,7 @@ use Rattle.liquid_evaluation.specs.Tree.{Nodes}
 use Rattle.liquid_json.specs.Asked.{IsAlikeData}
 use Rattle.liquid_json.specs.Json.{data_of}
 use Rattle.liquid_lib.specs.HostedPages.{hosted_page}
-use Rattle.liquid_lib.specs.Pages.{fault_of, fresh, page_over}
+use Rattle.liquid_lib.specs.Pages.{fault_of, new_run_environment, page_over}
 use Rattle.liquid_syntax.specs.Templates.{partials_of}
 use Rattle.liquid_syntax.specs.declared.partials.Partials.{Partials}
 use Rattle.liquid_uses.specs.Covered.{SeesAlone}
@@ -27,7 +27,7 @@ hosted_same : (uses : UsesByName) (p : Partials) (nodes : Nodes) (ps qs : Pairs)
 unfolding map_of hosted_page
 hosted_same uses p nodes ps qs alike alone named depth =
     let U = uses_view uses in
-    let runs = alone named depth (fresh (map_of ps)) (fresh (map_of qs))
+    let runs = alone named depth (new_run_environment (map_of ps)) (new_run_environment (map_of qs))
     (record { local = λ name. alike_same (U name) _; assigned = λ name. alike_same (U name) _; counters = λ name. alike_same (U name) _; globals = alike; registers = refl }) in
     λ i. record { text = runs.text i; fault = fault_of (runs.end i) }
 

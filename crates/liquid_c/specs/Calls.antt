@@ -143,7 +143,7 @@ bound_of asked = if nat_eq asked 0 then usual_levels else asked
 
 -- ---- a partial put in
 
--- the handle holds these partials, of which one reaches so many levels
+-- the handle holds these partials, and `levels` is the most that any of them reaches
 abbrev pub Holds : Option HandleContent → List (Text × Nodes) → TemplateLevels → Type 0
 Holds (Some (Own (content.Partials p most))) trees levels =
     (partials_of p ≡ trees) × (most ≡ levels)

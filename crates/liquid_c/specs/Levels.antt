@@ -1,8 +1,8 @@
 -- How many levels a run can reach: a page is one, and each block and each partial that runs in it
 -- is one more.
 --     levels_in ns      what a list of nodes reaches by itself
---     most_levels depth t p      what a template of these levels reaches, with partials of those,
--- of which so many may be nested
+--     most_levels depth t p      what a template of the levels t reaches, where partials of the
+--                                levels p may be nested up to that depth
 --
 -- Each body counts, whether it would run or not. A tag that runs a partial counts as if it could
 -- name any of them, since its name may be a value of the data.

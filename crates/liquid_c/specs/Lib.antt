@@ -11,3 +11,4 @@ pub mod Parts
 pub mod ResultStored
 pub mod Shared
 pub mod Tables
+pub mod inside

@@ -16,7 +16,7 @@ ghost use Rattle.liquid_c.specs.declared.refusal.Refusal.{Refusal};
 
 use crate::content::Content;
 use crate::handle::Handle;
-use crate::handle_content::{HandleContent, seen};
+use crate::handle_content::{HandleContent, held_content};
 use crate::refusal::Refusal;
 use liquid_answers::{Answer, Answers};
 use liquid_core::{ErrorKind, Object, Value, look_up};
@@ -49,7 +49,7 @@ pub extern "C" fn bikleinu_calls(alloc: Global, calls: &mut Handle) -> usize
     ensures same { calls.new.held ≡ calls.old.held }
 {
     let held = calls.take(alloc);
-    let count = count_seen(seen(&held));
+    let count = count_seen(held_content(&held));
     calls.put(alloc, held);
     count
 }
@@ -83,8 +83,8 @@ pub extern "C" fn bikleinu_answer(
     let mut held = answers.take_to_change(alloc);
     let held_calls = calls.take(alloc);
     let held_data = data.take(alloc);
-    let call = call_seen(seen(&held_calls), number);
-    let answer = answer_seen(alloc, seen(&held_data));
+    let call = call_seen(held_content(&held_calls), number);
+    let answer = answer_seen(alloc, held_content(&held_data));
     let status = put(alloc, &mut held, call, answer);
     answers.put(alloc, held);
     calls.put(alloc, held_calls);
@@ -111,7 +111,7 @@ pub extern "C" fn bikleinu_refuse(
 {
     let mut held = answers.take_to_change(alloc);
     let held_calls = calls.take(alloc);
-    let call = call_seen(seen(&held_calls), number);
+    let call = call_seen(held_content(&held_calls), number);
     let status = refuse(alloc, &mut held, call, kind, message);
     answers.put(alloc, held);
     calls.put(alloc, held_calls);

@@ -9,7 +9,7 @@ ghost use Rattle.liquid_c.specs.Shared.{shared_content};
 
 use crate::content::Content;
 use crate::handle::Handle;
-use crate::handle_content::seen;
+use crate::handle_content::held_content;
 use crate::named::list_of;
 use crate::refusal::{Refusal, store_result};
 use crate::render::partials_held;
@@ -36,13 +36,17 @@ pub extern "C" fn bikleinu_paths(
 {
     let held_template = template.take(alloc);
     let held_partials = partials.take(alloc);
-    let answer = asked(alloc, seen(&held_template), seen(&held_partials));
+    let answer = paths_result(
+        alloc,
+        held_content(&held_template),
+        held_content(&held_partials),
+    );
     template.put(alloc, held_template);
     partials.put(alloc, held_partials);
     store_result(alloc, answer, made)
 }
 
-fn asked(
+fn paths_result(
     alloc: Global,
     template: Option<&Content>,
     partials: Option<&Content>,
@@ -54,10 +58,10 @@ fn asked(
         return Err(Refusal::OtherHandle);
     };
     let none = Partials::new(alloc);
-    asked_over(alloc, template, partials_held(partials, &none))
+    paths_result_over(alloc, template, partials_held(partials, &none))
 }
 
-fn asked_over(
+fn paths_result_over(
     alloc: Global,
     template: &Template,
     partials: Option<&Partials>,

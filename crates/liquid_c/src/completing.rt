@@ -11,7 +11,7 @@ ghost use Rattle.liquid_c.specs.Shared.{shared_content};
 
 use crate::content::Content;
 use crate::handle::Handle;
-use crate::handle_content::seen;
+use crate::handle_content::held_content;
 use crate::refusal::{Refusal, store_result};
 use liquid_completion::complete;
 use liquid_core::{Object, Result as Answer, Uses};
@@ -36,7 +36,7 @@ pub extern "C" fn bikleinu_complete(
 {
     let held_data = data.take(alloc);
     let held_paths = paths.take(alloc);
-    let answer = completion(alloc, seen(&held_data), seen(&held_paths));
+    let answer = completion(alloc, held_content(&held_data), held_content(&held_paths));
     data.put(alloc, held_data);
     paths.put(alloc, held_paths);
     store_result(alloc, answer, made)

@@ -6,7 +6,7 @@ ghost use Rattle.liquid_c.specs.Shared.{shared_content};
 
 use crate::content::Content;
 use crate::handle::Handle;
-use crate::handle_content::seen;
+use crate::handle_content::held_content;
 use crate::refusal::{Refusal, store_result};
 use liquid_core::Uses;
 use liquid_json::data_for;
@@ -28,7 +28,7 @@ pub extern "C" fn bikleinu_data_for(
     ensures paths { paths.new.held ≡ paths.old.held }
 {
     let held = paths.take(alloc);
-    let answer = data_asked(alloc, source, seen(&held));
+    let answer = data_asked(alloc, source, held_content(&held));
     paths.put(alloc, held);
     store_result(alloc, answer, made)
 }

@@ -55,8 +55,8 @@ fn regained(held: HandleContent) -> HandleContent
     }
 }
 
-/// What an owner of a box, or of none, holds.
-pub(crate) fn seen(held: &Option<Box<HandleContent>>) -> Option<&Content>
+/// What an optional box holds.
+pub(crate) fn held_content(held: &Option<Box<HandleContent>>) -> Option<&Content>
     ensures { option_map (λ c. c.now) result ≡ shared_content (option_map (λ b. b.value) held.now) }
 {
     match held {

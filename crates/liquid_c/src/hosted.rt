@@ -9,7 +9,7 @@ ghost use Rattle.liquid_c.specs.Shared.{shared_content};
 
 use crate::content::Content;
 use crate::handle::Handle;
-use crate::handle_content::seen;
+use crate::handle_content::held_content;
 use crate::refusal::{Refusal, store_result};
 use crate::render::{
     Allowed, RenderLimits, allowed_by, data_held, empty_data, levels_held, limits_of, partials_held,
@@ -51,10 +51,10 @@ pub extern "C" fn bikleinu_render_with(
     let answer = page(
         alloc,
         CallContents {
-            template: seen(&held_template),
-            data: seen(&held_data),
-            partials: seen(&held_partials),
-            answers: seen(&held_answers),
+            template: held_content(&held_template),
+            data: held_content(&held_data),
+            partials: held_content(&held_partials),
+            answers: held_content(&held_answers),
         },
         allowed,
     );

@@ -59,8 +59,8 @@ impl TemplateLevels {
         }
     }
 
-    /// Whether a template of these levels could reach more than the bound, with partials of which
-    /// so many may be nested.
+    /// Whether a template of these levels could reach more than `bound` levels, where `depth`
+    /// partials of the levels `partials` may be nested.
     #[tactic(auto, unfolding(crate::specs::Levels::most_levels), using(crate::proofs::Blocks::same_side))]
     pub(crate) fn pass(self, partials: TemplateLevels, depth: u32, bound: u32) -> bool
         ensures { result ≡ nat_lt bound (most_levels depth self partials) }

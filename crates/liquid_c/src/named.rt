@@ -11,7 +11,7 @@ ghost use Rattle.liquid_c.specs.Shared.{shared_content};
 
 use crate::content::Content;
 use crate::handle::Handle;
-use crate::handle_content::seen;
+use crate::handle_content::held_content;
 use crate::refusal::{Refusal, store_result};
 use crate::render::partials_held;
 use liquid_answers::json_of;
@@ -37,7 +37,11 @@ pub extern "C" fn bikleinu_names(
 {
     let held_template = template.take(alloc);
     let held_partials = partials.take(alloc);
-    let answer = names(alloc, seen(&held_template), seen(&held_partials));
+    let answer = names(
+        alloc,
+        held_content(&held_template),
+        held_content(&held_partials),
+    );
     template.put(alloc, held_template);
     partials.put(alloc, held_partials);
     store_result(alloc, answer, made)

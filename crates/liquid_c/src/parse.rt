@@ -6,7 +6,7 @@ ghost use Rattle.liquid_c.specs.Shared.{shared_content};
 
 use crate::content::Content;
 use crate::handle::Handle;
-use crate::handle_content::seen;
+use crate::handle_content::held_content;
 use crate::levels::levels_in;
 use crate::refusal::{Refusal, store_result};
 use liquid_lib::{Language, parse_with_source};
@@ -27,7 +27,7 @@ pub extern "C" fn bikleinu_parse(
     ensures same { language.new.held ≡ language.old.held }
 {
     let held = language.take(alloc);
-    let answer = template(alloc, seen(&held), source);
+    let answer = template(alloc, held_content(&held), source);
     language.put(alloc, held);
     store_result(alloc, answer, made)
 }

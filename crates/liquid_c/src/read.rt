@@ -7,7 +7,7 @@ ghost use Rattle.liquid_c.specs.Shared.{shared_content};
 
 use crate::content::Content;
 use crate::handle::Handle;
-use crate::handle_content::seen;
+use crate::handle_content::held_content;
 use liquid_core::{Error, Location, Origin};
 use std::alloc::Global;
 
@@ -20,7 +20,7 @@ pub extern "C" fn bikleinu_length(alloc: Global, handle: &mut Handle, part: u32)
     ensures same { handle.new.held ≡ handle.old.held }
 {
     let held = handle.take(alloc);
-    let length = part_seen(seen(&held), part).len();
+    let length = part_seen(held_content(&held), part).len();
     handle.put(alloc, held);
     length
 }
@@ -41,7 +41,7 @@ pub extern "C" fn bikleinu_copy(
     ensures same { handle.new.held ≡ handle.old.held }
 {
     let held = handle.take(alloc);
-    let count = copy_front(part_seen(seen(&held), part).as_bytes(), into);
+    let count = copy_front(part_seen(held_content(&held), part).as_bytes(), into);
     handle.put(alloc, held);
     count
 }
@@ -61,7 +61,7 @@ pub extern "C" fn bikleinu_location(
     ensures same { handle.new.held ≡ handle.old.held }
 {
     let held = handle.take(alloc);
-    let origin = match location_seen(seen(&held)) {
+    let origin = match location_seen(held_content(&held)) {
         Some(location) => {
             *line = location.line;
             *column = location.column;

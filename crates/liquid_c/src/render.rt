@@ -5,13 +5,14 @@ ghost use Rattle.liquid_core.specs.Held.{held as map_held};
 ghost use Rattle.liquid_syntax.specs.Templates.{partials_of, tree_of};
 ghost use Rattle.liquid_c.specs.Calls.{IsRendering, OfBoth, ShowsNodes, ShowsUnless, ShowsWithin};
 ghost use Rattle.liquid_c.specs.Calls.{bound_of, data_of_handle, has_limit, levels_of_handle};
+ghost use Rattle.liquid_c.specs.inside.AskedLimits.{asked_limit};
 ghost use Rattle.liquid_c.specs.Calls.{partials_of_handle, usual_levels};
 ghost use Rattle.liquid_c.specs.ResultStored.{ResultStored};
 ghost use Rattle.liquid_c.specs.Shared.{shared_content};
 
 use crate::content::Content;
 use crate::handle::Handle;
-use crate::handle_content::seen;
+use crate::handle_content::held_content;
 use crate::levels::TemplateLevels;
 use crate::refusal::{Refusal, store_result};
 use liquid_core::Object;
@@ -23,8 +24,8 @@ use std::collections::BTreeMap;
 /// MiB, with partials of up to a depth of 200.
 const USUAL_LEVELS: u32 = 400;
 
-/// What a caller allows a run. A number that is 0 stands for what is usual: so many levels, and any
-/// number of bytes and turns.
+/// What a caller allows a run. A number that is 0 stands for what is usual: `USUAL_LEVELS` levels,
+/// and any number of bytes and turns.
 #[repr(C)]
 #[derive(Clone, Copy, Drop)]
 pub struct RenderLimits {
@@ -49,7 +50,7 @@ pub(crate) struct Allowed {
     turns: u64,
 }
 
-/// Renders a template in a run of its own, over data and with partials, of which so many may be
+/// Renders a template in a run of its own, over data and with partials, of which `depth` may be
 /// nested. A handle that holds nothing stands for empty data, or for no partials.
 ///
 /// `made` then holds the page. 0, or the number of the fault that the page ended by: its text goes
@@ -79,7 +80,7 @@ pub extern "C" fn bikleinu_render(
         bytes: 0,
         turns: 0,
     };
-    let answer = rendered(alloc, template, data, partials, allowed);
+    let answer = render_handles(alloc, template, data, partials, allowed);
     store_result(alloc, answer, made)
 }
 
@@ -105,7 +106,7 @@ pub extern "C" fn bikleinu_render_within(
     ensures partials { partials.new.held ≡ partials.old.held }
 {
     let allowed = allowed_by(depth, limits);
-    let answer = rendered(alloc, template, data, partials, allowed);
+    let answer = render_handles(alloc, template, data, partials, allowed);
     store_result(alloc, answer, made)
 }
 
@@ -130,8 +131,8 @@ fn bound_of(asked: u32) -> u32
     if asked == 0 { USUAL_LEVELS } else { asked }
 }
 
-/// What rendering comes to with what the handles hold, which hold it again.
-fn rendered(
+/// The result of rendering what the handles hold; afterwards they hold it again.
+fn render_handles(
     alloc: Global,
     template: &mut Handle,
     data: &mut Handle,
@@ -151,9 +152,9 @@ fn rendered(
     let held_partials = partials.take(alloc);
     let answer = page(
         alloc,
-        seen(&held_template),
-        seen(&held_data),
-        seen(&held_partials),
+        held_content(&held_template),
+        held_content(&held_data),
+        held_content(&held_partials),
         allowed,
     );
     template.put(alloc, held_template);
@@ -181,7 +182,7 @@ fn page(
     let no_data = empty_data(alloc);
     let no_partials = Partials::new(alloc);
     let is_deep = levels.pass(levels_held(partials), allowed.depth, allowed.levels);
-    shown(
+    page_within_levels(
         alloc,
         template,
         is_deep,
@@ -192,7 +193,7 @@ fn page(
 }
 
 /// The page of a template over data and with partials, where both are there and it isn't too deep.
-fn shown(
+fn page_within_levels(
     alloc: Global,
     template: &Template,
     is_deep: bool,
@@ -217,13 +218,13 @@ fn shown(
         return Err(Refusal::TooManyLevels);
     }
     if allowed.bytes == 0 && allowed.turns == 0 {
-        return Ok(whole(alloc, template, partials, allowed.depth, data));
+        return Ok(unlimited_page(alloc, template, partials, allowed.depth, data));
     }
     Ok(limited(alloc, template, partials, allowed, data))
 }
 
 /// The whole page.
-fn whole(
+fn unlimited_page(
     alloc: Global,
     template: &Template,
     partials: &Partials,
@@ -267,14 +268,19 @@ fn limited(
 }
 
 /// The limits on bytes and turns.
-pub(crate) fn limits_of(allowed: Allowed) -> liquid_lib::Limits {
+pub(crate) fn limits_of(allowed: Allowed) -> liquid_lib::Limits
+    ensures bytes { result.bytes ≡ asked_limit allowed.bytes }
+    ensures turns { result.turns ≡ asked_limit allowed.turns }
+{
     liquid_lib::Limits {
         bytes: limit_of(allowed.bytes),
         turns: limit_of(allowed.turns),
     }
 }
 
-fn limit_of(asked: u64) -> Option<u64> {
+fn limit_of(asked: u64) -> Option<u64>
+    ensures { result ≡ asked_limit asked }
+{
     if asked == 0 { None } else { Some(asked) }
 }
 

@@ -1,7 +1,8 @@
 -- A part of a source made text: a blank stands in place of each `{` of it, so that no output and no
 -- tag opens there, and every other character stands where it stood.
 --     blanked text      the text with the blanks
---     IsBlanked start length old new      the source with blanks in so many bytes from a place on
+--     IsBlanked start count old new      the source with blanks in the `count` bytes after the
+--                                        first `start`
 use Rattle.std.specs.Prelude.{◌≡◌, ◌==◌, ℕ, ◌++◌, cond, length, map}
 use Rattle.std.specs.Str.{chars, encode_utf8_all}
 use Rattle.liquid_model.specs.Texts.{Text}

@@ -33,7 +33,7 @@ AreRounds l source [] last = last ≡ source
 AreRounds l source (f ∷ fs) last =
     (next : Text) × IsRound l source f next × AreRounds l next fs last
 
--- the source is a template then, or so many faults are found that it isn't read further
+-- the source is a template then, or 100 faults are found, and it isn't read further
 abbrev pub Ends : Language → Text → List Found → Option Nodes → Type 0
 Ends l last fs (Some tree) = IsOnlyTree l tree last
 Ends l last fs None = length fs ≡ 100

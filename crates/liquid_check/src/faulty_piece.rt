@@ -16,7 +16,8 @@ pub(crate) struct Part<'s> {
     pub(crate) after: &'s str,
 }
 
-/// So many bytes of the source are left from the start of a piece on, and from its end on.
+/// Where a piece stands in its source: it begins `from` bytes before the end of the source, and
+/// ends `past` bytes before it.
 #[derive(Clone, Copy)]
 struct Extent {
     from: usize,
@@ -43,7 +44,7 @@ pub(crate) fn part_at<'s>(
     ))
 }
 
-/// A source, cut before and after so many bytes.
+/// A source, cut in three: its first `start` bytes, the `count` bytes after them, and the rest.
 fn cut_out<'s>(source: &'s str, start: usize, count: usize) -> Part<'s>
     ensures { source.now ≡ result.front.now ++ (result.piece.now ++ result.after.now) }
 {
@@ -56,7 +57,8 @@ fn cut_out<'s>(source: &'s str, start: usize, count: usize) -> Part<'s>
     }
 }
 
-/// A text, cut after so many bytes; before the first where no character ends there.
+/// A text, cut after its first `count` bytes, or before its first one where no character ends
+/// there.
 fn cut<'s>(text: &'s str, count: usize) -> (&'s str, &'s str)
     ensures { text.now ≡ result.0.now ++ result.1.now }
 {
@@ -83,7 +85,7 @@ fn remaining_at(source: &str, location: &Location) -> usize {
     characters.as_str().len()
 }
 
-/// The extent of the piece that holds the place with so many bytes of the source left.
+/// The extent of the piece that holds the place `remaining` bytes before the end of the source.
 fn extent_at(
     alloc: Global,
     source: &str,

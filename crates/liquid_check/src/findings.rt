@@ -12,8 +12,8 @@ use liquid_lexer::placed_piece;
 use liquid_syntax::{Template, parse};
 use std::alloc::Global;
 
-/// How many faults of a source are found at most. Each is found by reading the source once more, so
-/// this keeps the time within so many times what `parse` takes.
+/// The most faults of a source that are found. Each is found by reading the source once more, so
+/// the time stays within this many times what `parse` takes.
 pub const MOST_FINDINGS: usize = 100;
 
 /// A fault of a source.
@@ -123,8 +123,8 @@ fn part_of<'s>(
     }
 }
 
-/// The tag of a source that begins after so many bytes and has a fault of this kind; of an output
-/// it has no name.
+/// The tag with a fault of this kind that begins after the first `start` bytes of a source. Where
+/// an output begins there, it has no name.
 fn wrong_at<'s>(alloc: Global, source: &'s str, start: usize, kind: ErrorKind) -> Result<Wrong<'s>>
     ensures { IfErr result (λ e. e.kind ≡ ErrorKind.Memory) }
 {

@@ -89,7 +89,7 @@ fn after_open(letter: char) -> HtmlPlace
     }
 }
 
-/// The places that a `>` and quotes in a tag lead to, and the other place.
+/// The place that a `>` or a quote in a tag leads to, or `other` after any other character.
 fn after_tag(other: HtmlPlace, letter: char) -> HtmlPlace
     ensures { result ≡ after_tag other letter }
 {

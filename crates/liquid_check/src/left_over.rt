@@ -14,7 +14,7 @@ pub(crate) struct Wrong<'s> {
 /// A tag with a fault that may begin a block.
 #[derive(Clone, Copy)]
 struct Begun<'s> {
-    /// None of a tag whose name isn't known.
+    /// `None` where the tag's name isn't known.
     kind: Option<BlockKind>,
     name: &'s str,
     start: usize,

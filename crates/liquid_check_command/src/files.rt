@@ -58,7 +58,7 @@ fn read_file(rt: &HostRuntime, language: &Language, file: &CheckedPath) -> Resul
         Ok(Some(text)) => Ok(File::Checked(findings_in(rt.alloc(), language, path, text)?)),
         Ok(None) => Ok(File::Binary),
         Err(stop) => {
-            stop.passed_over(rt)?;
+            stop.print_and_skip(rt)?;
             Ok(File::Unreadable)
         }
     }

@@ -126,7 +126,7 @@ impl Paths {
         match files_below(rt, folder) {
             Ok(files) => Ok(Some(files)),
             Err(stop) => {
-                stop.passed_over(rt)?;
+                stop.print_and_skip(rt)?;
                 self.unreadable = self.unreadable.saturating_add(1);
                 Ok(None)
             }

@@ -1,12 +1,13 @@
 //! What is printed of a fault in a text.
 use liquid_core::Error;
-use liquid_excerpts::{Excerpt, ShownPath};
+use liquid_excerpts::{Excerpt, ShownFault, ShownPath};
 
 /// Prints a fault in one line, and the line of the text that it is in. What standard error refuses
 /// is lost.
 pub fn print_fault(rt: &HostRuntime, path: &str, fault: &Error, text: Option<&str>) {
     let path = ShownPath { path };
-    let _ = eprintln!(rt; "error: {path}: {fault}");
+    let shown = ShownFault { fault };
+    let _ = eprintln!(rt; "error: {path}: {shown}");
     print_excerpt(rt, fault, text);
 }
 

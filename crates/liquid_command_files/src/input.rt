@@ -27,7 +27,7 @@ pub fn text_at(rt: &HostRuntime, path: &str) -> Result<String, Stop> {
     }
 }
 
-/// The text that the bytes of a path are.
+/// The bytes that were read from a path, as a text.
 pub fn text_of(alloc: Global, path: &str, bytes: Vec<u8>) -> Result<String, Stop>
     ensures { IfOk result (λ text. string_bytes text ≡ bytes.items) }
 {
@@ -49,7 +49,7 @@ pub fn bytes_at(rt: &HostRuntime, path: &str) -> io::Result<Vec<u8>> {
     }
     let mut file = File::open(rt, path)?;
     let size = usize::try_from(file.metadata()?.len()).unwrap_or(0);
-    // a byte more than the system says, for the look whether the file ends there
+    // one byte more than the system says, to see whether the file ends there
     let mut bytes = Vec::with_capacity(rt.alloc(), size.saturating_add(1))?;
     file.read_to_end(&mut bytes)?;
     Ok(bytes)

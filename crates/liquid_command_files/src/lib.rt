@@ -16,6 +16,6 @@ pub use faults::{print_excerpt, print_fault};
 pub use folder::files_below;
 pub use forms::{added, data_of_file, form_of, with_time};
 pub use input::{bytes_at, called, text_at, text_of};
-pub use output::{end_line, is_line_open, print_text, put_file};
+pub use output::{end_line, is_line_open, print_text};
 pub use sources::{Source, Sources};
 pub use stop::Stop;

@@ -4,7 +4,7 @@ ghost use Rattle.liquid_command_files.specs.Stops.{status_of};
 
 use liquid_commands::{Gap, WordFault};
 use liquid_core::Error;
-use liquid_excerpts::{Reason, ShownPath, reason_words, system_words};
+use liquid_excerpts::{Reason, ShownFault, ShownPath, reason_words, system_words};
 use std::alloc::{AllocError, AllocFailed, Global};
 use std::{fmt, io};
 
@@ -19,11 +19,11 @@ pub enum Stop {
     Lacking(&'static str, String, Gap),
     /// A template, the data or a page has a fault, and it is printed.
     Faulted,
-    /// A fault of no text, as that memory ran out.
+    /// A fault that belongs to no text, such as refused memory.
     Fault(Error),
     /// The file or folder of this path can't be read.
     Unreadable(String, Reason),
-    /// Partials are to be in the folder of this path, and it is none.
+    /// Partials are to be in the folder at this path, and there is no folder.
     NoFolder(String),
     /// The file of this path can't be written.
     Unwritten(String, io::ErrorKind),
@@ -71,7 +71,7 @@ impl Stop {
 
     /// Prints that a path can't be read, so that a command can go on without it. What isn't that
     /// ends the command.
-    pub fn passed_over(self, rt: &HostRuntime) -> Result<(), Stop> {
+    pub fn print_and_skip(self, rt: &HostRuntime) -> Result<(), Stop> {
         if let Stop::Unreadable(_, _) | Stop::NoFolder(_) = &self {
             self.print(rt);
             return Ok(());
@@ -120,7 +120,10 @@ impl fmt::Display for Stop {
         match self {
             Stop::Refused | Stop::Faulted => Ok(()),
             Stop::Usage(message) => f.write_str(message),
-            Stop::Fault(fault) => write!(f, "{fault}"),
+            Stop::Fault(fault) => {
+                let fault = ShownFault { fault };
+                write!(f, "{fault}")
+            }
             Stop::Lacking(option, word, gap) => {
                 let word = ShownWord {
                     word: word.as_str(),

@@ -99,7 +99,7 @@ are_in_csv (Some format) path = bytes_eq format (codes "csv")
 abbrev pub is_yaml : CommandWord → Bool
 is_yaml path = has_ending (codes ".yaml") path || has_ending (codes ".yml") path
 
--- so many at most, from this number on
+-- at most `count` records, from the one with the number `from` on
 abbrev pub is_selected : ℕ → ℕ → ℕ → Bool
 is_selected number from count = cond (nat_le from number) (nat_lt (number - from) count) false
 

@@ -158,8 +158,8 @@ fn ends_in(path: &str, ending: &str) -> bool
     }
 }
 
-/// Whether a record of this number is among those that are asked for: so many at most, from the one
-/// with this number on. It takes no memory.
+/// Whether the record with this number is among those that are asked for: at most `count` records,
+/// from the one with the number `from` on. It takes no memory.
 pub fn is_selected(number: u64, from: u64, count: u64) -> bool
     ensures { result ≡ is_selected number from count }
 {

@@ -5,7 +5,7 @@ use Rattle.std.specs.Cmp.Lexicographic.{bytes_decides}
 use Rattle.liquid_model.specs.Texts.{Text, same_text}
 use Rattle.liquid_model.specs.Data.{Datum, nil, truth, number, text, array, object, Items, no_items, item, Pairs, put}
 use Rattle.liquid_model.specs.Find.{value_at}
-use Rattle.liquid_model.specs.Uses.{Use, nothing, everything, parts, Fields, no_fields, field, ItemUse, uncounted, every, asks_whether}
+use Rattle.liquid_model.specs.Uses.{Use, nothing, everything, parts, Fields, no_fields, field, ItemUse, uncounted, up_to, asks_whether}
 use Rattle.liquid_model.proofs.Maps.{value_at_put, value_at_put_other}
 use Rattle.liquid_completion.specs.Completed.{or_blank, each_item, counts_members, completed, completed_items, completed_pairs}
 use Rattle.liquid_completion.specs.PathsKept.{CompletedKeeps}
@@ -60,7 +60,7 @@ mutual
 
   pub items_keep : (turns : ItemUse) (n : ℕ) (ds : Items) → KeepsFor n (array ds) (array (completed_items turns ds))
   items_keep uncounted n ds = keeps_same n (array ds)
-  items_keep (every u) n ds = lists_keep n ds (each_item (completed u) ds) (λ m. items_each m (completed u) (λ d. completed_keeps u m d) ds)
+  items_keep (up_to most u) n ds = lists_keep n ds (each_item (completed u) ds) (λ m. items_each m (completed u) (λ d. completed_keeps u m d) ds)
 
   pub pairs_keep : (members : Fields) (n : ℕ) (ps : Pairs) → KeepsFor n (object ps) (object (completed_pairs members ps))
   pairs_keep no_fields n ps = keeps_same n (object ps)

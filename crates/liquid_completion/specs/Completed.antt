@@ -8,7 +8,7 @@ use Rattle.liquid_model.specs.Data.{Datum, nil, truth, number, text, array, obje
 use Rattle.liquid_model.specs.Data.{Items, no_items, item, Pairs, no_pairs, put}
 use Rattle.liquid_model.specs.Find.{value_at}
 use Rattle.liquid_model.specs.Uses.{Use, nothing, everything, parts, Fields, no_fields, field}
-use Rattle.liquid_model.specs.Uses.{ItemUse, uncounted, every, use_in, asks_whether, has_every}
+use Rattle.liquid_model.specs.Uses.{ItemUse, uncounted, up_to, use_in, asks_whether, has_every}
 
 -- what is put where nothing stands: an empty map where members are asked of it, else nil
 abbrev pub blank : Use → Datum
@@ -44,7 +44,7 @@ abbrev mutual
   -- the items that a loop goes over, each completed; else the list as it is
   pub completed_items : ItemUse → Items → Items
   completed_items uncounted ds = ds
-  completed_items (every u) ds = each_item (completed u) ds
+  completed_items (up_to n u) ds = each_item (completed u) ds
 
   -- member by member: what stands at its key or is put there, completed
   pub completed_pairs : Fields → Pairs → Pairs

@@ -12,7 +12,7 @@ ghost use Rattle.liquid_completion.specs.Completed.{completed_pairs, each_item};
 ghost use Rattle.liquid_completion.specs.PathsKept.{PathsKept};
 ghost use Rattle.liquid_completion.specs.inside.Keeping.{KeepsDatum, uncounted_pairs};
 
-use liquid_core::{Object, Result, Use, Uses, Value, member_of, store};
+use liquid_core::{ItemUse, Object, Result, Use, Uses, Value, member_of, store};
 use std::alloc::Global;
 use std::collections::BTreeMap;
 
@@ -110,7 +110,7 @@ fn complete_value(alloc: Global, asked: &Use, value: &mut Value) -> Result<()>
 
 /// A list of which this is asked of each item that a loop goes over.
 #[cycle(complete_value)]
-fn complete_list(alloc: Global, items: &Option<Box<Use>>, values: &mut Vec<Value>) -> Result<()>
+fn complete_list(alloc: Global, items: &Option<ItemUse>, values: &mut Vec<Value>) -> Result<()>
     ensures completed { IsValueOrMemory (λ _. items_view values.new.items) result
         (completed_items (turns_view items.now) (items_view values.old.items)) }
     ensures kept { KeepsDatum (array (items_view values.old.items))
@@ -119,7 +119,7 @@ fn complete_list(alloc: Global, items: &Option<Box<Use>>, values: &mut Vec<Value
         ≡ completed_items (turns_view items.now) (items_view values.old.items) }
 {
     match items {
-        Some(asked) => complete_items(alloc, asked, values),
+        Some(asked) => complete_items(alloc, &asked.each, values),
         None => Ok(()),
     }
 }
@@ -129,7 +129,7 @@ fn complete_list(alloc: Global, items: &Option<Box<Use>>, values: &mut Vec<Value
 fn complete_map(
     alloc: Global,
     members: &Uses,
-    items: &Option<Box<Use>>,
+    items: &Option<ItemUse>,
     pairs: &mut Object,
 ) -> Result<()>
     ensures completed { IsValueOrMemory (λ _. pairs_view pairs.new.entries) result
@@ -180,7 +180,7 @@ fn blank(alloc: Global, asked: &Use) -> Value
 
 /// Whether a member that is put into a map would be seen: a loop goes over it, or its length is
 /// asked for.
-fn counts_members(members: &Uses, items: &Option<Box<Use>>) -> bool
+fn counts_members(members: &Uses, items: &Option<ItemUse>) -> bool
     ensures { result
         ≡ spec.counts_members (members_view members.now.entries) (turns_view items.now) }
 {

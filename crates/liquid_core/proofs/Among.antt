@@ -7,7 +7,7 @@ use Rattle.liquid_core.specs.Environment.{local_of}
 use Rattle.liquid_core.specs.Held.{Outer, held}
 use Rattle.liquid_core.specs.Resolved.{IsAmong, IsHeld, resolved_view}
 use Rattle.liquid_core.specs.States.{loops_of, FindsLoop, IsPlain}
-use Rattle.liquid_core.specs.LoopFrames.{standing, frame_object}
+use Rattle.liquid_core.specs.LoopFrames.{scope_maps, frame_object}
 use Rattle.liquid_core.specs.declared.resolved.Resolved.{Resolved}
 use Rattle.liquid_core.specs.declared.resolved.Resolved.TheVariants.{Borrowed, Local, Loop}
 use Rattle.liquid_core.specs.declared.state.State.{State}
@@ -52,7 +52,7 @@ held_unless_loop s (Loop frame enclosing) a none = none (record {
   below = enclosing.frames.now;
   above = a.0;
   among = a.1.0;
-  whole = ap (λ o. Some (frame_object frame.now (local_of (standing enclosing.frames.now (reverse (map held o)))))) a.1.1;
+  whole = ap (λ o. Some (frame_object frame.now (local_of (scope_maps enclosing.frames.now (reverse (map held o)))))) a.1.1;
 })
 
 pub each_held : (s : State) (o : Option Resolved) (d : Option Datum) → option_map resolved_view o ≡ d → IfSome o (IsAmong (loops_of s) s.scopes.items) → (FindsLoop s d → ⊥) → IfSome o IsHeld

@@ -7,9 +7,9 @@ use Rattle.liquid_model.specs.Data.{Datum}
 use Rattle.liquid_model.specs.Find.{step}
 use Rattle.liquid_core.specs.Environment.{Environment, lookup}
 use Rattle.liquid_core.specs.Expressions.{value_of}
-use Rattle.liquid_core.specs.Led.{led}
+use Rattle.liquid_core.specs.AlongSteps.{value_along_steps}
 use Rattle.liquid_core.specs.Spelled.{as_step, spelled}
-use Rattle.liquid_core.proofs.Steps.{led_from}
+use Rattle.liquid_core.proofs.Steps.{steps_from}
 use Rattle.liquid_model.specs.View.{view}
 use Rattle.liquid_core.specs.Expression as tree
 use Rattle.liquid_core.specs.ExpressionView.{expression_view, variable_view, steps_view}
@@ -30,26 +30,26 @@ bracketed_variable w = rw (variable_is w) refl
 -- ---- a variable's value
 
 pub value_from : (w : declared.Variable) (e : Environment) (name : Text) (xs : List Expression) (first : Option Datum) → name ≡ string_bytes w.name → xs ≡ w.indexes.items → first ≡ lookup e name
-    → option_and_then (λ d. led d (steps_view xs) e) first ≡ value_of (variable_view w) e
+    → option_and_then (λ d. value_along_steps d (steps_view xs) e) first ≡ value_of (variable_view w) e
 value_from w e name xs first n x h =
-    ap (λ l. option_and_then (λ d. led d (steps_view l) e) first) x
-    ∙ led_from (string_bytes w.name) (steps_view w.indexes.items) e first (h ∙ ap (lookup e) n)
+    ap (λ l. option_and_then (λ d. value_along_steps d (steps_view l) e) first) x
+    ∙ steps_from (string_bytes w.name) (steps_view w.indexes.items) e first (h ∙ ap (lookup e) n)
     ∙ ap (λ y. value_of y e) (sym (variable_is w))
 
-pub no_part : (d : Datum) (x : Expression) (xs rest : List Expression) (e : Environment) → xs ≡ x ∷ rest → None ≡ value_of (expression_view x) e → None ≡ led d (steps_view xs) e
-no_part d x xs rest e at h = ap (option_and_then (λ s. option_and_then (λ next. led next (steps_view rest) e) (step d s))) h ∙ sym (ap (λ l. led d (steps_view l) e) at)
+pub no_part : (d : Datum) (x : Expression) (xs rest : List Expression) (e : Environment) → xs ≡ x ∷ rest → None ≡ value_of (expression_view x) e → None ≡ value_along_steps d (steps_view xs) e
+no_part d x xs rest e at h = ap (option_and_then (λ s. option_and_then (λ next. value_along_steps next (steps_view rest) e) (step d s))) h ∙ sym (ap (λ l. value_along_steps d (steps_view l) e) at)
 
-pub no_step : (d s : Datum) (x : Expression) (xs rest : List Expression) (e : Environment) → xs ≡ x ∷ rest → Some s ≡ value_of (expression_view x) e → None ≡ step d s → None ≡ led d (steps_view xs) e
+pub no_step : (d s : Datum) (x : Expression) (xs rest : List Expression) (e : Environment) → xs ≡ x ∷ rest → Some s ≡ value_of (expression_view x) e → None ≡ step d s → None ≡ value_along_steps d (steps_view xs) e
 no_step d s x xs rest e at h k =
-    ap (option_and_then (λ next. led next (steps_view rest) e)) k
-    ∙ ap (option_and_then (λ s. option_and_then (λ next. led next (steps_view rest) e) (step d s))) h
-    ∙ sym (ap (λ l. led d (steps_view l) e) at)
+    ap (option_and_then (λ next. value_along_steps next (steps_view rest) e)) k
+    ∙ ap (option_and_then (λ s. option_and_then (λ next. value_along_steps next (steps_view rest) e) (step d s))) h
+    ∙ sym (ap (λ l. value_along_steps d (steps_view l) e) at)
 
-pub one_step : (d s n : Datum) (x : Expression) (xs rest : List Expression) (e : Environment) → xs ≡ x ∷ rest → Some s ≡ value_of (expression_view x) e → Some n ≡ step d s → led n (steps_view rest) e ≡ led d (steps_view xs) e
+pub one_step : (d s n : Datum) (x : Expression) (xs rest : List Expression) (e : Environment) → xs ≡ x ∷ rest → Some s ≡ value_of (expression_view x) e → Some n ≡ step d s → value_along_steps n (steps_view rest) e ≡ value_along_steps d (steps_view xs) e
 one_step d s n x xs rest e at h k =
-    ap (option_and_then (λ next. led next (steps_view rest) e)) k
-    ∙ ap (option_and_then (λ s. option_and_then (λ next. led next (steps_view rest) e) (step d s))) h
-    ∙ sym (ap (λ l. led d (steps_view l) e) at)
+    ap (option_and_then (λ next. value_along_steps next (steps_view rest) e)) k
+    ∙ ap (option_and_then (λ s. option_and_then (λ next. value_along_steps next (steps_view rest) e) (step d s))) h
+    ∙ sym (ap (λ l. value_along_steps d (steps_view l) e) at)
 
-pub no_more : (d : Datum) (xs : List Expression) (e : Environment) → xs ≡ [] → Some d ≡ led d (steps_view xs) e
-no_more d xs e at = sym (ap (λ l. led d (steps_view l) e) at)
+pub no_more : (d : Datum) (xs : List Expression) (e : Environment) → xs ≡ [] → Some d ≡ value_along_steps d (steps_view xs) e
+no_more d xs e at = sym (ap (λ l. value_along_steps d (steps_view l) e) at)

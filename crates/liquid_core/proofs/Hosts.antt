@@ -9,7 +9,7 @@ use Rattle.liquid_model.specs.ErrorKinds.{IsKindOrMemory, is_memory, is_refusal,
 use Rattle.liquid_model.specs.declared.error.Error.{Error}
 use Rattle.liquid_model.specs.declared.error.ErrorKind.{ErrorKind}
 use Rattle.liquid_model.specs.declared.error.ErrorKind.TheVariants.{InvalidInput, Memory, Write, Unclosed, BadItem, NumberLiteral, FloatLiteral, StateWord, UnknownTag, UnknownFilter, FilterArguments, Expected, MissingEnd, TooNested}
-use Rattle.liquid_core.specs.FilterAnswers.{AnswersIf, Tells}
+use Rattle.liquid_core.specs.FilterAnswers.{AnswersIf, AnswersOrMemory}
 use Rattle.liquid_core.specs.Hosts.{last_named, of_host}
 
 -- ---- the last of a name
@@ -84,11 +84,11 @@ kind_replaced kind reported wanted h m t = on (is_memory reported) t
 
 -- ---- what is answered
 
-pub tells_if : {X Y : Type 0} (within : Bool) (view : X → Y) (r : Result X Error) (wanted : Result Y ErrorKind) → AnswersIf within view r wanted → Tells view r wanted
-tells_if true view (Ok x) wanted h = h
-tells_if true view (Err e) wanted h = on (is_memory e.kind) h
+pub answers_or_memory_if : {X Y : Type 0} (within : Bool) (view : X → Y) (r : Result X Error) (wanted : Result Y ErrorKind) → AnswersIf within view r wanted → AnswersOrMemory view r wanted
+answers_or_memory_if true view (Ok x) wanted h = h
+answers_or_memory_if true view (Err e) wanted h = on (is_memory e.kind) h
   where
     on : (b : Bool) → MatchBool b ⊤ ((wanted ≡ Err e.kind) × (is_refusal e.kind ≡ false)) → MatchBool b ⊤ (wanted ≡ Err e.kind)
     on true m = m
     on false m = m.0
-tells_if false view r wanted h = h
+answers_or_memory_if false view r wanted h = h

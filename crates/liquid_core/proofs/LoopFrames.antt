@@ -8,7 +8,7 @@ use Rattle.liquid_core.specs.Environment.{local_of}
 use Rattle.std.proofs.Common.{set}
 use Rattle.std.proofs.lemmas.List.{length-append}
 use Rattle.std.proofs.Math.Seq.{get_or-append_seam, set-append_seam}
-use Rattle.liquid_core.specs.LoopFrames.{standing, scope_map, object_part, loop_object, EndsIn}
+use Rattle.liquid_core.specs.LoopFrames.{scope_maps, scope_map, object_part, loop_object, EndsIn}
 use Rattle.liquid_core.specs.declared.frame.Scope.TheVariants as variants
 use Rattle.liquid_core.specs.declared.frame.LoopFrame.{LoopFrame}
 use Rattle.liquid_core.specs.declared.frame.LoopKind.{LoopKind}
@@ -70,21 +70,21 @@ item_there (t ∷ ts) (suc i) h =
     let more = item_there ts i (omega arith) in
     (more.0, (more.1.0 ∙ ap (λ n. more.0 ∷ drop n (t ∷ ts)) (sym (one_more i)), ap (λ n. take n (t ∷ ts)) (one_more i) ∙ ap (λ l. t ∷ l) more.1.1))
 
-at_innermost : (q : Text) (ts : List Scope) (x : Scope) (b : List (Map Datum)) → local_of (standing (ts ++ x ∷ []) b) q ≡ (scope_map x (local_of (standing ts b)) q else local_of (standing ts b) q)
+at_innermost : (q : Text) (ts : List Scope) (x : Scope) (b : List (Map Datum)) → local_of (scope_maps (ts ++ x ∷ []) b) q ≡ (scope_map x (local_of (scope_maps ts b)) q else local_of (scope_maps ts b) q)
 unfolding merged
 at_innermost q ts x b = ap (λ l. local_of l q) (standing_last ts x b)
 
 pub found_here : (q : Text) (ts : List Scope) (l i : ℕ) (b : List (Map Datum)) (d : Datum) → l ≡ i + 1 → i < length ts
-    → ((x : Scope) → drop i ts ≡ x ∷ drop (i + 1) ts → Some d ≡ scope_map x (local_of (standing (take i ts) b)) q) → Some d ≡ local_of (standing (take l ts) b) q
+    → ((x : Scope) → drop i ts ≡ x ∷ drop (i + 1) ts → Some d ≡ scope_map x (local_of (scope_maps (take i ts) b)) q) → Some d ≡ local_of (scope_maps (take l ts) b) q
 found_here q ts l i b d e h f =
     let x = item_there ts i h in
-    ap (λ o. o else local_of (standing (take i ts) b) q) (f x.0 x.1.0) ∙ sym (at_innermost q (take i ts) x.0 b) ∙ ap (λ l. local_of (standing l b) q) (sym x.1.1) ∙ ap (λ n. local_of (standing (take n ts) b) q) (sym e)
+    ap (λ o. o else local_of (scope_maps (take i ts) b) q) (f x.0 x.1.0) ∙ sym (at_innermost q (take i ts) x.0 b) ∙ ap (λ l. local_of (scope_maps l b) q) (sym x.1.1) ∙ ap (λ n. local_of (scope_maps (take n ts) b) q) (sym e)
 
 pub missing_here : (q : Text) (ts : List Scope) (l i : ℕ) (b : List (Map Datum)) → l ≡ i + 1 → i < length ts
-    → ((x : Scope) → drop i ts ≡ x ∷ drop (i + 1) ts → None ≡ scope_map x (local_of (standing (take i ts) b)) q) → local_of (standing (take i ts) b) q ≡ local_of (standing (take l ts) b) q
+    → ((x : Scope) → drop i ts ≡ x ∷ drop (i + 1) ts → None ≡ scope_map x (local_of (scope_maps (take i ts) b)) q) → local_of (scope_maps (take i ts) b) q ≡ local_of (scope_maps (take l ts) b) q
 missing_here q ts l i b e h f =
     let x = item_there ts i h in
-    ap (λ o. o else local_of (standing (take i ts) b) q) (f x.0 x.1.0) ∙ sym (at_innermost q (take i ts) x.0 b) ∙ ap (λ l. local_of (standing l b) q) (sym x.1.1) ∙ ap (λ n. local_of (standing (take n ts) b) q) (sym e)
+    ap (λ o. o else local_of (scope_maps (take i ts) b) q) (f x.0 x.1.0) ∙ sym (at_innermost q (take i ts) x.0 b) ∙ ap (λ l. local_of (scope_maps l b) q) (sym x.1.1) ∙ ap (λ n. local_of (scope_maps (take n ts) b) q) (sym e)
 
 pub apart : (q k : Text) → (q ≡ k → ⊥) → bytes_eq q k ≡ false
 apart q k other = at (bytes_eq q k) refl

@@ -22,11 +22,11 @@ use Rattle.std.specs.Ordering.{nat_cmp}
 use Rattle.liquid_core.specs.Held.{held, map_of}
 use Rattle.liquid_core.specs.Loops.{loop_scope}
 use Rattle.liquid_core.specs.Places.{place_of}
-use Rattle.liquid_core.specs.LoopFrames.{loop_name, loop_object, item_of, standing, scope_map, frame_map_at, with_names, without_innermost, EndsIn, IsNext}
+use Rattle.liquid_core.specs.LoopFrames.{loop_name, loop_object, item_of, scope_maps, scope_map, frame_map_at, with_names, without_innermost, EndsIn, IsNext}
 use Rattle.liquid_core.specs.declared.frame.Scope.TheVariants as variants
 use Rattle.liquid_core.specs.declared.frame.LoopFrame.{LoopFrame}
 use Rattle.liquid_core.specs.declared.frame.Scope.{Scope}
-use Rattle.liquid_core.specs.States.{data_held, held_beside, IsPlain, layers_of, environment_of, new_layers, with_scope_popped, with_scope_pushed, with_frame_at, enclosing_scopes, layers_with, with_interrupt, with_changed, with_assigned, with_cycle}
+use Rattle.liquid_core.specs.States.{data_held, value_below_loops, IsPlain, layers_of, environment_of, new_layers, with_scope_popped, with_scope_pushed, with_frame_at, enclosing_scopes, layers_with, with_interrupt, with_changed, with_assigned, with_cycle}
 use Rattle.std.proofs.lemmas.List.{reverse-append, length-append}
 use Rattle.std.proofs.Math.Seq.{take-append_seam}
 use Rattle.std.proofs.lemmas.Slice.Eq.{bytes_eq-Decides}
@@ -59,12 +59,12 @@ enclosing f (x ∷ xs) ys None e v = absurd (true≢false (sym (v (omega arith))
 
 -- ---- the scopes that stand over others
 
-pub standing_last : (ss : List Scope) (s : Scope) (b : List (Map Datum)) → standing (ss ++ s ∷ []) b ≡ scope_map s (local_of (standing ss b)) ∷ standing ss b
+pub standing_last : (ss : List Scope) (s : Scope) (b : List (Map Datum)) → scope_maps (ss ++ s ∷ []) b ≡ scope_map s (local_of (scope_maps ss b)) ∷ scope_maps ss b
 standing_last [] s b = refl
 standing_last (t ∷ ss) s b = standing_last ss s (scope_map t (local_of b) ∷ b)
 
-enclosing_turns : (xs ys : List Scope) (o : Option Scope) (b : List (Map Datum)) → xs ≡ ys ++ option_to_list o → IsSome o → standing ys b ≡ enclosing_scopes (standing xs b)
-enclosing_turns xs ys (Some x) b e v = sym (ap (λ l. enclosing_scopes (standing l b)) e ∙ ap enclosing_scopes (standing_last ys x b))
+enclosing_turns : (xs ys : List Scope) (o : Option Scope) (b : List (Map Datum)) → xs ≡ ys ++ option_to_list o → IsSome o → scope_maps ys b ≡ enclosing_scopes (scope_maps xs b)
+enclosing_turns xs ys (Some x) b e v = sym (ap (λ l. enclosing_scopes (scope_maps l b)) e ∙ ap enclosing_scopes (standing_last ys x b))
 enclosing_turns xs ys None b e v = cc
 
 -- ---- loops
@@ -94,8 +94,8 @@ pub popped : (s t : State) (o : Option (BTreeMap (String Global) Value)) → s.f
     → t.assigned ≡ s.assigned → t.counters ≡ s.counters → t.«data» ≡ s.«data» → t.interrupt ≡ s.interrupt → t.cycles ≡ s.cycles → t.changed ≡ s.changed → layers_of t ≡ with_scope_popped (layers_of s)
 unfolding layers_of
 popped s t o n m e v a b c d f g =
-    let plain : standing t.frames.items (reverse (map held t.scopes.items)) ≡ reverse (map held t.scopes.items) = ap (λ l. standing l (reverse (map held t.scopes.items))) (ap (λ v. v.items) m ∙ n) in
-    let before : standing s.frames.items (reverse (map held s.scopes.items)) ≡ reverse (map held s.scopes.items) = ap (λ l. standing l (reverse (map held s.scopes.items))) n in
+    let plain : scope_maps t.frames.items (reverse (map held t.scopes.items)) ≡ reverse (map held t.scopes.items) = ap (λ l. scope_maps l (reverse (map held t.scopes.items))) (ap (λ v. v.items) m ∙ n) in
+    let before : scope_maps s.frames.items (reverse (map held s.scopes.items)) ≡ reverse (map held s.scopes.items) = ap (λ l. scope_maps l (reverse (map held s.scopes.items))) n in
     λ i. record {
       scopes = (plain ∙ enclosing held s.scopes.items t.scopes.items o e v ∙ ap enclosing_scopes (sym before)) i;
       assigned = held (a i);
@@ -110,7 +110,7 @@ unfolding layers_of
 popped_turn s t o e v m a b c d f g =
     let outer : reverse (map held t.scopes.items) ≡ reverse (map held s.scopes.items) = ap (λ v. reverse (map held v.items)) m in
     λ i. record {
-      scopes = (ap (standing t.frames.items) outer ∙ enclosing_turns s.frames.items t.frames.items o (reverse (map held s.scopes.items)) e v) i;
+      scopes = (ap (scope_maps t.frames.items) outer ∙ enclosing_turns s.frames.items t.frames.items o (reverse (map held s.scopes.items)) e v) i;
       assigned = held (a i);
       counters = held (b i);
       globals = data_held (c i);
@@ -126,7 +126,7 @@ unfolding layers_of
 pushed_turn s t x e m a b c d f g =
     let outer : reverse (map held t.scopes.items) ≡ reverse (map held s.scopes.items) = ap (λ v. reverse (map held v.items)) m in
     λ i. record {
-      scopes = (ap (standing t.frames.items) outer ∙ ap (λ l. standing l (reverse (map held s.scopes.items))) e ∙ standing_last s.frames.items x (reverse (map held s.scopes.items))) i;
+      scopes = (ap (scope_maps t.frames.items) outer ∙ ap (λ l. scope_maps l (reverse (map held s.scopes.items))) e ∙ standing_last s.frames.items x (reverse (map held s.scopes.items))) i;
       assigned = held (a i);
       counters = held (b i);
       globals = data_held (c i);
@@ -138,8 +138,8 @@ pub pushed_scope : (s t : State) (x : BTreeMap (String Global) Value) → s.fram
     → layers_of t ≡ with_scope_pushed (held x) (layers_of s)
 unfolding layers_of
 pushed_scope s t x n m e a b c d f g =
-    let plain : standing t.frames.items (reverse (map held t.scopes.items)) ≡ reverse (map held t.scopes.items) = ap (λ l. standing l (reverse (map held t.scopes.items))) (ap (λ v. v.items) m ∙ n) in
-    let before : standing s.frames.items (reverse (map held s.scopes.items)) ≡ reverse (map held s.scopes.items) = ap (λ l. standing l (reverse (map held s.scopes.items))) n in
+    let plain : scope_maps t.frames.items (reverse (map held t.scopes.items)) ≡ reverse (map held t.scopes.items) = ap (λ l. scope_maps l (reverse (map held t.scopes.items))) (ap (λ v. v.items) m ∙ n) in
+    let before : scope_maps s.frames.items (reverse (map held s.scopes.items)) ≡ reverse (map held s.scopes.items) = ap (λ l. scope_maps l (reverse (map held s.scopes.items))) n in
     λ i. record {
       scopes = (plain ∙ ap (λ l. reverse (map held l)) e ∙ reverse_push held s.scopes.items x ∙ ap (λ l. held x ∷ l) (sym before)) i;
       assigned = held (a i);
@@ -153,7 +153,7 @@ pub unchanged : (s t : State) → t.frames.items ≡ s.frames.items → t.scopes
     → t.assigned ≡ s.assigned → t.counters ≡ s.counters → t.«data» ≡ s.«data» → t.interrupt ≡ s.interrupt → t.cycles ≡ s.cycles → t.changed ≡ s.changed → layers_of t ≡ layers_of s
 unfolding layers_of
 unchanged s t m n a b c d f g = λ i. record {
-  scopes = standing (m i) (reverse (map held (n i)));
+  scopes = scope_maps (m i) (reverse (map held (n i)));
   assigned = held (a i);
   counters = held (b i);
   globals = data_held (c i);
@@ -165,7 +165,7 @@ pub taken_apart : (s : State) (p : Parts) → s.frames.items ≡ [] → p.scopes
     → p.assigned ≡ s.assigned → p.counters ≡ s.counters → p.interrupt ≡ s.interrupt → p.cycles ≡ s.cycles → p.changed ≡ s.changed → layers_with p (data_held s.«data») ≡ layers_of s
 unfolding layers_of
 taken_apart s p n m a b d f g =
-    let plain : standing s.frames.items (reverse (map held s.scopes.items)) ≡ reverse (map held s.scopes.items) = ap (λ l. standing l (reverse (map held s.scopes.items))) n in
+    let plain : scope_maps s.frames.items (reverse (map held s.scopes.items)) ≡ reverse (map held s.scopes.items) = ap (λ l. scope_maps l (reverse (map held s.scopes.items))) n in
     λ i. record {
       scopes = (ap (λ v. reverse (map held v.items)) m ∙ sym plain) i;
       assigned = held (a i);
@@ -189,11 +189,11 @@ unfolding layers_of
 advanced s n before t u old new next m a b c d f g =
     let outer = reverse (map held s.scopes.items) in
     let same : reverse (map held n.scopes.items) ≡ outer = ap (λ v. reverse (map held v.items)) m in
-    let was : standing s.frames.items outer ≡ frame_map_at t t.at (local_of (standing before outer)) ∷ standing before outer = ap (λ l. standing l outer) old ∙ standing_last before (variants.LoopFrame t) outer in
-    let now : standing n.frames.items (reverse (map held n.scopes.items)) ≡ frame_map_at u u.at (local_of (standing before outer)) ∷ standing before outer = ap (standing n.frames.items) same ∙ ap (λ l. standing l outer) new ∙ standing_last before (variants.LoopFrame u) outer in
+    let was : scope_maps s.frames.items outer ≡ frame_map_at t t.at (local_of (scope_maps before outer)) ∷ scope_maps before outer = ap (λ l. scope_maps l outer) old ∙ standing_last before (variants.LoopFrame t) outer in
+    let now : scope_maps n.frames.items (reverse (map held n.scopes.items)) ≡ frame_map_at u u.at (local_of (scope_maps before outer)) ∷ scope_maps before outer = ap (scope_maps n.frames.items) same ∙ ap (λ l. scope_maps l outer) new ∙ standing_last before (variants.LoopFrame u) outer in
     λ i. record {
       scopes = (now
-          ∙ ap (λ x. x ∷ standing before outer) (next_map t u (local_of (standing before outer)) next)
+          ∙ ap (λ x. x ∷ scope_maps before outer) (next_map t u (local_of (scope_maps before outer)) next)
           ∙ sym (ap (λ l. frame_map_at t (t.at + 1) (local_of (enclosing_scopes l)) ∷ enclosing_scopes l) was)) i;
       assigned = held (a i);
       counters = held (b i);
@@ -224,7 +224,7 @@ pub missing_in_none : (q : Text) (left : List Outer) → left ≡ [] → None �
 unfolding empty
 missing_in_none q left e = sym (ap (λ l. local_of (reverse (map held l)) q) e)
 
-pub local_in : (s : State) → (environment_of s).local ≡ local_of (standing s.frames.items (reverse (map held s.scopes.items)))
+pub local_in : (s : State) → (environment_of s).local ≡ local_of (scope_maps s.frames.items (reverse (map held s.scopes.items)))
 unfolding layers_of
 local_in s = refl
 
@@ -233,14 +233,14 @@ pub looked_up : (s : State) (q : Text) → lookup (environment_of s) q
 unfolding layers_of map_of
 looked_up s q = refl
 
-pub beside_at : (s : State) (q : Text) → held_beside s q
+pub beside_at : (s : State) (q : Text) → value_below_loops s q
     ≡ (((local_of (reverse (map held s.scopes.items)) q else value_at q (pairs_view s.assigned.entries)) else (layers_of s).counters q) else data_held s.«data» q)
 unfolding layers_of map_of
 beside_at s q = refl
 
 -- where nothing before the data holds the name
 pub beside_globals : (s : State) (q : Text) (xs : List Outer) (d : Option Datum) → xs ≡ s.scopes.items → None ≡ local_of (reverse (map held xs)) q → None ≡ value_at q (pairs_view s.assigned.entries) → None ≡ (layers_of s).counters q
-    → d ≡ data_held s.«data» q → d ≡ held_beside s q
+    → d ≡ data_held s.«data» q → d ≡ value_below_loops s q
 beside_globals s q xs d is o a c h =
     let outer : None ≡ local_of (reverse (map held s.scopes.items)) q = o ∙ ap (λ l. local_of (reverse (map held l)) q) is in
     let none : data_held s.«data» q ≡ (((local_of (reverse (map held s.scopes.items)) q else value_at q (pairs_view s.assigned.entries)) else (layers_of s).counters q) else data_held s.«data» q) =
@@ -248,7 +248,7 @@ beside_globals s q xs d is o a c h =
     h ∙ none ∙ sym (beside_at s q)
 
 -- no scope after one that holds nothing under a name does
-after_none : (ss : List Scope) (b : List (Map Datum)) (q : Text) → local_of (standing ss b) q ≡ None → local_of b q ≡ None
+after_none : (ss : List Scope) (b : List (Map Datum)) (q : Text) → local_of (scope_maps ss b) q ≡ None → local_of b q ≡ None
 unfolding merged
 after_none [] b q h = h
 after_none (s ∷ ss) b q h = second (scope_map s (local_of b) q) (local_of b q) (first_is s b q ∙ after_none ss (scope_map s (local_of b) ∷ b) q h)
@@ -260,15 +260,15 @@ after_none (s ∷ ss) b q h = second (scope_map s (local_of b) q) (local_of b q)
     first_is : (s : Scope) (b : List (Map Datum)) (q : Text) → (scope_map s (local_of b) q else local_of b q) ≡ local_of (scope_map s (local_of b) ∷ b) q
     first_is s b q = refl
 
-pub beside_as : (s : State) (q : Text) → local_of (reverse (map held s.scopes.items)) q ≡ (environment_of s).local q → held_beside s q ≡ lookup (environment_of s) q
+pub beside_as : (s : State) (q : Text) → local_of (reverse (map held s.scopes.items)) q ≡ (environment_of s).local q → value_below_loops s q ≡ lookup (environment_of s) q
 beside_as s q h = ap (λ o. ((o else (environment_of s).assigned q) else (environment_of s).counters q) else (environment_of s).globals q) h
 
 -- without a loop that is all there is
-pub plain_beside : (s : State) (q : Text) → IsPlain s → held_beside s q ≡ lookup (environment_of s) q
-plain_beside s q plain = beside_as s q (sym (ap (λ m. m q) (local_in s) ∙ ap (λ l. local_of (standing l (reverse (map held s.scopes.items))) q) plain))
+pub plain_beside : (s : State) (q : Text) → IsPlain s → value_below_loops s q ≡ lookup (environment_of s) q
+plain_beside s q plain = beside_as s q (sym (ap (λ m. m q) (local_in s) ∙ ap (λ l. local_of (scope_maps l (reverse (map held s.scopes.items))) q) plain))
 
 -- and so it is for a name that no scope holds
-pub none_beside : (s : State) (q : Text) → (environment_of s).local q ≡ None → held_beside s q ≡ lookup (environment_of s) q
+pub none_beside : (s : State) (q : Text) → (environment_of s).local q ≡ None → value_below_loops s q ≡ lookup (environment_of s) q
 none_beside s q none = beside_as s q (after_none s.frames.items (reverse (map held s.scopes.items)) q (sym (ap (λ m. m q) (local_in s)) ∙ none) ∙ sym none)
 
 pub held_at : (o : Outer) (q : Text) → held o q ≡ value_at q (pairs_view o.entries)
@@ -284,7 +284,7 @@ counter_of s q = refl
 pub all_empty : (s : State) → s.frames.items ≡ [] → s.scopes.items ≡ [] → s.assigned.entries ≡ [] → s.counters.entries ≡ [] → s.interrupt ≡ None → s.cycles.entries ≡ [] → s.changed ≡ None → layers_of s ≡ new_layers (data_held s.«data»)
 unfolding layers_of map_of empty
 all_empty s n a b c d e f = λ i. record {
-  scopes = standing (n i) (reverse (map held (a i)));
+  scopes = scope_maps (n i) (reverse (map held (a i)));
   assigned = map_of (pairs_view (b i));
   counters = map_of (pairs_view (c i));
   globals = data_held s.«data»;
@@ -318,7 +318,7 @@ pub assigned_set : (s : State) (m : Outer) (name : Text) (v : Value) → Updates
     → layers_of (record s { assigned = m }) ≡ with_assigned name (view v) (layers_of s)
 unfolding layers_of map_of insert
 assigned_set s m name v h = λ i. record {
-  scopes = standing s.frames.items (reverse (map held s.scopes.items));
+  scopes = scope_maps s.frames.items (reverse (map held s.scopes.items));
   assigned = fun_ext (λ q. sym (view-lookup q m.entries) ∙ ap (option_map view) (btree_map_updates_text name s.assigned m (Some v) h q) ∙ viewed (bytes_eq name q) v (get_by_text s.assigned q) ∙ ap (cond (bytes_eq name q) (Some (view v))) (view-lookup q s.assigned.entries)) i;
   counters = held s.counters;
   globals = data_held s.«data»;
@@ -337,7 +337,7 @@ pub cycle_set : (s : State) (m : BTreeMap (String Global) ℕ) (group : Text) (i
     → layers_of (record s { cycles = m }) ≡ with_cycle group index (layers_of s)
 unfolding layers_of insert
 cycle_set s m group index h = λ i. record {
-  scopes = standing s.frames.items (reverse (map held s.scopes.items));
+  scopes = scope_maps s.frames.items (reverse (map held s.scopes.items));
   assigned = held s.assigned;
   counters = held s.counters;
   globals = data_held s.«data»;

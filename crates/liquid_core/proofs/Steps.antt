@@ -10,7 +10,7 @@ use Rattle.liquid_model.specs.Find as finding
 use Rattle.liquid_core.specs.Environment.{Environment, lookup}
 use Rattle.liquid_core.specs.Expression.{literal, variable, Steps, no_steps, step}
 use Rattle.liquid_core.specs.Expressions.{value_of, path_of}
-use Rattle.liquid_core.specs.Led.{led}
+use Rattle.liquid_core.specs.AlongSteps.{value_along_steps}
 
 nowhere : {X Y : Type 0} (o : Option X) → option_and_then {U = Y} (λ x. None) o ≡ None
 nowhere None = refl
@@ -42,15 +42,15 @@ by_value : (d : Datum) (v : Option Datum) (path : Option (List Datum)) (rest : D
 by_value d None path rest more = refl
 by_value d (Some s) path rest more = by_scalar d s path rest (scalar s) refl more
 
-pub led_along : (d : Datum) (steps : Steps) (e : Environment) → along d (path_of steps e) ≡ led d steps e
+pub steps_along : (d : Datum) (steps : Steps) (e : Environment) → along d (path_of steps e) ≡ value_along_steps d steps e
 unfolding path_of
-led_along d no_steps e = refl
-led_along d (step x more) e = by_value d (value_of x e) (path_of more e) (λ n. led n more e) (λ n. led_along n more e)
+steps_along d no_steps e = refl
+steps_along d (step x more) e = by_value d (value_of x e) (path_of more e) (λ n. value_along_steps n more e) (λ n. steps_along n more e)
 
-pub led_from : (name : Text) (steps : Steps) (e : Environment) (first : Option Datum) → first ≡ lookup e name → option_and_then (λ d. led d steps e) first ≡ value_of (variable name steps) e
+pub steps_from : (name : Text) (steps : Steps) (e : Environment) (first : Option Datum) → first ≡ lookup e name → option_and_then (λ d. value_along_steps d steps e) first ≡ value_of (variable name steps) e
 unfolding value_of
-led_from name steps e None h = sym (nowhere (path_of steps e)) ∙ ap (λ o. option_and_then (λ path. option_and_then (λ found. find found path) o) (path_of steps e)) h
-led_from name steps e (Some d) h = sym (led_along d steps e) ∙ ap (λ o. option_and_then (λ path. option_and_then (λ found. find found path) o) (path_of steps e)) h
+steps_from name steps e None h = sym (nowhere (path_of steps e)) ∙ ap (λ o. option_and_then (λ path. option_and_then (λ found. find found path) o) (path_of steps e)) h
+steps_from name steps e (Some d) h = sym (steps_along d steps e) ∙ ap (λ o. option_and_then (λ path. option_and_then (λ found. find found path) o) (path_of steps e)) h
 
 pub literal_value : (d : Datum) (e : Environment) → value_of (literal d) e ≡ Some d
 unfolding value_of

@@ -12,12 +12,12 @@ FilterAnswer = Datum → List Datum → Result Datum ErrorKind
 
 -- the answer is the wanted value, seen by view, or the wanted kind, whichever that is, unless
 -- memory ran out
-abbrev pub Tells : {X Y : Type 0} → (X → Y) → Result X Error → Result Y ErrorKind → Type 0
-Tells view (Ok x) wanted = wanted ≡ Ok (view x)
-Tells view (Err e) wanted = MatchBool (is_memory e.kind) ⊤ (wanted ≡ Err e.kind)
+abbrev pub AnswersOrMemory : {X Y : Type 0} → (X → Y) → Result X Error → Result Y ErrorKind → Type 0
+AnswersOrMemory view (Ok x) wanted = wanted ≡ Ok (view x)
+AnswersOrMemory view (Err e) wanted = MatchBool (is_memory e.kind) ⊤ (wanted ≡ Err e.kind)
 
 -- the same, and where within holds the kind is one of the meaning's
 abbrev pub AnswersIf : Bool → {X Y : Type 0} → (X → Y) → Result X Error → Result Y ErrorKind →
     Type 0
 AnswersIf true view result wanted = Answers view result wanted
-AnswersIf false view result wanted = Tells view result wanted
+AnswersIf false view result wanted = AnswersOrMemory view result wanted

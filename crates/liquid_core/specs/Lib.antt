@@ -1,4 +1,6 @@
+pub mod AlongSteps
 pub mod DataChanges
+pub mod DirectValues
 pub mod Environment
 pub mod Expression
 pub mod ExpressionView
@@ -7,12 +9,10 @@ pub mod FilterAnswers
 pub mod Held
 pub mod Hosts
 pub mod Laws
-pub mod Led
 pub mod LoopFrames
 pub mod Loops
 pub mod Places
 pub mod Resolved
-pub mod Said
 pub mod Spelled
 pub mod States
 pub mod Written

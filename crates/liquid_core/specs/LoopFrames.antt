@@ -2,7 +2,7 @@
 -- items.
 --     item_of items i      item i of a loop's source, nil where there is none
 --     frame_map frame local      what a loop binds at its item, where local are the outer names
---     standing scopes enclosing   the scopes, the innermost first, over the outer ones
+--     scope_maps scopes enclosing   the scopes, the innermost first, over the outer ones
 use Rattle.std.specs.Prelude.{◌≡◌, ◌<◌, ◌++◌, ℕ, ◌+◌, ◌-◌, List, [], ◌∷◌, length, take, map, get_or}
 use Rattle.std.specs.Prelude.{Option, Some, None, String, codes}
 use Rattle.std.specs.BTreeMap.{BTreeMap}
@@ -74,9 +74,9 @@ scope_map (variants.Names o) local = held o
 scope_map (variants.Borrowed name v) local = insert empty name.now (view v.now)
 scope_map (variants.LoopFrame t) local = frame_map t local
 
-abbrev pub standing : List Scope → List (Map Datum) → List (Map Datum)
-standing [] enclosing = enclosing
-standing (s ∷ ss) enclosing = standing ss (scope_map s (local_of enclosing) ∷ enclosing)
+abbrev pub scope_maps : List Scope → List (Map Datum) → List (Map Datum)
+scope_maps [] enclosing = enclosing
+scope_maps (s ∷ ss) enclosing = scope_maps ss (scope_map s (local_of enclosing) ∷ enclosing)
 
 -- ---- loops that begin, go on and end
 

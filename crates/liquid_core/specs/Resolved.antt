@@ -5,7 +5,7 @@ use Rattle.liquid_model.specs.Found.{found_view}
 use Rattle.liquid_model.specs.Maps.{Map}
 use Rattle.liquid_core.specs.Environment.{local_of}
 use Rattle.liquid_core.specs.Held.{Outer, held}
-use Rattle.liquid_core.specs.LoopFrames.{standing, frame_object}
+use Rattle.liquid_core.specs.LoopFrames.{scope_maps, frame_object}
 use Rattle.liquid_core.specs.declared.frame.Scope.{Scope}
 use Rattle.liquid_core.specs.declared.frame.Scope.TheVariants.{LoopFrame}
 use Rattle.liquid_core.specs.declared.resolved.Scopes.{Scopes}
@@ -14,7 +14,7 @@ use Rattle.liquid_core.specs.declared.resolved.Resolved.TheVariants.{Borrowed, L
 
 -- the scopes of borrowed names, the innermost first
 abbrev pub scopes_view : Scopes → List (Map Datum)
-scopes_view scopes = standing scopes.frames.now (reverse (map held scopes.outer.now))
+scopes_view scopes = scope_maps scopes.frames.now (reverse (map held scopes.outer.now))
 
 abbrev pub resolved_view : Resolved → Datum
 resolved_view (Borrowed f) = found_view f

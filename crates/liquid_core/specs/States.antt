@@ -7,7 +7,7 @@ use Rattle.liquid_model.specs.Data.{Datum}
 use Rattle.liquid_model.specs.Maps.{Map, empty, insert}
 use Rattle.liquid_core.specs.Environment.{Environment, Registers, new_registers, local_of}
 use Rattle.liquid_core.specs.Held.{held}
-use Rattle.liquid_core.specs.LoopFrames.{standing, frame_map_at, frame_object}
+use Rattle.liquid_core.specs.LoopFrames.{scope_maps, frame_map_at, frame_object}
 use Rattle.liquid_core.specs.declared.frame.Scope.{Scope}
 use Rattle.liquid_core.specs.declared.frame.Scope.TheVariants as variants
 use Rattle.liquid_core.specs.declared.frame.LoopFrame.{LoopFrame}
@@ -32,7 +32,7 @@ pub record Layers : Type 0 where
 
 unfoldable pub layers_of : State → Layers
 layers_of s = record {
-  scopes = standing s.frames.items (reverse (map held s.scopes.items));
+  scopes = scope_maps s.frames.items (reverse (map held s.scopes.items));
   assigned = held s.assigned;
   counters = held s.counters;
   globals = data_held s.data;
@@ -101,7 +101,7 @@ with_frame_at t k l = with_scope_pushed (frame_map_at t k (local_of (enclosing_s
 
 -- ---- loops
 
--- the loops that are under way, and the scopes that stand over one; the innermost last
+-- the running loops, and the scopes inside them; the innermost last
 abbrev pub loops_of : State → List Scope
 loops_of s = s.frames.items
 
@@ -117,11 +117,11 @@ pub record FindsLoop (s : State) (found : Option Datum) : Type 0 where
   pub above : List Scope
   pub among : loops_of s ≡ below ++ variants.LoopFrame loop ∷ above
   pub whole : found ≡
-      Some (frame_object loop (local_of (standing below (reverse (map held s.scopes.items)))))
+      Some (frame_object loop (local_of (scope_maps below (reverse (map held s.scopes.items)))))
 
--- what is held beside the loops and the scopes over them
-abbrev pub held_beside : State → Text → Option Datum
-held_beside s name =
+-- the value that a name has below the running loops and the scopes inside them
+abbrev pub value_below_loops : State → Text → Option Datum
+value_below_loops s name =
     let e = environment_of s in
     ((local_of (reverse (map held s.scopes.items)) name else e.assigned name) else e.counters name)
     else e.globals name

@@ -3,8 +3,8 @@ ghost use Rattle.std.specs.Prelude.{◌≡◌, ◌++◌, ℕ, List, option_map, 
 ghost use Rattle.std.specs.Prelude.{string_bytes, IsOk, IfSome, IfOk, IfErr, None, Some, true};
 ghost use Rattle.liquid_model.specs.Quotes.{is_line};
 ghost use Rattle.liquid_core.specs.Environment.{Environment};
-ghost use Rattle.liquid_core.specs.Said.{Says};
-ghost use Rattle.liquid_core.specs.Led.{led};
+ghost use Rattle.liquid_core.specs.DirectValues.{DirectlyIs};
+ghost use Rattle.liquid_core.specs.AlongSteps.{value_along_steps};
 ghost use Rattle.liquid_core.specs.LoopFrames.{frame_object};
 ghost use Rattle.liquid_model.specs.Data.{Datum};
 ghost use Rattle.liquid_model.specs.Maps.{Map};
@@ -59,7 +59,7 @@ impl Expression {
     ///
     /// The value is borrowed from the state or the expression, also inside a loop, and a length is
     /// owned.
-    /// It refuses for `Memory` alone, and takes memory only where it finds the whole object of a
+    /// Its only fault is `Memory`, and it takes memory only where it finds the whole object of a
     /// loop.
     pub fn try_evaluate<'a>(
         &'a self,
@@ -98,7 +98,7 @@ impl Expression {
     /// that is no loop's object, with steps that are keys and places of items, or a number or a
     /// truth value that each loop's object has. It takes no memory.
     pub fn direct_value<'a>(&'a self, state: &'a State<'_>) -> DirectValue<'a>
-        ensures { Says result (value_of (expression_view self.now) (environment_of state.now))
+        ensures { DirectlyIs result (value_of (expression_view self.now) (environment_of state.now))
             None }
     {
         match self {
@@ -107,8 +107,8 @@ impl Expression {
         }
     }
 
-    /// The value of the expression, where it is borrowed for the whole run. None says nothing. It
-    /// takes no memory.
+    /// The value of the expression, where it is borrowed for the whole run. `None` doesn't mean
+    /// that there is no value. It takes no memory.
     pub fn borrowed_value<'d>(&self, state: &State<'d>) -> Option<&'d Value>
         ensures { IfSome result (λ v. Some (view v.now) ≡
             value_of (expression_view self.now) (environment_of state.now)) }
@@ -160,16 +160,17 @@ impl Expression {
 impl Variable {
     /// `Expression::direct_value` of a variable.
     fn direct_value<'a>(&'a self, state: &'a State<'_>) -> DirectValue<'a>
-        ensures { Says result (value_of (variable_view self.now) (environment_of state.now)) None }
+        ensures { DirectlyIs result (value_of (variable_view self.now) (environment_of state.now))
+            None }
     {
         match state.direct_value(self.name.as_str()) {
             DirectValue::Held(value) => match direct_along(value, &self.indexes) {
                 Some(found) => DirectValue::Held(found),
-                None => DirectValue::Unsaid,
+                None => DirectValue::Unknown,
             },
             DirectValue::Number(n) if self.indexes.is_empty() => DirectValue::Number(n),
             DirectValue::Loop(frame) => direct_part(frame, self.indexes.as_slice()),
-            _ => DirectValue::Unsaid,
+            _ => DirectValue::Unknown,
         }
     }
 
@@ -282,11 +283,12 @@ fn variable_value<'a, 'd>(variable: &'a Variable, state: &'a State<'d>) -> Optio
     Some(found)
 }
 
-/// What steps by literals lead to, by keys and by the places of items. None says nothing.
+/// What steps by literals lead to, by keys and by the places of items. `None` doesn't mean that
+/// they lead nowhere.
 fn direct_along<'a>(value: &'a Value, indexes: &Vec<Expression>) -> Option<&'a Value>
     ensures { (e : Environment) →
         IfSome result (λ v. Some (view v.now) ≡
-        led (view value.now) (steps_view indexes.now.items) e) }
+        value_along_steps (view value.now) (steps_view indexes.now.items) e) }
 {
     let mut found = value;
     for index in indexes {
@@ -298,27 +300,29 @@ fn direct_along<'a>(value: &'a Value, indexes: &Vec<Expression>) -> Option<&'a V
 /// What a lone step leads to from a loop's object, by a literal.
 fn direct_part<'a>(frame: &LoopFrame<'_>, indexes: &[Expression]) -> DirectValue<'a>
     ensures { (e : Environment) → (local : Map Datum) →
-        Says result (led (frame_object frame.now local) (steps_view indexes.now) e) None }
+        DirectlyIs result (value_along_steps (frame_object frame.now local) (steps_view indexes.now)
+        e) None }
 {
     match indexes {
         [index] => direct_part_by(frame, index),
-        _ => DirectValue::Unsaid,
+        _ => DirectValue::Unknown,
     }
 }
 
 /// A step by a literal from a loop's object.
 fn direct_part_by<'a>(frame: &LoopFrame<'_>, index: &Expression) -> DirectValue<'a>
     ensures { (e : Environment) → (local : Map Datum) →
-        Says result (option_and_then (step (frame_object frame.now local))
+        DirectlyIs result (option_and_then (step (frame_object frame.now local))
         (value_of (expression_view index.now) e)) None }
 {
     match index {
         Expression::Literal(part) => frame.direct_stepped(part),
-        Expression::Variable(_) => DirectValue::Unsaid,
+        Expression::Variable(_) => DirectValue::Unknown,
     }
 }
 
-/// A step by a literal: a key of a map, or the place of an item. None says nothing.
+/// A step by a literal: a key of a map, or the place of an item. `None` doesn't mean that it leads
+/// nowhere.
 fn direct_step<'a>(value: &'a Value, index: &Expression) -> Option<&'a Value>
     ensures { (e : Environment) →
         IfSome result (λ v. Some (view v.now) ≡ option_and_then (step (view value.now))

@@ -24,7 +24,7 @@ pub trait Filter: Drop {
     fn accepts(&self, count: usize) -> bool
         ensures { result ≡ counts self.now count };
 
-    /// The filter's answer to the input and the arguments, of which it takes the number; or
+    /// The filter's answer to the input and the arguments, whose number the filter takes; or
     /// `Memory` where a growth was refused.
     fn evaluate(&self, alloc: Global, input: &Value, args: &[Value]) -> Result<Value>
         requires { IsTrue (counts self.now (length args.now)) }

@@ -47,7 +47,7 @@ impl Drop for LoopKind {
     }
 }
 
-/// A number of columns, of which there is one at least.
+/// A number of columns, at least 1.
 #[derive(Clone, Copy, Drop)]
 pub struct Columns {
     /// How many there are.
@@ -67,7 +67,7 @@ pub struct LoopFrame<'d> {
     pub count: usize,
     /// Whether the last of them comes first.
     pub reversed: bool,
-    /// Which of them it is.
+    /// Which of them the loop is at, from 0.
     pub at: usize,
     /// What the loop binds beside its variable.
     pub kind: LoopKind,

@@ -9,7 +9,7 @@ ghost use Rattle.liquid_core.specs.Environment.{local_of};
 ghost use Rattle.liquid_core.specs.Held.{Outer};
 ghost use Rattle.liquid_core.specs.Places.{number_at};
 ghost use Rattle.liquid_core.specs.Resolved.{scopes_view, resolved_view, IsAmong, depth};
-ghost use Rattle.liquid_core.specs.Said.{Says};
+ghost use Rattle.liquid_core.specs.DirectValues.{DirectlyIs};
 ghost use Rattle.liquid_model.specs.Maps.{Map};
 ghost use Rattle.liquid_core.specs.declared.frame.Scope.{Scope};
 ghost use Rattle.liquid_core.specs.declared.frame.Scope.TheVariants as scope;
@@ -25,7 +25,7 @@ use liquid_model::{Found, Value};
 impl<'d> LoopFrame<'d> {
     /// The item, where a value holds it, or it is a number.
     fn direct_item<'a>(&'a self) -> DirectValue<'a>
-        ensures { Says result (Some (frame_item self.now)) None }
+        ensures { DirectlyIs result (Some (frame_item self.now)) None }
     {
         let forwards = self.at;
         let place = if self.reversed {
@@ -40,20 +40,20 @@ impl<'d> LoopFrame<'d> {
             Items::Numbers(first, last) => {
                 return match number_at(*first, *last, place) {
                     Found::Integer(n) => DirectValue::Number(n),
-                    _ => DirectValue::Unsaid,
+                    _ => DirectValue::Unknown,
                 };
             }
         };
         if place < items.len() {
             DirectValue::Held(&items[place])
         } else {
-            DirectValue::Unsaid
+            DirectValue::Unknown
         }
     }
 
-    /// `find` of what a value holds, of numbers, and of the loop's object.
+    /// As `find`, for what a value holds, for numbers, and for the loop's object.
     pub(crate) fn direct_value<'a>(&'a self, name: &str) -> DirectValue<'a>
-        ensures { (local : Map Datum) → Says result (frame_map self.now local name.now) None }
+        ensures { (local : Map Datum) → DirectlyIs result (frame_map self.now local name.now) None }
     {
         if name == self.name {
             self.direct_item()
@@ -64,21 +64,21 @@ impl<'d> LoopFrame<'d> {
         }
     }
 
-    /// `stepped` to what each loop's object has: a number or a truth value, by its name.
+    /// As `stepped`, for what each loop's object has: a number or a truth value, by its name.
     pub(crate) fn direct_stepped<'a>(&self, part: &Value) -> DirectValue<'a>
         ensures { (local : Map Datum) →
-            Says result (step (frame_object self.now local) (view part.now)) None }
+            DirectlyIs result (step (frame_object self.now local) (view part.now)) None }
     {
         match part {
             Value::Text(name) => self.direct_part(name.as_str()),
-            _ => DirectValue::Unsaid,
+            _ => DirectValue::Unknown,
         }
     }
 
-    /// `part` of what each loop's object has.
+    /// As `part`, for what each loop's object has.
     fn direct_part<'a>(&self, name: &str) -> DirectValue<'a>
         ensures { (local : Map Datum) →
-            Says result (object_part (frame_object self.now local) name.now) None }
+            DirectlyIs result (object_part (frame_object self.now local) name.now) None }
     {
         let k = self.at;
         let m = self.count;
@@ -90,7 +90,7 @@ impl<'d> LoopFrame<'d> {
             "length" => DirectValue::Number(m as i64),
             "rindex" => DirectValue::Number((m - k) as i64),
             "rindex0" => DirectValue::Number((m - k - 1) as i64),
-            _ => DirectValue::Unsaid,
+            _ => DirectValue::Unknown,
         }
     }
 

@@ -9,14 +9,14 @@ ghost use Rattle.liquid_model.specs.ErrorKinds.{IsKindOrMemory};
 ghost use Rattle.liquid_model.specs.View.{view};
 ghost use Rattle.liquid_model.specs.declared.error.ErrorKind.{ErrorKind};
 ghost use Rattle.liquid_model.specs.declared.error.ErrorKind.TheVariants.{Unsupported};
-ghost use Rattle.liquid_core.specs.FilterAnswers.{AnswersIf, FilterAnswer, Tells};
+ghost use Rattle.liquid_core.specs.FilterAnswers.{AnswersIf, FilterAnswer, AnswersOrMemory};
 ghost use Rattle.liquid_core.specs.Hosts.{host_answer, last_named, of_host};
 
 use crate::filter::Filter;
 use liquid_model::{Error, ErrorKind, Result, Value};
 use std::alloc::Global;
 
-/// Filters of the host, by name. The later of one name counts.
+/// Filters of the host, by name. Of two with one name the later counts.
 #[derive(Drop)]
 pub struct HostFilters {
     filters: Vec<(String, Box<dyn Filter>)>,
@@ -57,7 +57,7 @@ impl HostFilters {
             (λ b. Answers view result (of_host (answer b (view input.now) (map view args.now)))) }
     {
         match self.find(name) {
-            Some(filter) => evaluated(alloc, filter, input, args),
+            Some(filter) => evaluate_filter(alloc, filter, input, args),
             None => unreachable!(),
         }
     }
@@ -88,7 +88,7 @@ impl HostFilters {
     }
 }
 
-/// Filters that are called by their names, whether there are some or none.
+/// Filters that are called by their names. There may be none.
 pub trait NamedFilters {
     // What a call of a name answers.
     ghost named: { Self → Text → FilterAnswer };
@@ -147,7 +147,7 @@ fn unsupported(alloc: Global) -> Error
 }
 
 /// What a filter of the host answers, as a run has it.
-fn evaluated(
+fn evaluate_filter(
     alloc: Global,
     filter: &Box<dyn Filter>,
     input: &Value,
@@ -157,12 +157,17 @@ fn evaluated(
     ensures { Answers view result
         (of_host (answer filter.now (view input.now) (map view args.now))) }
 {
-    answered(alloc, asked(alloc, filter, input, args))
+    with_run_kind(alloc, filter_answer(alloc, filter, input, args))
 }
 
-/// The filter's own answer. It is a function for itself so that its clause speaks of the box and
-/// not of what stands in it.
-fn asked(alloc: Global, filter: &Box<dyn Filter>, input: &Value, args: &[Value]) -> Result<Value>
+/// The filter's own answer. It is a function of its own so that its clause is about the box, and
+/// not about what the box holds.
+fn filter_answer(
+    alloc: Global,
+    filter: &Box<dyn Filter>,
+    input: &Value,
+    args: &[Value],
+) -> Result<Value>
     requires { IsTrue (counts filter.now (length args.now)) }
     ensures { AnswersIf (within filter.now) view result (answer filter.now (view input.now)
         (map view args.now)) }
@@ -171,8 +176,8 @@ fn asked(alloc: Global, filter: &Box<dyn Filter>, input: &Value, args: &[Value])
 }
 
 /// The answer of a filter of the host, with `InvalidInput` for a kind that no run has.
-fn answered(alloc: Global, answer: Result<Value>) -> Result<Value>
-    ensures { (wanted : Answered Datum ErrorKind) → Tells view answer wanted →
+fn with_run_kind(alloc: Global, answer: Result<Value>) -> Result<Value>
+    ensures { (wanted : Answered Datum ErrorKind) → AnswersOrMemory view answer wanted →
         Answers view result (of_host wanted) }
 {
     match answer {

@@ -26,8 +26,8 @@ pub use frame::{Columns, Items, LoopFrame, LoopKind, Scope};
 pub use host_filters::{HostFilters, NamedFilters};
 pub use interrupt::Interrupt;
 pub use liquid_model::{
-    Error, ErrorKind, Found, Location, Object, Origin, Quoted, Result, Use, Uses, Value, ValueCow,
-    copy_items, excerpt, line_of, look_up, member_of, store, whole_of,
+    Error, ErrorKind, Found, ItemUse, Location, Object, Origin, Quoted, Result, Use, Uses, Value,
+    ValueCow, copy_items, excerpt, line_of, look_up, member_of, store, whole_of,
 };
 pub use resolved::{DirectValue, Resolved, Scopes};
 pub use similar_name::{SimilarName, more_similar};

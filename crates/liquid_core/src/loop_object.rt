@@ -29,7 +29,7 @@ pub(crate) fn forloop_object(
     Ok(object)
 }
 
-/// What `tablerow` is at item `at` of `total`, in rows of so many columns.
+/// What `tablerow` is at item `at` of `total`, in rows of `columns` columns.
 pub(crate) fn tablerow_object(
     alloc: Global,
     at: usize,

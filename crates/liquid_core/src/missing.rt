@@ -13,8 +13,8 @@ use liquid_model::{Object, Quoted, Value};
 use std::alloc::{AllocError, Global};
 use std::fmt::Write;
 
-/// So many names are looked at for a similar one, so that the search is short, whatever the data
-/// holds.
+/// The most names that are compared with a missing one, so that the search is short, whatever the
+/// data holds.
 const MOST_NAMES: usize = 2000;
 
 /// What to do about a path that has no value.
@@ -23,7 +23,7 @@ const CHECK_SPELLING: &str = "; check its spelling, or test for it with `if`";
 /// Words, or refused memory.
 pub(crate) type Words = Result<String, AllocError>;
 
-/// So many keys of a map are named at most.
+/// The most keys of a map that a message lists.
 const MOST_KEYS: usize = 4;
 
 /// The parts of a loop's object.
@@ -43,7 +43,7 @@ static LOOP_PARTS: [&str; 8] = [
 struct Search<'n, 'm> {
     meant: &'m str,
     similar: Option<SimilarName<'n>>,
-    /// So many names may still be looked at.
+    /// How many names may still be compared.
     left: usize,
 }
 
@@ -92,7 +92,7 @@ pub(crate) fn words_of(alloc: Global, expression: &Expression, state: &State<'_>
     }
 }
 
-/// The same of a variable.
+/// The same for a variable.
 pub(crate) fn words_of_variable<'a, 'd>(
     alloc: Global,
     variable: &'a Variable,
@@ -127,7 +127,7 @@ pub(crate) fn words_of_variable<'a, 'd>(
     Ok(String::new(alloc))
 }
 
-/// Of a name that nothing is called by.
+/// The words for a name that nothing has.
 fn without_name(alloc: Global, variable: &Variable, state: &State<'_>) -> Words {
     let name = variable.name.as_str();
     let quoted = Quoted { text: name };
@@ -145,7 +145,7 @@ fn without_name(alloc: Global, variable: &Variable, state: &State<'_>) -> Words 
     Ok(words)
 }
 
-/// Of a name that nothing is called by, and that is similar to none.
+/// Adds advice on a name that nothing has and that is similar to no other.
 fn push_advice(
     words: &mut String,
     variable: &Variable,
@@ -187,7 +187,7 @@ fn file_suffix(variable: &Variable) -> Option<&str> {
     }
 }
 
-/// Of a step whose own value is missing.
+/// The words for a step whose own value is missing.
 fn without_index(alloc: Global, index: &Expression) -> Words {
     let spelled = Spelled { expression: index }.to_string(alloc)?;
     let quoted = Quoted {
@@ -196,7 +196,7 @@ fn without_index(alloc: Global, index: &Expression) -> Words {
     format!(in alloc; ", since `{quoted}` has none")
 }
 
-/// Of a step that leads nowhere from what stands before it.
+/// The words for a step that leads nowhere from what stands before it.
 fn without_step(alloc: Global, path: &SpelledPath<'_>, base: Kind<'_>, key: Kind<'_>) -> Words {
     let spelled = path.to_string(alloc)?;
     let quoted = Quoted {
@@ -253,7 +253,7 @@ fn push_other_step(
     }
 }
 
-/// Of a step with the name of a filter.
+/// Adds advice on a step with the name of a filter.
 fn push_filter(words: &mut String, path: &Quoted<'_>, name: &str) -> Result<(), AllocError> {
     match filter_meant(name) {
         Some("size") => write!(words, "; write `{path}.size`"),
@@ -262,7 +262,7 @@ fn push_filter(words: &mut String, path: &Quoted<'_>, name: &str) -> Result<(), 
     }
 }
 
-/// Of a key that a map or the object of a loop doesn't have.
+/// The words for a key that a map or the object of a loop doesn't have.
 fn without_key(alloc: Global, path: &Quoted<'_>, name: &str, map: Option<&Object>) -> Words {
     let quoted = Quoted { text: name };
     let mut words = format!(in alloc; ": `{path}` has no `{quoted}`")?;

@@ -9,14 +9,14 @@ ghost use Rattle.liquid_model.specs.Data.{Datum, object};
 ghost use Rattle.liquid_core.specs.Environment.{local_of};
 ghost use Rattle.liquid_core.specs.Held.{Outer, held};
 ghost use Rattle.liquid_core.specs.Resolved.{scopes_view, resolved_view, IsAmong, IsHeld, depth};
-ghost use Rattle.liquid_core.specs.Said.{Says};
+ghost use Rattle.liquid_core.specs.DirectValues.{DirectlyIs};
 ghost use Rattle.liquid_model.specs.Maps.{Map};
 ghost use Rattle.liquid_core.specs.declared.frame.Scope.{Scope};
 ghost use Rattle.liquid_core.specs.declared.frame.Scope.TheVariants as scope;
 ghost use Rattle.liquid_core.specs.declared.frame.LoopFrame.{LoopFrame};
 ghost use Rattle.liquid_core.specs.LoopFrames.{IsNext};
 ghost use Rattle.liquid_core.specs.LoopFrames.{frame_object, scope_map};
-ghost use Rattle.liquid_core.specs.LoopFrames.{standing};
+ghost use Rattle.liquid_core.specs.LoopFrames.{scope_maps};
 
 use crate::frame::{LoopFrame, LoopKind, Scope};
 use crate::loop_object::{forloop_object, tablerow_object};
@@ -58,8 +58,8 @@ pub enum DirectValue<'a> {
     Loop(&'a LoopFrame<'a>),
     /// Nothing.
     Nothing,
-    /// It isn't said: what steps of other kinds lead to.
-    Unsaid,
+    /// Not known directly: what steps of other kinds lead to.
+    Unknown,
 }
 
 impl<'d> LoopFrame<'d> {
@@ -100,10 +100,10 @@ impl<'d> Scope<'d> {
         }
     }
 
-    /// `find` of what a value holds, and of numbers.
+    /// As `find`, for what a value holds, and for numbers.
     #[tactic(auto, using(crate::proofs::States::held_at))]
     fn direct_value<'a>(&'a self, name: &str) -> DirectValue<'a>
-        ensures { (local : Map Datum) → Says result (scope_map self.now local name.now) None }
+        ensures { (local : Map Datum) → DirectlyIs result (scope_map self.now local name.now) None }
     {
         match self {
             Scope::Names(object) => match look_up(object, name) {
@@ -207,11 +207,11 @@ impl<'a, 'd> Resolved<'a, 'd> {
 }
 
 impl<'a, 'd> Scopes<'a, 'd> {
-    /// `find` of what a value holds, and of numbers; where no loop says anything, the scopes
-    /// outside every loop do.
+    /// As `find`, for what a value holds, and for numbers. Where no frame binds the name, the
+    /// scopes outside every loop are looked at.
     #[inline(never)]
     pub(crate) fn direct_value(self, name: &str) -> DirectValue<'a>
-        ensures { Says result (local_of (scopes_view self.entry) name.now)
+        ensures { DirectlyIs result (local_of (scopes_view self.entry) name.now)
             (local_of (reverse (map held self.entry.outer.now)) name.now) }
     {
         let frames = self.frames;
@@ -235,7 +235,7 @@ impl<'a, 'd> Scopes<'a, 'd> {
             scope ∷ drop (last + 1) self.entry.frames.now →
             option_map resolved_view result ≡
             scope_map scope
-            (local_of (standing (take last self.entry.frames.now)
+            (local_of (scope_maps (take last self.entry.frames.now)
             (reverse (map held self.entry.outer.now)))) name.now }
     {
         let frames = self.frames;

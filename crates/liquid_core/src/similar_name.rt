@@ -2,10 +2,11 @@
 use std::alloc::{AllocError, Global};
 use strsim::generic_damerau_levenshtein;
 
-/// With more edits than these a name is no likely misspelling of another.
+/// The most edits between a name and a likely misspelling of it.
 const MOST_EDITS: usize = 2;
 
-/// A longer name is similar to none, so that a distance costs little, whatever a stranger wrote.
+/// The most bytes of a name that has similar ones. So a distance costs little, whatever a stranger
+/// wrote.
 const LONGEST: usize = 60;
 
 /// A name similar to the one that is meant.
@@ -17,9 +18,9 @@ pub struct SimilarName<'n> {
     pub edits: usize,
 }
 
-/// The more similar of two names to the one that is meant: this one, or the one that was found
-/// before. A name of more than 60 bytes is similar to none, and so is one that differs by more than
-/// two edits. It refuses for memory alone.
+/// The more similar of two names to `meant`: `name`, or the one that was found before. Nothing is
+/// similar to a `meant` of more than 60 bytes, and no name that differs from it by more than two
+/// edits is. The only error is that memory is refused.
 pub fn more_similar<'n>(
     alloc: Global,
     name: &'n str,

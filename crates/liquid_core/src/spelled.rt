@@ -23,7 +23,7 @@ pub struct Spelled<'e> {
     pub expression: &'e Expression,
 }
 
-/// The same of a name and some steps.
+/// The same for a name and some of its steps.
 #[derive(Clone, Copy)]
 pub(crate) struct SpelledPath<'e> {
     pub(crate) name: &'e str,

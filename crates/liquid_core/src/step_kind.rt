@@ -14,7 +14,7 @@ pub(crate) enum Kind<'a> {
     Loop,
 }
 
-/// What is found, to a step.
+/// What a found value is to a step.
 pub(crate) fn kind_of<'a>(resolved: &Resolved<'a, '_>) -> Kind<'a> {
     match resolved {
         Resolved::Borrowed(found) => kind_of_found(found),

@@ -1,4 +1,4 @@
--- What data has other than is wanted.
+-- How data differs from what the template needs.
 --     doubt_of want path ps      the first doubt about the values at a path in data of these pairs:
 --     they aren't there, or one of them isn't as it is wanted
 use Rattle.std.specs.Prelude.{ℕ, ◌+◌, ◌==◌, ◌||◌, min, cond, nat_lt, is_some, ℤ, pos, negsuc}
@@ -14,7 +14,7 @@ use Rattle.liquid_data_paths.specs.declared.doubt.Want.{Want}
 use Rattle.liquid_data_paths.specs.declared.doubt.Want.TheVariants.{Present, Perhaps, Date, Items}
 
 -- a map lacks a key; a loop goes over what is no list and no map; it asks for items past the end
--- of a list of so many; a text is no date
+-- of a list with this number of them; a text is no date
 pub data Doubt : Type 0 where
   lacks : Lacking → Doubt
   no_list : Datum → Doubt

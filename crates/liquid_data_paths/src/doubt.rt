@@ -1,4 +1,4 @@
-//! What data has other than is wanted.
+//! How data differs from what the template needs.
 ghost use Rattle.std.specs.Prelude.{◌≡◌, is_some, map, option_map};
 ghost use Rattle.liquid_model.specs.Answer.{IsValueOrMemory};
 ghost use Rattle.liquid_model.specs.View.{view, pairs_view};
@@ -36,14 +36,15 @@ pub struct Span {
     pub limit: Option<i64>,
 }
 
-/// What data has other than is wanted.
+/// How data differs from what the template needs.
 #[derive(Clone, Copy)]
 pub enum Doubt<'d> {
     /// A map on the way lacks a key.
     Lacks(Lack<'d>),
     /// A loop goes over what is no list, no map and not nil.
     NoList(&'d Value),
-    /// After the items that are left out a loop asks for more than a list or a map of so many has.
+    /// A loop leaves out items and then asks for more than are left of a list or a map, which has
+    /// this many in all.
     PastEnd(usize),
     /// What is printed as a date is another text.
     NoDate(&'d str),

@@ -1,4 +1,4 @@
-//! Paths in data: where data lacks one, and what it has there other than is wanted.
+//! Paths in data: where data lacks one, and how it differs from what the template needs.
 #![tactic(auto)]
 
 mod data_path;

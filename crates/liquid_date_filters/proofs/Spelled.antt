@@ -4,7 +4,7 @@ use Rattle.std.proofs.lemmas.Bool.Decides.{nat_tests}
 use Rattle.std.specs.Char.{is_ascii_digit}
 use Rattle.liquid_date_filters.specs.Clock.{Clock}
 use Rattle.liquid_date_filters.specs.Laws.{IsWritten, ReadIsWritten}
-use Rattle.liquid_date_filters.specs.Spelling.{◌>>=◌, Read, byte, clock, digit, end, exists, if_exists, known, month, month_number, named_day, offset, one_or_two, or_else, past_date_byte, plain_day, read, second_digit, sign, read_spelled_date, time, two, four, Day, Offset, Spelled, Time}
+use Rattle.liquid_date_filters.specs.Spelling.{◌>>=◌, Read, byte, clock, digit, end, exists, if_exists, known_month, month, month_number, named_day, offset, one_or_two, or_else, past_date_byte, plain_day, read, second_digit, sign, read_spelled_date, time, two, four, Day, Offset, Spelled, Time}
 use Rattle.liquid_date_filters.specs.Written.{two_digits, four_digits, letters, named_written, plain_written, short_written, time_written, sign_of, offset_written}
 
 -- what is read as a digit was written so
@@ -157,9 +157,9 @@ lettered a b c m e n = pick (names a b c m e)
 month_was : (s r : List ℕ) (m : ℕ) → month s ≡ Some (m, r) → s ≡ letters m ++ r
 unfolding month
 month_was s r m e =
-    let p = bind_was (byte s) (λ a. ◌>>=◌ (byte a.1) (λ b. ◌>>=◌ (byte b.1) (λ c. known (month_number a.0 b.0 c.0) c.1))) (m, r) e in
-    let q = bind_was (byte p.0.1) (λ b. ◌>>=◌ (byte b.1) (λ c. known (month_number p.0.0 b.0 c.0) c.1)) (m, r) p.2 in
-    let t = bind_was (byte q.0.1) (λ c. known (month_number p.0.0 q.0.0 c.0) c.1) (m, r) q.2 in
+    let p = bind_was (byte s) (λ a. ◌>>=◌ (byte a.1) (λ b. ◌>>=◌ (byte b.1) (λ c. known_month (month_number a.0 b.0 c.0) c.1))) (m, r) e in
+    let q = bind_was (byte p.0.1) (λ b. ◌>>=◌ (byte b.1) (λ c. known_month (month_number p.0.0 b.0 c.0) c.1)) (m, r) p.2 in
+    let t = bind_was (byte q.0.1) (λ c. known_month (month_number p.0.0 q.0.0 c.0) c.1) (m, r) q.2 in
     let n = month_number p.0.0 q.0.0 t.0.0 in
     let k = known_by (n == 0) n m t.0.1 r refl t.2 in
     byte_was s p.0.1 p.0.0 p.1 ∙ ap (λ u. p.0.0 ∷ u) (byte_was p.0.1 q.0.1 q.0.0 q.1 ∙ ap (λ u. q.0.0 ∷ u) (byte_was q.0.1 t.0.1 t.0.0 t.1))

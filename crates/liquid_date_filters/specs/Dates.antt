@@ -38,7 +38,7 @@ date_answer d args = dated d (text_or [] args)
 abbrev pub is_zone : ℤ → Bool
 is_zone hours = int_le (neg_ℤ (pos 23)) hours && int_le hours (pos 23)
 
--- the same instant by a clock at so many hours
+-- the same instant, as a clock at an offset of `hours` hours prints it
 abbrev pub in_zone : Option Clock → Text → ℤ → Answer
 in_zone None pattern hours = Err InvalidInput
 in_zone (Some c) pattern hours =

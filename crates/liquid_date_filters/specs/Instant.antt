@@ -6,7 +6,7 @@ use Rattle.jiff_core.specs.Calendar.{days_from_civil}
 use Rattle.jiff_core.specs.Timestamp.{nanos_of_seconds}
 use Rattle.liquid_date_filters.specs.Clock.{Clock}
 
--- the last year, of so many up to this one, that has begun on the day
+-- the last year from y - k to y that has begun on the day n, or y - k where none has
 unfoldable pub year_at : ℕ → ℤ → ℤ → ℤ
 year_at zero y n = y
 year_at (suc k) y n = if int_le (days_from_civil y 1 1) n then y else year_at k (y -ℤ pos 1) n
@@ -34,7 +34,7 @@ clock_on day y m rest offset = record {
   offset = offset;
 }
 
--- the clock after so many nanoseconds of its own since 1970 began
+-- the clock n nanoseconds of its own after 1970 began
 abbrev pub clock_after : ℤ → ℤ → Clock
 clock_after n offset =
     clock_on (int_div_euclid n (pos 86_400_000_000_000))

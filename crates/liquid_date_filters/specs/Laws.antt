@@ -78,14 +78,14 @@ DateIsOne =
 abbrev pub ShowsInstant : Clock → ℤ → Clock → Type 0
 ShowsInstant c offset z = IsClock z × (z.offset ≡ offset) × (instant z ≡ instant c)
 
--- what is printed of a clock's instant at an offset of so many hours, up to 23 each way
+-- what is printed of a clock's instant at an offset of `hours` hours, up to 23 each way
 abbrev pub PrintsAt : Clock → Text → ℤ → Answer → Type 0
 PrintsAt c pattern hours a =
     MatchBool (is_zone hours)
     ((z : Clock) × ShowsInstant c (hours *ℤ pos 3600) z × (a ≡ as_text (printed z pattern)))
     (a ≡ Err TimezoneRange)
 
--- the hours are looked at first, then the date, and then whether there are so many hours
+-- hours that are no number are refused first, then what is no date, then hours beyond 23 each way
 abbrev pub PrintsInZone : Datum → Text → Datum → Answer → Type 0
 PrintsInZone d pattern hours a =
     ((whole hours ≡ None) × (a ≡ Err InvalidArgument))

@@ -78,15 +78,15 @@ abbrev pub byte : List ℕ → Read ℕ
 byte [] = None
 byte (a ∷ s) = Some (a, s)
 
-abbrev pub known : ℕ → List ℕ → Read ℕ
-known n s = if n == 0 then None else Some (n, s)
+abbrev pub known_month : ℕ → List ℕ → Read ℕ
+known_month n s = if n == 0 then None else Some (n, s)
 
 unfoldable pub month : List ℕ → Read ℕ
 month s = do
   a ← byte s
   b ← byte a.1
   c ← byte b.1
-  known (month_number a.0 b.0 c.0) c.1
+  known_month (month_number a.0 b.0 c.0) c.1
 
 -- year, month and day
 pub record Day : Type 0 where
@@ -228,7 +228,7 @@ abbrev pub offset_view : Option (CodeOffset × Bor (List ℕ)) → Read Offset
 offset_view None = None
 offset_view (Some p) = Some (offset_of p.0, p.1.now)
 
--- what so many digits can be
+-- what the digits can write: four of a year, and two of every other part
 abbrev pub IsDay : CodeDay → Type 0
 IsDay d = (d.year < 10000) × (d.month < 100) × (d.day < 100)
 

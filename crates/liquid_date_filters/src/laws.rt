@@ -43,8 +43,8 @@ pub fn calendar_laws()
 /// What each filter answers, and that nothing else is its answer.
 ///
 /// - `date`: the clock of the date that the input writes, printed by the pattern.
-/// - `date_in_tz`: the clock that shows the date's instant at an offset of so many hours, printed
-///   by the pattern.
+/// - `date_in_tz`: the clock that shows the date's instant at the offset that the hours give,
+///   printed by the pattern.
 pub fn date_laws()
     ensures date_is_one { DateIsOne }
     ensures date_in_tz_is_one { DateInTzIsOne }

@@ -112,7 +112,7 @@ fn print_parts(
         Ok(text) => Ok(text),
         Err(error) => {
             if is_short(&error) {
-                Err(short())
+                Err(memory_error())
             } else {
                 Err(refused(alloc, pattern))
             }
@@ -131,7 +131,7 @@ fn is_short(error: &jiff_core::Error) -> bool
     )
 }
 
-fn short() -> Error
+fn memory_error() -> Error
     ensures { result.kind ≡ ErrorKind.Memory }
 {
     Error {

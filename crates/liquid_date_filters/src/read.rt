@@ -22,7 +22,7 @@ pub fn read_date(text: &str) -> Result<Option<Zoned<'static>>>
     ensures zone { IfOk result (λ o. IfSome o spec.IsAtFixedOffset) }
     ensures no_memory { IsOk result }
 {
-    Ok(found(text.as_bytes()))
+    Ok(zoned_date(text.as_bytes()))
 }
 
 /// The date that a value is: texts alone are dates.
@@ -30,13 +30,13 @@ pub(crate) fn date_of(value: &Value) -> Option<Zoned<'static>>
     ensures { option_map spec.zoned_clock result ≡ dates.date_of (view value.now) }
 {
     match value {
-        Value::Text(text) => found(text.as_str().as_bytes()),
+        Value::Text(text) => zoned_date(text.as_str().as_bytes()),
         _ => None,
     }
 }
 
 #[tactic(auto, unfolding(crate::specs::Spelling::read))]
-fn found(text: &[u8]) -> Option<Zoned<'static>>
+fn zoned_date(text: &[u8]) -> Option<Zoned<'static>>
     ensures value { option_map spec.zoned_clock result ≡ spec.read text.now }
     ensures zone { IfSome result spec.IsAtFixedOffset }
 {

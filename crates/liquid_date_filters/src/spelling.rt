@@ -82,9 +82,9 @@ fn month_number(a: u8, b: u8, c: u8) -> u8
 }
 
 /// A number that is the number of a month, with the text after it.
-fn known(number: u8, text: &[u8]) -> Option<(u8, &[u8])>
+fn known_month(number: u8, text: &[u8]) -> Option<(u8, &[u8])>
     requires { number ≤ 12 }
-    ensures value { date_part_view result ≡ spec.known number text.now }
+    ensures value { date_part_view result ≡ spec.known_month number text.now }
     ensures bound { IfSome result (λ p. p.0 ≤ 12) }
 {
     if number == 0 {
@@ -113,7 +113,7 @@ fn month(text: &[u8]) -> Option<(u8, &[u8])>
     let (a, text) = byte(text)?;
     let (b, text) = byte(text)?;
     let (c, text) = byte(text)?;
-    known(month_number(a, b, c), text)
+    known_month(month_number(a, b, c), text)
 }
 
 /// A day as it is written.

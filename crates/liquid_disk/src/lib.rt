@@ -2,5 +2,11 @@
 #![tactic(auto)]
 
 mod disk;
+mod full;
+mod put;
+mod system;
 
 pub use disk::{Disk, DiskFault};
+pub use full::is_disk_full;
+pub use put::{put_file, put_whole, replace_file};
+pub use system::{FileSystem, SystemFiles};

@@ -16,11 +16,11 @@ use Rattle.liquid_core.specs.Expression as tree
 use Rattle.liquid_core.specs.Environment.{Environment}
 use Rattle.liquid_core.specs.Expressions.{value_of, required, all_required}
 use Rattle.liquid_core.specs.FilterAnswers.{AnswersIf}
-use Rattle.liquid_core.specs.Said.{Says}
+use Rattle.liquid_core.specs.DirectValues.{DirectlyIs}
 use Rattle.liquid_core.specs.declared.resolved.DirectValue.{DirectValue}
-use Rattle.liquid_core.specs.declared.resolved.DirectValue.TheVariants.{Held, Number, Truth, Loop, Nothing, Unsaid}
+use Rattle.liquid_core.specs.declared.resolved.DirectValue.TheVariants.{Held, Number, Truth, Loop, Nothing, Unknown}
 use Rattle.liquid_evaluation.specs.Calls.{Call, applied}
-use Rattle.liquid_evaluation.specs.Said.{SaysOf}
+use Rattle.liquid_evaluation.specs.DirectValues.{ChainDirectlyIs}
 use Rattle.liquid_evaluation.specs.Tree.{FilterCall, Chain}
 use Rattle.liquid_evaluation.specs.Evaluation.{FilterAnswers, entry_value, call_by, calls_by, chain_value}
 
@@ -239,13 +239,13 @@ its_entry : (answers : FilterAnswers) (chain : Chain) (e : Environment) (d : Dat
 its_entry answers chain e d none h =
     chain_from answers chain e d (sym (ap (λ o. entry_value o chain.filters) h)) ∙ ap (λ fs. applied (calls_by answers fs) d e) none ∙ nothing_applied answers d e
 
-pub said_of : (n : DirectValue) (chain : Chain) (e : Environment) → chain.filters ≡ [] → Says n (value_of chain.entry e) None → SaysOf n chain e
-said_of (Held v) chain e none h = λ answers. its_entry answers chain e (view v.now) none h
-said_of (Number n) chain e none h = λ answers. its_entry answers chain e (number n) none h
-said_of (Truth b) chain e none h = λ answers. its_entry answers chain e (truth b) none h
-said_of (Loop t) chain e none h = tt
-said_of Nothing chain e none h = tt
-said_of Unsaid chain e none h = tt
+pub directly_of : (n : DirectValue) (chain : Chain) (e : Environment) → chain.filters ≡ [] → DirectlyIs n (value_of chain.entry e) None → ChainDirectlyIs n chain e
+directly_of (Held v) chain e none h = λ answers. its_entry answers chain e (view v.now) none h
+directly_of (Number n) chain e none h = λ answers. its_entry answers chain e (number n) none h
+directly_of (Truth b) chain e none h = λ answers. its_entry answers chain e (truth b) none h
+directly_of (Loop t) chain e none h = tt
+directly_of Nothing chain e none h = tt
+directly_of Unknown chain e none h = tt
 
 pub none_of : {X Y : Type 0} (f : X → Y) (xs : List X) → length xs ≡ 0 → map f xs ≡ []
 none_of f [] h = refl

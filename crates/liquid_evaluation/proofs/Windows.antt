@@ -4,7 +4,7 @@ use Rattle.std.proofs.lemmas.List.{get_or-reverse, length-reverse}
 use Rattle.std.proofs.lemmas.Option.{slice_get-get_or}
 use Rattle.liquid_model.specs.Data.{Datum, nil}
 use Rattle.liquid_core.specs.Places.{place_of}
-use Rattle.liquid_evaluation.specs.Evaluation.{count_to, numbers_from, skipped, wanted, items_in_window}
+use Rattle.liquid_evaluation.specs.Evaluation.{count_to, numbers_from, skipped, selected_count, items_in_window}
 use Rattle.liquid_evaluation.specs.Laws.{AreItemsByPlace, WindowByPlace, CountedWindow}
 use Rattle.liquid_evaluation.proofs.Ranges.{numbers_count, number_by_place}
 
@@ -39,16 +39,16 @@ placed ds o m true = record { count = turned_count; each = each }
         ∙ item_place ds o m (m - k - 1) (omega arith))
 
 pub window_by_place : WindowByPlace
-window_by_place ds limit offset reversed = placed ds (skipped (length ds) offset) (wanted (length ds) (skipped (length ds) offset) limit) reversed
+window_by_place ds limit offset reversed = placed ds (skipped (length ds) offset) (selected_count (length ds) (skipped (length ds) offset) limit) reversed
 
 pub counted_window : CountedWindow
 counted_window a b limit offset reversed =
     let n : length (numbers_from a (count_to a b)) ≡ count_to a b = numbers_count a (count_to a b) in
     let all = window_by_place (numbers_from a (count_to a b)) limit offset reversed in
     record {
-      count = all.count ∙ ap (λ k. wanted k (skipped k offset) limit) n;
+      count = all.count ∙ ap (λ k. selected_count k (skipped k offset) limit) n;
       each = λ k h.
-          all.each k (subst (λ l. k < wanted l (skipped l offset) limit) (sym n) h)
-          ∙ ap (λ l. Some (get_or (numbers_from a (count_to a b)) (place_of reversed (skipped l offset) (wanted l (skipped l offset) limit) k) nil)) n
-          ∙ ap Some (sym (number_by_place a b (place_of reversed (skipped (count_to a b) offset) (wanted (count_to a b) (skipped (count_to a b) offset) limit) k)));
+          all.each k (subst (λ l. k < selected_count l (skipped l offset) limit) (sym n) h)
+          ∙ ap (λ l. Some (get_or (numbers_from a (count_to a b)) (place_of reversed (skipped l offset) (selected_count l (skipped l offset) limit) k) nil)) n
+          ∙ ap Some (sym (number_by_place a b (place_of reversed (skipped (count_to a b) offset) (selected_count (count_to a b) (skipped (count_to a b) offset) limit) k)));
     }

@@ -182,9 +182,9 @@ abbrev pub skipped : ℕ → Option ℤ → ℕ
 skipped n None = 0
 skipped n (Some offset) = count_within_limit n offset
 
-abbrev pub wanted : ℕ → ℕ → Option ℤ → ℕ
-wanted n o None = n - o
-wanted n o (Some limit) = count_within_limit n limit
+abbrev pub selected_count : ℕ → ℕ → Option ℤ → ℕ
+selected_count n o None = n - o
+selected_count n o (Some limit) = count_within_limit n limit
 
 -- m items from place o on, each nil where there is none
 abbrev pub items_in_window : List Datum → ℕ → ℕ → List Datum
@@ -195,12 +195,12 @@ items_in_window ds o (suc m) = get_or ds o nil ∷ items_in_window ds (suc o) m
 abbrev pub window_items : List Datum → Option ℤ → Option ℤ → Bool → List Datum
 window_items ds limit offset reversed =
     let o = skipped (length ds) offset in
-    let items = items_in_window ds o (wanted (length ds) o limit) in
+    let items = items_in_window ds o (selected_count (length ds) o limit) in
     cond reversed (reverse items) items
 
 -- limit and offset are evaluated in this order
-unfoldable pub asked_for : Window → List Datum → Environment → Result (List Datum) ErrorKind
-asked_for window ds e = do
+unfoldable pub selected_items : Window → List Datum → Environment → Result (List Datum) ErrorKind
+selected_items window ds e = do
   limit ← amount window.limit e
   offset ← amount window.offset e
   Ok (window_items ds limit offset window.reversed)

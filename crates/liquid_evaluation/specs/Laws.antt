@@ -7,7 +7,7 @@ use Rattle.liquid_core.specs.Environment.{Environment}
 use Rattle.liquid_core.specs.Places.{place_of, number_at}
 use Rattle.liquid_evaluation.specs.Tree.{Source}
 use Rattle.liquid_evaluation.specs.Evaluation.{source_items, count_to, numbers_from, skipped}
-use Rattle.liquid_evaluation.specs.Evaluation.{wanted, window_items}
+use Rattle.liquid_evaluation.specs.Evaluation.{selected_count, window_items}
 use Rattle.liquid_evaluation.specs.Ranges.{Range, range_of, range_items, range_item}
 
 -- a source's items are those of its value
@@ -29,13 +29,13 @@ pub record AreItemsByPlace (items : List Datum) (m : ℕ) (item : ℕ → Datum)
 -- nil where there is none
 abbrev pub WindowByPlace : Type 0
 WindowByPlace = (ds : List Datum) (limit offset : Option ℤ) (reversed : Bool)
-    → (let o = skipped (length ds) offset in let m = wanted (length ds) o limit in
+    → (let o = skipped (length ds) offset in let m = selected_count (length ds) o limit in
     AreItemsByPlace (window_items ds limit offset reversed) m
     (λ k. get_or ds (place_of reversed o m k) nil))
 
 -- over the range `(a..b)` it is the number that stands at this place, counted from a
 abbrev pub CountedWindow : Type 0
 CountedWindow = (a b : ℤ) (limit offset : Option ℤ) (reversed : Bool)
-    → (let o = skipped (count_to a b) offset in let m = wanted (count_to a b) o limit in
+    → (let o = skipped (count_to a b) offset in let m = selected_count (count_to a b) o limit in
     AreItemsByPlace (window_items (numbers_from a (count_to a b)) limit offset reversed) m
     (λ k. number_at a b (place_of reversed o m k)))

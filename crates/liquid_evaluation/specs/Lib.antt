@@ -3,13 +3,13 @@ pub mod Calls
 pub mod ChainView
 pub mod ConditionView
 pub mod Counts
+pub mod DirectValues
 pub mod Evaluation
 pub mod Groups
 pub mod ItemLists
 pub mod Laws
 pub mod Names
 pub mod Ranges
-pub mod Said
 pub mod SourceView
 pub mod StoredFilters
 pub mod Telling

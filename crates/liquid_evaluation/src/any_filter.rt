@@ -11,7 +11,7 @@ pub enum AnyFilter<'h, H> {
     /// One of the filters that exist.
     Kind(FilterKind),
     /// A filter of the host: its name, and the filters of the host. It takes any number of
-    /// arguments, and is `Unsupported` where none of the name takes so many.
+    /// arguments, and is `Unsupported` where none of the name takes the number that it is given.
     Host(&'h str, &'h H),
 }
 

@@ -34,7 +34,7 @@ impl ChainFilter {
     ghost use Rattle.liquid_evaluation.specs.AnyFilters.{any_answer, any_counts};
     ghost use Rattle.liquid_evaluation.specs.Calls.{call_of};
     ghost use Rattle.liquid_evaluation.specs.ChainView.{chain_filter_view};
-    ghost use Rattle.liquid_evaluation.specs.Said.{SaysOf};
+    ghost use Rattle.liquid_evaluation.specs.DirectValues.{ChainDirectlyIs};
     ghost use Rattle.liquid_evaluation.specs.Evaluation.{answers_with, call_by};
 
     /// The call by which the filter is run on its arguments, whose number it accepts.
@@ -79,7 +79,7 @@ impl FilterChain {
     ghost use Rattle.liquid_core.specs.States.{environment_of, FindsLoop};
     ghost use Rattle.liquid_model.specs.View.{view};
     ghost use Rattle.liquid_evaluation.specs.ChainView.{chain_view};
-    ghost use Rattle.liquid_evaluation.specs.Said.{SaysOf};
+    ghost use Rattle.liquid_evaluation.specs.DirectValues.{ChainDirectlyIs};
     ghost use Rattle.liquid_evaluation.specs.Evaluation.{answers_with, chain_value, entry_value};
 
     /// The value of the chain: that of its entry, through its filters in order.
@@ -88,7 +88,7 @@ impl FilterChain {
     /// argument of a filter.
     /// A filter's fault ends the chain, and its message begins with the filter's name, as does that
     /// of an argument. A filter of the host is `Unsupported` where `host` has none of its name that
-    /// takes so many arguments. `Memory` where a growth was refused.
+    /// takes the number of arguments in the chain. `Memory` where a growth was refused.
     pub fn evaluate(
         &self,
         alloc: Global,
@@ -145,12 +145,12 @@ impl FilterChain {
     /// The value of a chain without filters, where it is held or a number, as
     /// `Expression::direct_value`.
     pub fn direct_value<'a>(&'a self, state: &'a State<'_>) -> DirectValue<'a>
-        ensures { SaysOf result (chain_view self.now) (environment_of state.now) }
+        ensures { ChainDirectlyIs result (chain_view self.now) (environment_of state.now) }
     {
         if self.filters.is_empty() {
             self.entry.direct_value(state)
         } else {
-            DirectValue::Unsaid
+            DirectValue::Unknown
         }
     }
 

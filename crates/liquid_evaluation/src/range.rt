@@ -200,7 +200,7 @@ pub(crate) fn count_to(first: i64, last: i64) -> u128
     }
 }
 
-/// The numbers from the first to the last, of which there are so many.
+/// The numbers from `first` to `last`, of which there are `count`.
 fn numbers<'a>(alloc: Global, first: i64, last: i64, count: usize) -> Result<Vec<ValueCow<'a>>>
     requires { count ≡ count_to first last }
     ensures { IsValueOrMemory (λ v. map cow_view v.items) result (numbers_from first count) }

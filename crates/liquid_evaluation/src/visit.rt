@@ -1,5 +1,5 @@
 //! The names that chains, conditions and loop sources mention, given to a visitor in the order in
-//! which they stand. Each function answers whether the visitor ended the telling.
+//! which they stand. Each function answers whether the visitor ended the visit.
 ghost use Rattle.std.specs.Prelude.{map, option_map};
 ghost use Rattle.liquid_core.specs.ExpressionView.{expression_view, variable_view, steps_view};
 ghost use Rattle.liquid_evaluation.specs.ChainView.{chain_view, chain_filter_view};

@@ -6,7 +6,8 @@ ghost use Rattle.liquid_model.specs.declared.error.ErrorKind.TheVariants.{Unexpe
 ghost use Rattle.liquid_core.specs.ExpressionView.{expression_view};
 ghost use Rattle.liquid_core.specs.Expressions.{needed_whole};
 ghost use Rattle.liquid_core.specs.States.{environment_of};
-ghost use Rattle.liquid_evaluation.specs.Evaluation.{amount, count_within_limit, skipped, wanted};
+ghost use Rattle.liquid_evaluation.specs.Evaluation.{amount, count_within_limit};
+ghost use Rattle.liquid_evaluation.specs.Evaluation.{selected_count, skipped};
 
 use liquid_core::{Error, ErrorKind, Expression, Quoted, Result, Spelled, State, Value};
 use std::alloc::Global;
@@ -26,7 +27,7 @@ impl Window {
     /// counts as huge.
     pub fn new(length: usize, limit: Option<i64>, offset: Option<i64>) -> Window
         ensures from { result.from ≡ skipped length offset }
-        ensures count { result.count ≡ wanted length (skipped length offset) limit }
+        ensures count { result.count ≡ selected_count length (skipped length offset) limit }
         ensures within { (result.from ≤ length) × (result.count ≤ length) }
     {
         let from = match offset {

@@ -1,3 +1,5 @@
 -- What the public contracts of this crate cite.
+pub mod Faults
+pub mod Lines
 pub mod Paths
 pub mod SystemWords

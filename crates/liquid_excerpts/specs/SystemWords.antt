@@ -1,5 +1,6 @@
 -- What is said of a file that can't be read or written.
---     system_words kind      what the system says of a call that fails, as other tools write it
+--     system_words kind      what the system says of a call that fails, as other tools write it;
+--                         of memory that ran out what is said of it in a fault
 --     reason_words reason      the same of why a file has no text; none where its bytes are no text
 use Rattle.std.specs.Prelude.{Option, Some, None, codes}
 use Rattle.liquid_model.specs.Texts.{Text}
@@ -29,7 +30,7 @@ system_words InvalidFilename = codes "File name too long"
 system_words InvalidInput = codes "Invalid argument"
 system_words ExecutableFileBusy = codes "Text file busy"
 system_words BrokenPipe = codes "Broken pipe"
-system_words OutOfMemory = codes "Cannot allocate memory"
+system_words OutOfMemory = codes "out of memory"
 system_words _ = codes "Input/output error"
 
 abbrev pub reason_words : Reason → Option Text

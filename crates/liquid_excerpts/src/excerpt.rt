@@ -1,5 +1,10 @@
 //! The line of a text in which a fault stands, as it is shown after the fault: with its number,
 //! and a mark under the column.
+ghost use Rattle.std.specs.Prelude.{◌≡◌, IfSome, option_map};
+ghost use Rattle.std.specs.Str.{trim_end};
+ghost use Rattle.liquid_excerpts.specs.Lines.{IsUnmarked, ShowsLine, excerpt_line, line_numbered};
+ghost use Rattle.liquid_excerpts.specs.Lines.{lines_in};
+
 use liquid_core::Location;
 use std::fmt;
 use unicode_width::UnicodeWidthChar;
@@ -21,14 +26,56 @@ pub struct Excerpt<'t> {
 impl<'t> Excerpt<'t> {
     /// The line of the location, where the text has it. A mark of the byte order at the start is no
     /// part of the text.
-    pub fn new(text: &'t str, location: &Location) -> Option<Excerpt<'t>> {
-        let lines = text.strip_prefix('\u{feff}').unwrap_or(text);
-        let before = location.line.checked_sub(1)?;
-        Some(Excerpt {
-            text: lines.split('\n').nth(before)?.trim_end(),
-            line: location.line,
-            column: location.column,
-        })
+    pub fn new(text: &'t str, location: &Location) -> Option<Excerpt<'t>>
+        ensures line { ShowsLine text.now location.now.line (option_map excerpt_line result) }
+        ensures number { IfSome result (λ e. e.line ≡ location.now.line) }
+        ensures column { IfSome result (λ e. e.column ≡ location.now.column) }
+    {
+        match shown_line(text, location.line) {
+            Some(text) => Some(Excerpt {
+                text,
+                line: location.line,
+                column: location.column,
+            }),
+            None => None,
+        }
+    }
+}
+
+/// The line of this number, counted from 1, without the white space at its end.
+fn shown_line(text: &str, number: usize) -> Option<&str>
+    ensures { ShowsLine text.now number (option_map (λ l. l.now) result) }
+{
+    trimmed(line_numbered(without_mark(text), number))
+}
+
+fn trimmed(line: Option<&str>) -> Option<&str>
+    ensures { option_map (λ l. l.now) result
+        ≡ option_map trim_end (option_map (λ l. l.now) line.entry) }
+{
+    match line {
+        Some(line) => Some(line.trim_end()),
+        None => None,
+    }
+}
+
+fn line_numbered(text: &str, number: usize) -> Option<&str>
+    ensures { option_map (λ l. l.now) result ≡ line_numbered number (lines_in text.now) }
+{
+    if number == 0 {
+        None
+    } else {
+        text.split('\n').nth(number - 1)
+    }
+}
+
+/// A text without the mark of the byte order at its start.
+fn without_mark(text: &str) -> &str
+    ensures { IsUnmarked text.now result.now }
+{
+    match text.strip_prefix('\u{feff}') {
+        Some(rest) => rest,
+        None => text,
     }
 }
 
@@ -53,7 +100,7 @@ impl fmt::Display for Excerpt<'_> {
     }
 }
 
-/// So many spaces.
+/// The given number of spaces.
 #[derive(Drop)]
 struct Blank(usize);
 

@@ -6,7 +6,8 @@ use crate::unreadable::Reason;
 use std::io;
 
 /// What the system says of a call that fails, as other tools write it. A kind that has no words of
-/// its own is an `Input/output error`. It takes no memory.
+/// its own is an `Input/output error`, and memory that ran out is `out of memory`, as of a fault.
+/// It takes no memory.
 pub fn system_words(kind: io::ErrorKind) -> &'static str
     ensures { result.now ≡ system_words kind }
 {
@@ -24,7 +25,7 @@ pub fn system_words(kind: io::ErrorKind) -> &'static str
         io::ErrorKind::InvalidInput => "Invalid argument",
         io::ErrorKind::ExecutableFileBusy => "Text file busy",
         io::ErrorKind::BrokenPipe => "Broken pipe",
-        io::ErrorKind::OutOfMemory => "Cannot allocate memory",
+        io::ErrorKind::OutOfMemory => "out of memory",
         _ => "Input/output error",
     }
 }

@@ -1,5 +1,5 @@
 pub mod Arguments
 pub mod Faults
 pub mod Joined
-pub mod Stands
+pub mod Satisfies
 pub mod Text

@@ -1,2 +1,3 @@
+pub mod MoneyFormats
 pub mod Settings
 pub mod Views

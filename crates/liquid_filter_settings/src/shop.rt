@@ -2,8 +2,10 @@
 ghost use Rattle.std.specs.Prelude.{◌≡◌, ◌++◌, [], IfErr, IfOk, OnOk, codes, map, string_bytes};
 ghost use Rattle.liquid_model.specs.Answer.{IsValueOrMemory};
 ghost use Rattle.liquid_model.specs.View.{items_view, pairs_view, view};
-ghost use Rattle.liquid_filter_settings.specs.Settings.{member_or_empty, tags_in, texts_in};
-ghost use Rattle.liquid_filter_settings.specs.Settings.{setting_text, texts_of, with_text};
+ghost use Rattle.liquid_filter_settings.specs.MoneyFormats.{WritesAmounts};
+ghost use Rattle.liquid_filter_settings.specs.Settings.{member_or_empty, member_text, tags_in};
+ghost use Rattle.liquid_filter_settings.specs.Settings.{setting_text, texts_in, texts_of};
+ghost use Rattle.liquid_filter_settings.specs.Settings.{with_text};
 ghost use Rattle.liquid_filter_settings.specs.Views.{texts_view};
 
 use crate::member::{member_text, or_empty, own_text};
@@ -20,6 +22,12 @@ pub fn shop_of(alloc: Global, data: &Object) -> Result<Shop>
     ensures collection { IfOk result (λ s. string_bytes s.collection
         ≡ member_or_empty (codes "collection") (codes "handle") (pairs_view «data».now.entries)) }
     ensures tags { IfOk result (λ s. texts_view s.tags ≡ tags_in (pairs_view «data».now.entries)) }
+    ensures money { IfOk result (λ s. WritesAmounts
+        (member_text (codes "shop") (codes "money_format") (pairs_view «data».now.entries))
+        [] s.money) }
+    ensures with_currency { IfOk result (λ s. WritesAmounts
+        (member_text (codes "shop") (codes "money_with_currency_format")
+        (pairs_view «data».now.entries)) (codes " USD") s.money_with_currency) }
     ensures assets { IfOk result (λ s. string_bytes s.assets ≡ codes "/assets/") }
     ensures memory { IfErr result (λ e. e.kind ≡ ErrorKind.Memory) }
 {

@@ -1,8 +1,16 @@
--- The status of a program that ends before its input does.
-use Rattle.std.specs.Prelude.{ℕ}
+-- Why the program ends before its input does, and with which status.
+--     IsMemoryStop stop      memory ran out
+--     IsMissing path stop, IsInside path stop, IsUnreadable path stop      it is about this path,
+--                                         unless memory ran out
+use Rattle.std.specs.Prelude.{◌≡◌, ℕ, Option, string_bytes, ⊤}
+use Rattle.std.specs.declared.io.ErrorKind.{ErrorKind as IoKind}
+use Rattle.liquid_excerpts.specs.declared.unreadable.Reason.{Reason}
+use Rattle.liquid_model.specs.Texts.{Text}
+use Rattle.liquid_model.specs.declared.error.ErrorKind.TheVariants.{Memory}
 use Rattle.liquid_folder.specs.declared.stop.FolderStop.{FolderStop}
 use Rattle.liquid_folder.specs.declared.stop.FolderStop.TheVariants.{Usage, Missing, Inside}
-use Rattle.liquid_folder.specs.declared.stop.FolderStop.TheVariants.{Unreadable, Fault, Streams}
+use Rattle.liquid_folder.specs.declared.stop.FolderStop.TheVariants.{Unreadable, Fault, Input}
+use Rattle.liquid_folder.specs.declared.stop.FolderStop.TheVariants.{Output}
 
 abbrev pub folder_stop_status : FolderStop → ℕ
 folder_stop_status Usage = 2
@@ -10,4 +18,31 @@ folder_stop_status (Missing path) = 1
 folder_stop_status (Unreadable path reason) = 1
 folder_stop_status (Inside path) = 1
 folder_stop_status (Fault e) = 1
-folder_stop_status (Streams e) = 1
+folder_stop_status (Input kind) = 1
+folder_stop_status (Output kind) = 1
+
+abbrev pub IsMemoryStop : FolderStop → Type 0
+IsMemoryStop (Fault e) = e.kind ≡ Memory
+IsMemoryStop _ = ⊥
+
+abbrev pub IsMissing : Text → FolderStop → Type 0
+IsMissing path (Missing p) = string_bytes p ≡ path
+IsMissing path stop = IsMemoryStop stop
+
+abbrev pub IsInside : Text → FolderStop → Type 0
+IsInside path (Inside p) = string_bytes p ≡ path
+IsInside path stop = IsMemoryStop stop
+
+abbrev pub IsUnreadable : Text → FolderStop → Type 0
+IsUnreadable path (Unreadable p reason) = string_bytes p ≡ path
+IsUnreadable path stop = IsMemoryStop stop
+
+-- where it is about a path that can't be read, this is why
+abbrev pub HasReason : Option Reason → FolderStop → Type 0
+HasReason reason (Unreadable p why) = why ≡ reason
+HasReason reason stop = ⊤
+
+-- standard input can't be read for this reason, unless memory ran out
+abbrev pub IsInput : IoKind → FolderStop → Type 0
+IsInput kind (Input found) = found ≡ kind
+IsInput kind stop = IsMemoryStop stop

@@ -1,4 +1,7 @@
 //! The files of a site: all of them, and the one that a line names.
+ghost use Rattle.std.specs.Prelude.{◌≡◌, [], IfOk, string_bytes};
+ghost use Rattle.liquid_folder.specs.Lines.{IsLineOf};
+
 use crate::paths::{file_in, is_left_out, is_same};
 use crate::stop::FolderStop;
 use crate::words::FolderCall;
@@ -11,7 +14,9 @@ use std::{fs, io};
 
 /// The folder of a site: pages in `FOLDER/pages`, partials in `FOLDER/partials`, pages written into
 /// OUT.
-pub fn folder_of(alloc: Global, call: &FolderCall<'_>) -> Result<Folder> {
+pub fn folder_of(alloc: Global, call: &FolderCall<'_>) -> Result<Folder>
+    ensures data { IfOk result (λ folder. string_bytes folder.«data» ≡ call.now.«data».now) }
+{
     Ok(Folder {
         pages: inside(alloc, call.folder, "/pages/")?,
         partials: inside(alloc, call.folder, "/partials/")?,
@@ -40,7 +45,10 @@ pub enum Line {
 }
 
 /// What a line asks for, which is empty or the path of a file.
-pub fn line_of(alloc: Global, folder: &Folder, line: &str) -> Result<Line> {
+pub fn line_of(alloc: Global, folder: &Folder, line: &str) -> Result<Line>
+    ensures asked { IfOk result (IsLineOf folder.now line.now) }
+    ensures round { line.now ≡ [] → IfOk result (λ asked. asked ≡ Line.Round) }
+{
     if line.is_empty() {
         return Ok(Line::Round);
     }
@@ -70,7 +78,7 @@ pub struct Listing {
 }
 
 /// All files of the site but the data. What is passed over, and a name that can't be read, is
-/// mentioned on standard error.
+/// mentioned on standard error. What that refuses is lost.
 pub fn all_files(rt: &HostRuntime, folder: &Folder) -> std::result::Result<Listing, FolderStop> {
     let mut files = Vec::new(rt.alloc());
     let partials = names_in(rt, folder.partials.as_str())?;
@@ -104,20 +112,20 @@ fn names_in(rt: &HostRuntime, path: &str) -> std::result::Result<Names, FolderSt
         Ok(entries) => entries,
         Err(refused) => match refused.kind() {
             io::ErrorKind::NotFound => return Ok(Names { names, is_whole }),
-            _ => return Err(FolderStop::unreadable(rt.alloc(), path, None)),
+            kind => return Err(FolderStop::unreadable_by(rt.alloc(), path, kind)),
         },
     };
     for entry in entries {
         match entry {
-            Ok(entry) => if is_taken(rt, &entry)? {
+            Ok(entry) => if is_taken(rt, &entry) {
                 names.push(String::from_str(rt.alloc(), entry.file_name())?)?;
             },
             Err(refused) => {
                 if refused.kind() != io::ErrorKind::InvalidFilename {
-                    return Err(FolderStop::from(refused));
+                    return Err(FolderStop::unreadable_by(rt.alloc(), path, refused.kind()));
                 }
                 let path = ShownPath { path };
-                eprintln!(rt; "error: Read: {path}: a name in it isn't UTF-8")?;
+                let _ = eprintln!(rt; "error: Read: {path}: a name in it isn't UTF-8");
                 is_whole = false;
             }
         }
@@ -128,15 +136,15 @@ fn names_in(rt: &HostRuntime, path: &str) -> std::result::Result<Names, FolderSt
 
 /// Whether what stands in a folder is a file of the site. A folder, or what is no file, is passed
 /// over, which is mentioned.
-fn is_taken(rt: &HostRuntime, entry: &DirEntry) -> io::Result<bool> {
+fn is_taken(rt: &HostRuntime, entry: &DirEntry) -> bool {
     if is_left_out(entry.file_name()) {
-        return Ok(false);
+        return false;
     }
     let Ok(found) = fs::metadata(rt, entry.path()) else {
-        return Ok(true);
+        return true;
     };
     if found.is_file() {
-        return Ok(true);
+        return true;
     }
     let path = ShownPath {
         path: entry.path().as_str(),
@@ -146,6 +154,6 @@ fn is_taken(rt: &HostRuntime, entry: &DirEntry) -> io::Result<bool> {
     } else {
         "no file"
     };
-    eprintln!(rt; "passed over: {path} is {what}")?;
-    Ok(false)
+    let _ = eprintln!(rt; "passed over: {path} is {what}");
+    false
 }

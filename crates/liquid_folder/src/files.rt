@@ -1,4 +1,5 @@
 //! The files of the system.
+use liquid_disk::put_file;
 use liquid_excerpts::Reason;
 use liquid_site_files::{Disk, DiskFault};
 use std::{fs, io};
@@ -26,39 +27,6 @@ impl<'r> Disk for SystemFiles<'r> {
             Ok(()) => Ok(()),
             Err(refused) => Err(fault_of(refused.kind())),
         }
-    }
-}
-
-/// Puts a text into the file of a path: all of it, or what stood there stays. It is written beside
-/// the file first, under a name that no page has, since that begins with a dot. What is no file of
-/// its own, as a pipe, a device or a link, is written as it stands, and may be left with a part.
-fn put_file(rt: &HostRuntime, path: &str, text: &str) -> io::Result<()> {
-    match path.rsplit_once('/') {
-        Some((folder, _)) if can_be_replaced(rt, path) => {
-            let part = format!(in rt.alloc(); "{folder}/.bikleinu-part")?;
-            put_by_part(rt, part.as_str(), path, text)
-        }
-        _ => fs::write(rt, path, text),
-    }
-}
-
-/// Puts a text into a file by another one, which isn't left there.
-fn put_by_part(rt: &HostRuntime, part: &str, path: &str, text: &str) -> io::Result<()> {
-    let put = match fs::write(rt, part, text) {
-        Ok(()) => fs::rename(rt, part, path),
-        Err(refused) => Err(refused),
-    };
-    if put.is_err() {
-        let _ = fs::remove_file(rt, part);
-    }
-    put
-}
-
-/// Whether a path has a file of its own, or nothing.
-fn can_be_replaced(rt: &HostRuntime, path: &str) -> bool {
-    match fs::symlink_metadata(rt, path) {
-        Ok(found) => found.is_file(),
-        Err(refused) => refused.kind() == io::ErrorKind::NotFound,
     }
 }
 

@@ -3,6 +3,7 @@ use crate::paths::lies_in;
 use crate::stop::FolderStop;
 use crate::words::FolderCall;
 use liquid_site_files::Folder;
+use std::alloc::AllocError;
 use std::{fs, io};
 
 /// Refuses a FOLDER that isn't there or has no `pages`, and an OUT that is one of the folders of
@@ -58,9 +59,9 @@ fn real_path(rt: &HostRuntime, path: &str) -> Result<String, FolderStop> {
 fn found_path(rt: &HostRuntime, path: &str) -> Result<Option<String>, FolderStop> {
     match fs::canonicalize(rt, path) {
         Ok(found) => Ok(Some(found.into_string())),
-        Err(refused) if refused.kind() == io::ErrorKind::OutOfMemory => Err(FolderStop::from(
-            refused,
-        )),
+        Err(refused) if refused.kind() == io::ErrorKind::OutOfMemory => {
+            Err(FolderStop::from(AllocError))
+        }
         Err(_) => Ok(None),
     }
 }

@@ -50,9 +50,9 @@ fn all_rounds(rt: &HostRuntime, folder: &Folder, out: &str) -> Result<bool, Fold
             Ok(line) => clean &= rounds.take_line(line.as_str())?,
             Err(refused) => {
                 if refused.kind() != io::ErrorKind::InvalidData {
-                    return Err(FolderStop::from(refused));
+                    return Err(FolderStop::input(refused.kind()));
                 }
-                eprintln!(rt; "error: no file of the site: a line that isn't UTF-8")?;
+                let _ = eprintln!(rt; "error: no file of the site: a line that isn't UTF-8");
                 clean = false;
             }
         }

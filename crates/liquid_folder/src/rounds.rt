@@ -1,4 +1,6 @@
 //! The rounds over a folder.
+ghost use Rattle.std.specs.Prelude.{◌≡◌, [], IfOk, Ok, OnOk, false, true};
+
 use crate::changes::{Line, Listing, all_files, line_of};
 use crate::files::{SystemFiles, reason_of};
 use crate::stop::FolderStop;
@@ -30,7 +32,9 @@ impl<'r> Rounds<'r> {
         rt: &'r HostRuntime,
         folder: &'r Folder,
         out: &str,
-    ) -> Result<Rounds<'r>, FolderStop> {
+    ) -> Result<Rounds<'r>, FolderStop>
+        ensures named { IfOk result (λ rounds. rounds.is_named ≡ false) }
+    {
         let files = SystemFiles { rt };
         let site = first_site(rt, folder, &files)?;
         let Listing {
@@ -50,15 +54,20 @@ impl<'r> Rounds<'r> {
 
     /// The round over all files. Whether the name of each could be read, and what `one_round`
     /// answers.
-    pub fn first_round(&mut self) -> Result<bool, FolderStop> {
+    pub fn first_round(&mut self) -> Result<bool, FolderStop>
+        ensures whole { self.old.is_whole ≡ false → IfOk result (λ clean. clean ≡ false) }
+    {
         let clean = self.one_round()?;
         Ok(clean && self.is_whole)
     }
 
     /// What a line of standard input asks for: a round where it is empty, or to look at the file of
     /// this path in the next one. Whether it names a file of the site, and what `one_round` answers
-    /// of a round. A file that is left out is passed over without a word.
-    pub fn take_line(&mut self, line: &str) -> Result<bool, FolderStop> {
+    /// of a round. A file that is left out is passed over without a word. What standard error
+    /// refuses is lost.
+    pub fn take_line(&mut self, line: &str) -> Result<bool, FolderStop>
+        ensures round { line.now ≡ [] → OnOk result (self.new.is_named ≡ false) }
+    {
         match line_of(self.rt.alloc(), self.folder, line)? {
             Line::Round => self.one_round(),
             Line::File(changed) => {
@@ -69,14 +78,16 @@ impl<'r> Rounds<'r> {
             Line::LeftOut => Ok(true),
             Line::NoFile => {
                 let text = line;
-                eprintln!(self.rt; "error: no file of the site: {}", Quoted { text })?;
+                let _ = eprintln!(self.rt; "error: no file of the site: {}", Quoted { text });
                 Ok(false)
             }
         }
     }
 
     /// The round after the last line, if a file was named since the one before.
-    pub fn last_round(&mut self) -> Result<bool, FolderStop> {
+    pub fn last_round(&mut self) -> Result<bool, FolderStop>
+        ensures unnamed { self.old.is_named ≡ false → result ≡ Ok true }
+    {
         if !self.is_named {
             return Ok(true);
         }
@@ -85,7 +96,10 @@ impl<'r> Rounds<'r> {
 
     /// Runs one round and reports it. Whether no file was refused, no page ended by a fault, and
     /// each page's file was written. A file that is refused is looked at again in the next round.
-    pub fn one_round(&mut self) -> Result<bool, FolderStop> {
+    pub fn one_round(&mut self) -> Result<bool, FolderStop>
+        ensures named { OnOk result (self.new.is_named ≡ false) }
+        ensures whole { self.new.is_whole ≡ self.old.is_whole }
+    {
         self.changes.sort_unstable();
         self.changes.dedup();
         let before = self.site.rendered();

@@ -1,9 +1,11 @@
 //! Why the program ends before its input does.
 ghost use Rattle.std.specs.Prelude.{◌≡◌};
-ghost use Rattle.liquid_folder.specs.Stops.{folder_stop_status};
+ghost use Rattle.std.specs.declared.io.ErrorKind.TheVariants.{OutOfMemory};
+ghost use Rattle.liquid_folder.specs.Stops.{HasReason, IsInput, IsInside, IsMissing, IsUnreadable};
+ghost use Rattle.liquid_folder.specs.Stops.{IsMemoryStop, folder_stop_status};
 
 use liquid_core::Error;
-use liquid_excerpts::{Reason, ShownPath};
+use liquid_excerpts::{Reason, ShownFault, ShownPath, system_words};
 use std::alloc::{AllocError, AllocFailed, Global};
 use std::{fmt, io};
 
@@ -20,21 +22,50 @@ pub enum FolderStop {
     Inside(String),
     /// The data has a fault, or memory ran out.
     Fault(Error),
-    /// Standard input, output or error failed.
-    Streams(io::Error),
+    /// Standard input can't be read.
+    Input(io::ErrorKind),
+    /// Standard output can't be written.
+    Output(io::ErrorKind),
 }
 
 impl FolderStop {
     /// A path that can't be read.
-    pub fn unreadable(alloc: Global, path: &str, reason: Option<Reason>) -> FolderStop {
+    pub fn unreadable(alloc: Global, path: &str, reason: Option<Reason>) -> FolderStop
+        ensures path { IsUnreadable path.now result }
+        ensures reason { HasReason reason result }
+    {
         match String::from_str(alloc, path) {
             Ok(path) => FolderStop::Unreadable(path, reason),
             Err(refused) => FolderStop::from(refused),
         }
     }
 
+    /// A folder that the system refuses to read, for this kind of reason.
+    pub fn unreadable_by(alloc: Global, path: &str, kind: io::ErrorKind) -> FolderStop
+        ensures path { IsUnreadable path.now result }
+        ensures memory { kind ≡ OutOfMemory → IsMemoryStop result }
+    {
+        match kind {
+            io::ErrorKind::OutOfMemory => FolderStop::from(AllocError),
+            kind => FolderStop::unreadable(alloc, path, Some(Reason::from(kind))),
+        }
+    }
+
+    /// Standard input that can't be read, for this kind of reason.
+    pub fn input(kind: io::ErrorKind) -> FolderStop
+        ensures kind { IsInput kind result }
+        ensures memory { kind ≡ OutOfMemory → IsMemoryStop result }
+    {
+        match kind {
+            io::ErrorKind::OutOfMemory => FolderStop::from(AllocError),
+            kind => FolderStop::Input(kind),
+        }
+    }
+
     /// A folder that isn't there.
-    pub fn missing(alloc: Global, path: &str) -> FolderStop {
+    pub fn missing(alloc: Global, path: &str) -> FolderStop
+        ensures { IsMissing path.now result }
+    {
         match String::from_str(alloc, path) {
             Ok(path) => FolderStop::Missing(path),
             Err(refused) => FolderStop::from(refused),
@@ -42,7 +73,9 @@ impl FolderStop {
     }
 
     /// Pages that would be written into this folder of templates.
-    pub fn inside(alloc: Global, path: &str) -> FolderStop {
+    pub fn inside(alloc: Global, path: &str) -> FolderStop
+        ensures { IsInside path.now result }
+    {
         match String::from_str(alloc, path) {
             Ok(path) => FolderStop::Inside(path),
             Err(refused) => FolderStop::from(refused),
@@ -59,7 +92,8 @@ impl FolderStop {
             | FolderStop::Unreadable(_, _)
             | FolderStop::Inside(_)
             | FolderStop::Fault(_)
-            | FolderStop::Streams(_) => 1,
+            | FolderStop::Input(_)
+            | FolderStop::Output(_) => 1,
         }
     }
 }
@@ -94,8 +128,18 @@ impl fmt::Display for FolderStop {
                     "error: OUT lies in {path}, where templates are; name another folder"
                 )
             }
-            FolderStop::Fault(fault) => write!(f, "error: {fault}"),
-            FolderStop::Streams(fault) => write!(f, "error: {fault}"),
+            FolderStop::Fault(fault) => {
+                let fault = ShownFault { fault };
+                write!(f, "error: {fault}")
+            }
+            FolderStop::Input(kind) => {
+                let words = system_words(*kind);
+                write!(f, "error: standard input: {words}")
+            }
+            FolderStop::Output(kind) => {
+                let words = system_words(*kind);
+                write!(f, "error: standard output: {words}")
+            }
         }
     }
 }
@@ -106,19 +150,17 @@ impl From<Error> for FolderStop {
     }
 }
 
-impl From<io::Error> for FolderStop {
-    fn from(fault: io::Error) -> FolderStop {
-        FolderStop::Streams(fault)
-    }
-}
-
 impl From<AllocError> for FolderStop {
+    ghost from_gives = { λ _ stop. IsMemoryStop stop };
+
     fn from(refused: AllocError) -> FolderStop {
         FolderStop::Fault(Error::from(refused))
     }
 }
 
 impl<T: Drop> From<AllocFailed<T>> for FolderStop {
+    ghost from_gives = { λ _ stop. IsMemoryStop stop };
+
     fn from(refused: AllocFailed<T>) -> FolderStop {
         FolderStop::Fault(Error::from(refused))
     }

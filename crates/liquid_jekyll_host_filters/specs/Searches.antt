@@ -49,9 +49,9 @@ first_wanted name target (d ∷ ds) =
     if is_search_match name target d then d else first_wanted name target ds
 
 -- all wanted items, or the first of them
-abbrev pub taken : Which → Text → Option Text → List Datum → Datum
-taken All name target ds = array (items_of (search_matches name target ds))
-taken First name target ds = first_wanted name target ds
+abbrev pub search_result : Which → Text → Option Text → List Datum → Datum
+search_result All name target ds = array (items_of (search_matches name target ds))
+search_result First name target ds = first_wanted name target ds
 
 -- the values of a map
 abbrev pub values : Pairs → List Datum
@@ -60,8 +60,8 @@ values (pair k d ms) = d ∷ values ms
 
 -- of the items of a list, or of the values of a map; any other input stays
 abbrev pub searched : Which → Text → Option Text → Datum → Answer
-searched which name target (array ds) = Ok (taken which name target (list_of ds))
-searched which name target (object ms) = Ok (taken which name target (values ms))
+searched which name target (array ds) = Ok (search_result which name target (list_of ds))
+searched which name target (object ms) = Ok (search_result which name target (values ms))
 searched which name target d = Ok d
 
 -- a list or a map is no target

@@ -7,7 +7,8 @@ ghost use Rattle.liquid_jekyll_host_filters.specs.Properties.{found_or_nil};
 ghost use Rattle.liquid_jekyll_host_filters.specs.Searches.{any_says, find_answer, first_wanted};
 ghost use Rattle.liquid_jekyll_host_filters.specs.Searches.{is_search, is_search_match, item_says};
 ghost use Rattle.liquid_jekyll_host_filters.specs.Searches.{meets};
-ghost use Rattle.liquid_jekyll_host_filters.specs.Searches.{searched, taken, value_says, values};
+ghost use Rattle.liquid_jekyll_host_filters.specs.Searches.{search_result, searched};
+ghost use Rattle.liquid_jekyll_host_filters.specs.Searches.{value_says, values};
 ghost use Rattle.liquid_jekyll_host_filters.specs.Searches.{search_matches, jekyll_where_answer};
 ghost use Rattle.liquid_jekyll_host_filters.specs.Searches.{jekyll_where_by};
 
@@ -105,14 +106,14 @@ fn searched(
         (view input.now)) }
 {
     match input {
-        Value::Array(items) => taken(alloc, items, name, target, which),
-        Value::Object(pairs) => taken_of_map(alloc, pairs, name, target, which),
+        Value::Array(items) => search_result(alloc, items, name, target, which),
+        Value::Object(pairs) => search_result_of_map(alloc, pairs, name, target, which),
         _ => input.copy(alloc),
     }
 }
 
 #[tactic(auto, using(liquid_model::proofs::Views::list_of_view))]
-fn taken_of_map(
+fn search_result_of_map(
     alloc: Global,
     pairs: &Object,
     name: &str,
@@ -120,11 +121,11 @@ fn taken_of_map(
     which: Which,
 ) -> Result<Value>
     ensures { IsValueOrMemory view result
-        (taken which name.now (option_map (λ t. t.now) target.entry)
+        (search_result which name.now (option_map (λ t. t.now) target.entry)
         (values (pairs_view pairs.now.entries))) }
 {
     let items = values(alloc, pairs)?;
-    taken(alloc, &items, name, target, which)
+    search_result(alloc, &items, name, target, which)
 }
 
 /// The values of a map.
@@ -139,7 +140,7 @@ fn values(alloc: Global, pairs: &Object) -> Result<Vec<Value>>
     Ok(items)
 }
 
-fn taken(
+fn search_result(
     alloc: Global,
     items: &[Value],
     name: &str,
@@ -147,16 +148,21 @@ fn taken(
     which: Which,
 ) -> Result<Value>
     ensures { IsValueOrMemory view result
-        (taken which name.now (option_map (λ t. t.now) target.entry)
+        (search_result which name.now (option_map (λ t. t.now) target.entry)
         (list_of (items_view items.now))) }
 {
     match which {
-        Which::All => Ok(Value::Array(wanted(alloc, items, name, target)?)),
+        Which::All => Ok(Value::Array(matching_items(alloc, items, name, target)?)),
         Which::First => first_wanted(alloc, items, name, target),
     }
 }
 
-fn wanted(alloc: Global, items: &[Value], name: &str, target: Option<&str>) -> Result<Vec<Value>>
+fn matching_items(
+    alloc: Global,
+    items: &[Value],
+    name: &str,
+    target: Option<&str>,
+) -> Result<Vec<Value>>
     ensures { IsValueOrMemory (λ v. map view v.items) result
         (search_matches name.now (option_map (λ t. t.now) target.entry)
         (list_of (items_view items.now))) }

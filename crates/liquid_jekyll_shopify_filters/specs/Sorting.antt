@@ -10,7 +10,7 @@ use Rattle.liquid_model.specs.declared.error.ErrorKind.TheVariants.{InvalidInput
 use Rattle.liquid_filter_base.specs.Arguments.{Answer, first_of}
 use Rattle.liquid_list_filters.specs.Ends.{or_nil}
 use Rattle.liquid_list_filters.specs.Sequences.{list, sequence, all_maps}
-use Rattle.liquid_list_filters.specs.Sorting.{Key, given, sort_by}
+use Rattle.liquid_list_filters.specs.Sorting.{Key, sort_key, sort_by}
 use Rattle.liquid_jekyll_shopify_filters.specs.Path.{path}
 use Rattle.liquid_jekyll_shopify_filters.specs.declared.jekyll.array.sort.Nils.{Nils}
 use Rattle.liquid_jekyll_shopify_filters.specs.declared.jekyll.array.sort.Nils.TheVariants.{First}
@@ -40,7 +40,7 @@ value_or_nil p d = or_nil (find d p)
 -- nil is the least value, and an item without a key comes last
 abbrev pub nils_key : Nils → Datum → Key
 nils_key First d = Some d
-nils_key Last d = given d
+nils_key Last d = sort_key d
 
 -- what an item is sorted by
 abbrev pub found_key : Nils → List Datum → Datum → Key

@@ -1,4 +1,5 @@
 pub mod After
+mod FirstItems
 mod Members
 pub mod Plain
 mod PlainCopies

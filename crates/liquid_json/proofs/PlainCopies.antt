@@ -16,12 +16,12 @@ use Rattle.liquid_model.specs.Find.{value_at, or_size, counted}
 use Rattle.liquid_model.specs.Digest.{pairs_len}
 use Rattle.liquid_model.specs.Skipping.{AlikeKeys}
 use Rattle.liquid_model.specs.Projected.{use_of_key}
-use Rattle.liquid_model.specs.Uses.{Use, nothing, everything, parts, Fields, no_fields, field, ItemUse, uncounted, every, Alike, AlikeFields, AlikeItems, use_in, member, asks_whether, is_place, join}
+use Rattle.liquid_model.specs.Uses.{Use, nothing, everything, parts, Fields, no_fields, field, ItemUse, uncounted, up_to, loop_items_of, PairwiseUpTo, Alike, AlikeFields, AlikeItems, use_in, member, asks_whether, is_place, join}
 use Rattle.liquid_model.specs.UseViews.{use_view, members_view, uses_view}
 use Rattle.liquid_model.specs.declared.error.Error.{Error}
 use Rattle.liquid_model.specs.declared.error.ErrorKind.{ErrorKind}
 use Rattle.liquid_model.specs.declared.uses.Use as code
-use Rattle.liquid_model.proofs.Alike.{pairwise_more, alike_at, alike_equal, alike_same}
+use Rattle.liquid_model.proofs.Alike.{up_to_more, alike_at, alike_equal, alike_same}
 use Rattle.liquid_json.specs.Asked.{IsAlikeData, AnswersAlike}
 use Rattle.liquid_json.specs.PlainUses.{is_plain_use, plain_fields}
 use Rattle.liquid_json.specs.inside.Copies.{finds_by_place, any_by_place, each_plain, AsksMore, AskMore, ItemsAskMore}
@@ -161,9 +161,11 @@ fields_more (field k u more) (field l v less) o p h a =
 
 items_more : (more less : ItemUse) (o p : Option Datum) → ItemsAskMore more less → AlikeItems more o p → AlikeItems less o p
 items_more uncounted uncounted o p h a = tt
-items_more (every u) uncounted o p h a = tt
-items_more uncounted (every v) o p h a = absurd h
-items_more (every u) (every v) o p h a = pairwise_more _ _ (λ d e k. h (Some d) (Some e) k) _ _ a
+items_more (up_to m u) uncounted o p h a = tt
+items_more uncounted (up_to n v) o p h a = absurd h
+items_more (up_to m u) (up_to n v) o p h a =
+    up_to_more _ _ (λ d e k. h.1 (Some d) (Some e) k) n (loop_items_of o) (loop_items_of p)
+    (subst (λ l. PairwiseUpTo l (λ d e. Alike u (Some d) (Some e)) (loop_items_of o) (loop_items_of p)) h.0 a)
 
 pub parts_more : (members others : Fields) (turns fewer : ItemUse) → AskMore members others → ItemsAskMore turns fewer → AsksMore (parts members turns) (parts others fewer)
 parts_more members others turns fewer h g o p a = (a.0, (fields_more members others o p h a.1.0, items_more turns fewer o p g a.1.1))

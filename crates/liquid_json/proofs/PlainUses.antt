@@ -1,14 +1,13 @@
 -- Uses that name members alone, each once.
-use Rattle.std.proofs.Common.{◌≡◌, Bool, true, false, cond, not, ◌&&◌, ◌||◌, Option, Some, refl, ap, ◌∙◌, codes}
+use Rattle.std.proofs.Common.{◌≡◌, ℕ, Bool, true, false, cond, not, ◌&&◌, ◌||◌, Option, Some, refl, ap, ◌∙◌, codes}
 use mathlib.Core.Path.{subst}
 use Rattle.std.specs.Cmp.Lexicographic.{bytes_decides}
 use Rattle.liquid_model.specs.Texts.{Text, same_text}
 use Rattle.liquid_model.specs.Data.{Datum, array, object, Items, no_items, Pairs}
 use Rattle.liquid_model.specs.Lists.{list_of}
-use Rattle.liquid_model.specs.Uses.{Use, nothing, everything, parts, Fields, no_fields, field, uncounted, every, Alike, use_in, asks_whether, join, is_place}
+use Rattle.liquid_model.specs.Uses.{Use, nothing, everything, parts, Fields, no_fields, field, uncounted, up_to, PairwiseUpTo, Alike, use_in, asks_whether, join, is_place}
 use Rattle.liquid_model.specs.Projected.{use_of_key, asks_length, asks_of_list, pairs_wanted}
 use Rattle.liquid_model.specs.Skipping.{AlikeKeys}
-use Rattle.liquid_model.proofs.Alike.{AlikeLists}
 use Rattle.liquid_model.proofs.Projected.{fields_unseen}
 use Rattle.liquid_model.proofs.Skipping.{map_with_some_keys, list_without_items}
 use Rattle.liquid_json.specs.PlainUses.{is_plain_use, plain_fields}
@@ -105,8 +104,8 @@ plain_in (field k u more) key h =
     at true e f = e
     at false e f = f
 
-pub list_read : (ms : Fields) (u : Use) (cs ds : Items) → plain_fields ms ≡ true → AlikeLists u (list_of cs) (list_of ds) → Alike (parts ms (every u)) (Some (array cs)) (Some (array ds))
-list_read ms u cs ds h a = (refl, (fields_unseen cs ds ms (unlisted ms h), a))
+pub list_read : (ms : Fields) (n : Option ℕ) (u : Use) (cs ds : Items) → plain_fields ms ≡ true → PairwiseUpTo n (λ c d. Alike u (Some c) (Some d)) (list_of cs) (list_of ds) → Alike (parts ms (up_to n u)) (Some (array cs)) (Some (array ds))
+list_read ms n u cs ds h a = (refl, (fields_unseen cs ds ms (unlisted ms h), a))
 
 pub list_skipped : (ms : Fields) (cs : Items) → plain_fields ms ≡ true → Alike (parts ms uncounted) (Some (array cs)) (Some (array no_items))
 list_skipped ms cs h = list_without_items ms cs (unlisted ms h)

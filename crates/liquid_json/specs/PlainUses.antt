@@ -2,7 +2,7 @@
 use Rattle.std.specs.Prelude.{Bool, true, not, ◌&&◌, ◌||◌, codes}
 use Rattle.liquid_model.specs.Texts.{same_text}
 use Rattle.liquid_model.specs.Uses.{Use, nothing, everything, parts, Fields, no_fields, field}
-use Rattle.liquid_model.specs.Uses.{ItemUse, uncounted, every, asks_whether, is_place}
+use Rattle.liquid_model.specs.Uses.{ItemUse, uncounted, up_to, asks_whether, is_place}
 use Rattle.liquid_model.specs.Projected.{use_of_key}
 
 -- each member once, and none that finds an item or a length of a list or a map
@@ -19,4 +19,4 @@ abbrev mutual
 
   pub plain_turns : ItemUse → Bool
   plain_turns uncounted = true
-  plain_turns (every u) = is_plain_use u
+  plain_turns (up_to n u) = is_plain_use u

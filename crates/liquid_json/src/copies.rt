@@ -6,7 +6,7 @@ ghost use Rattle.liquid_json.specs.PlainUses.{is_plain_use, plain_fields, plain_
 ghost use Rattle.liquid_json.specs.inside.Copies as spec;
 ghost use Rattle.liquid_json.specs.inside.Copies.{AsksMore, AskMore, ItemsAskMore};
 
-use liquid_core::{ErrorKind, Result, Use, Uses, whole_of};
+use liquid_core::{ErrorKind, ItemUse, Result, Use, Uses, whole_of};
 use std::alloc::Global;
 use std::collections::BTreeMap;
 
@@ -54,7 +54,7 @@ fn plain_use(alloc: Global, asked: &Use, depth: usize) -> Result<Use>
 }
 
 #[cycle(plain_use)]
-fn plain_items(alloc: Global, items: &Option<Box<Use>>, depth: usize) -> Result<Option<Box<Use>>>
+fn plain_items(alloc: Global, items: &Option<ItemUse>, depth: usize) -> Result<Option<ItemUse>>
     ensures plain { IfOk result (λ o. IsTrue (plain_turns (turns_view o))) }
     ensures more { IfOk result (λ o. ItemsAskMore (turns_view o) (turns_view items.now)) }
     ensures memory { IfErr result (λ e. e.kind ≡ ErrorKind.Memory) }
@@ -62,8 +62,12 @@ fn plain_items(alloc: Global, items: &Option<Box<Use>>, depth: usize) -> Result<
     match items {
         None => Ok(None),
         Some(asked) => {
-            let item = plain_use(alloc, asked, depth)?;
-            Ok(Some(Box::new(alloc, item)?))
+            let item = plain_use(alloc, &asked.each, depth)?;
+            let each = Box::new(alloc, item)?;
+            Ok(Some(ItemUse {
+                limit: asked.limit,
+                each,
+            }))
         }
     }
 }

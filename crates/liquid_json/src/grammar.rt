@@ -152,7 +152,7 @@ impl Reading {
         }
     }
 
-    /// Past a value that takes so many bytes.
+    /// Goes on after a value of `length` bytes, and answers that length.
     fn after_value<'t>(&mut self, length: usize) -> Result<usize, Flaw<'t>> {
         self.wants = if self.levels.is_empty() {
             Wants::Nothing

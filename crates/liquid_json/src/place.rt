@@ -58,7 +58,7 @@ fn no_object(text: &str) -> Flaw<'_> {
     Flaw::plain(from, words)
 }
 
-/// Where the place with so many bytes left is.
+/// The location of the place `remaining` bytes before the end of the data.
 fn location(text: &str, remaining: usize) -> Location {
     let place = liquid_lexer::location(text, remaining);
     Location {

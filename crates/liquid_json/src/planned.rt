@@ -6,15 +6,19 @@ ghost use Rattle.liquid_model.specs.UseViews.{use_view, members_view, turns_view
 ghost use Rattle.liquid_json.specs.Asked.{IsAlikeData};
 ghost use Rattle.liquid_json.specs.Json.{data_of};
 ghost use Rattle.liquid_json.specs.PlainUses.{is_plain_use, plain_fields, plain_turns};
-ghost use Rattle.liquid_json.specs.inside.Planned.{IsPlanned, ArePlanned, PairsPlanned};
+ghost use Rattle.liquid_json.specs.inside.Planned.{IsPlanned, PairsPlanned};
+ghost use Rattle.liquid_json.specs.inside.Planned.{AreFirstItems, ArePlanned};
 
 use crate::skip::{skip_items, skipped};
 use crate::tokens::{MAX_DEPTH, NoData, read, read_pairs};
 use crate::whole::integer_of;
 use json::{Reader, Scratch, Token};
-use liquid_core::{Object, Use, Uses, Value, member_of};
+use liquid_core::{ItemUse, Object, Use, Uses, Value, member_of};
 use std::alloc::{AllocError, Global};
 use std::collections::BTreeMap;
+
+/// The most items that a list has.
+const MOST_ITEMS: usize = 9_223_372_036_854_775_807;
 
 /// How much of an item is built. Where nearly all of each record is asked for, it takes longer to
 /// look each name up than to build what nobody asks for.
@@ -63,8 +67,8 @@ fn is_whole(asked: &Use) -> bool {
         Use::Everything => true,
         Use::Parts {
             members,
-            items: Some(each),
-        } => members.is_empty() && is_everything(each),
+            items: Some(items),
+        } => members.is_empty() && is_everything(&items.each),
         _ => false,
     }
 }
@@ -135,7 +139,7 @@ fn read_parts(
     alloc: Global,
     reader: &mut Reader<'_>,
     depth: usize,
-    items: &Option<Box<Use>>,
+    items: &Option<ItemUse>,
     members: &Uses,
 ) -> Result<Value, NoData>
     requires plain_members { IsTrue (plain_fields (members_view members.now.entries)) }
@@ -164,7 +168,7 @@ fn read_parts(
                     skip_items(reader, depth - 1)?;
                     Ok(Value::Array(Vec::new(alloc)))
                 }
-                Some(asked) => Ok(Value::Array(planned_items(alloc, reader, depth - 1, asked)?)),
+                Some(asked) => Ok(Value::Array(asked_items(alloc, reader, depth - 1, asked)?)),
             }
         }
         Token::BeginObject => {
@@ -175,6 +179,32 @@ fn read_parts(
                 None => Ok(Value::Object(planned_pairs(alloc, reader, depth - 1, members)?)),
                 Some(_asked) => Ok(Value::Object(read_pairs(alloc, reader, depth - 1)?)),
             }
+        }
+    }
+}
+
+/// The items of a list: of each up to the limit as much as is asked for.
+#[cycle(planned)]
+fn asked_items(
+    alloc: Global,
+    reader: &mut Reader<'_>,
+    depth: usize,
+    asked: &ItemUse,
+) -> Result<Vec<Value>, NoData>
+    requires plain { IsTrue (is_plain_use (use_view asked.now.each.value)) }
+    ensures ok { IfOk result (λ v.
+        AreFirstItems asked.now.limit (use_view asked.now.each.value) depth
+        reader.old (items_view v.items) reader.new) }
+    ensures shorter { OnOk result (length reader.new < length reader.old) }
+{
+    match asked.limit {
+        None => {
+            let all = planned_items(alloc, reader, depth, &asked.each)?;
+            Ok(all)
+        }
+        Some(limit) => {
+            let first = first_items(alloc, reader, depth, limit, &asked.each)?;
+            Ok(first)
         }
     }
 }
@@ -199,6 +229,39 @@ fn planned_items(
         let item = read_item(alloc, reader, depth, asked, extent)?;
         extent = extent.after(&item, count, found.is_empty());
         found.push(item)?;
+    }
+    Ok(found)
+}
+
+/// Of each of the first items as much as is asked for. Those after the limit are skipped, and
+/// counted as far as a list may go.
+#[cycle(planned)]
+#[inline(never)]
+fn first_items(
+    alloc: Global,
+    reader: &mut Reader<'_>,
+    depth: usize,
+    limit: usize,
+    asked: &Use,
+) -> Result<Vec<Value>, NoData>
+    requires plain { IsTrue (is_plain_use (use_view asked.now)) }
+    ensures ok { IfOk result (λ v. AreFirstItems (Some limit) (use_view asked.now) depth reader.old
+        (items_view v.items) reader.new) }
+    ensures shorter { OnOk result (length reader.new < length reader.old) }
+{
+    let mut found = Vec::new(alloc);
+    let mut room = MOST_ITEMS;
+    'items: while !reader.take_end_array() {
+        if room == 0 {
+            return Err(NoData::Memory);
+        }
+        room -= 1;
+        if found.len() < limit {
+            let item = read_planned(alloc, reader, depth, asked)?;
+            found.push(item)?;
+        } else {
+            skipped(reader, depth)?;
+        }
     }
     Ok(found)
 }

@@ -137,7 +137,7 @@ fn is_between(code: &str, least: char, greatest: char) -> bool {
     }
 }
 
-/// At most so many characters at the front, without the end of the line.
+/// The first `most` characters, or the whole text where it has fewer.
 fn front_chars(from: &str, most: usize) -> &str {
     match from.char_indices().nth(most) {
         Some((at, _)) => from.get(..at).unwrap_or(from),

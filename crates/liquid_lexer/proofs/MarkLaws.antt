@@ -11,7 +11,7 @@ use Rattle.liquid_lexer.specs.Items.{dash_if}
 use Rattle.liquid_lexer.specs.ItemReading.{closer_at}
 use Rattle.liquid_lexer.specs.Openers.{opener, IsOpener, with_dash, no_dash}
 use Rattle.liquid_lexer.specs.Verbatim.{IsMark, is_mark, NoMark, IsRaw, ends, goes_on}
-use Rattle.liquid_lexer.specs.SourceReading.{dashed, Mark, mark_after, mark_at, is_named, in_raw, raw_at}
+use Rattle.liquid_lexer.specs.SourceReading.{skip_dash, Mark, mark_after, mark_at, is_named, in_raw, raw_at}
 use Rattle.liquid_lexer.specs.declared.item.Delimiter.{Delimiter}
 use Rattle.liquid_lexer.specs.declared.item.Delimiter.TheVariants.{Tag}
 use Rattle.liquid_lexer.proofs.WordLaws.{bind_some, map_some, from_some, byte_some, blank_takes, blank_again, blank_shorter, word_takes, word_again, word_shorter}
@@ -32,13 +32,13 @@ no_byte_again : (q : ℕ) (bs : List ℕ) → begins_with q bs ≡ false → pas
 no_byte_again q [] h = refl
 no_byte_again q (b ∷ bs) h = rw h
 
-pub dash_takes : (k : Delimiter) (bs : List ℕ) (o : Option (List ℕ)) → past_byte 45 bs ≡ o → IsOpener k (dashed bs o).0 (opener k ∷ bs) (dashed bs o).1
+pub dash_takes : (k : Delimiter) (bs : List ℕ) (o : Option (List ℕ)) → past_byte 45 bs ≡ o → IsOpener k (skip_dash bs o).0 (opener k ∷ bs) (skip_dash bs o).1
 dash_takes k bs None h = no_dash (no_byte 45 bs h)
 dash_takes k bs (Some r) h = subst (λ (l : List ℕ). IsOpener k true (opener k ∷ l) r) (sym (byte_some 45 bs r h)) with_dash
 
-pub opener_again : {k : Delimiter} {before : Bool} {bs inside : List ℕ} → IsOpener k before bs inside → (cs : List ℕ) × (bs ≡ opener k ∷ cs) × (dashed cs (past_byte 45 cs) ≡ (before, inside))
+pub opener_again : {k : Delimiter} {before : Bool} {bs inside : List ℕ} → IsOpener k before bs inside → (cs : List ℕ) × (bs ≡ opener k ∷ cs) × (skip_dash cs (past_byte 45 cs) ≡ (before, inside))
 opener_again (with_dash {rest = rest}) = (45 ∷ rest, refl, refl)
-opener_again (no_dash {rest = rest} h) = (rest, refl, ap (dashed rest) (no_byte_again 45 rest h))
+opener_again (no_dash {rest = rest} h) = (rest, refl, ap (skip_dash rest) (no_byte_again 45 rest h))
 
 pub opener_shorter : {k : Delimiter} {d : Bool} {bs inside : List ℕ} → IsOpener k d bs inside → length inside ≤ length bs
 opener_shorter with_dash = omega arith
@@ -60,9 +60,9 @@ mark_takes bs x h =
     let b = bind_some (past_byte 37 a.0) _ x a.2 in
     let e : bs ≡ 123 ∷ 37 ∷ b.0 = byte_some 123 bs a.0 a.1 ∙ ap (λ (l : List ℕ). 123 ∷ l) (byte_some 37 a.0 b.0 b.1) in
     subst (λ (l : List ℕ). IsMark x.0.name x.0.before x.0.after l x.1) (sym e)
-    (mark_after_takes (37 ∷ b.0) (dashed b.0 (past_byte 45 b.0)) x (dash_takes Tag b.0 (past_byte 45 b.0) refl) b.2)
+    (mark_after_takes (37 ∷ b.0) (skip_dash b.0 (past_byte 45 b.0)) x (dash_takes Tag b.0 (past_byte 45 b.0) refl) b.2)
 
-mark_opened : (cs : List ℕ) → mark_at (123 ∷ 37 ∷ cs) ≡ mark_after (dashed cs (past_byte 45 cs))
+mark_opened : (cs : List ℕ) → mark_at (123 ∷ 37 ∷ cs) ≡ mark_after (skip_dash cs (past_byte 45 cs))
 unfolding mark_at
 mark_opened cs = refl
 

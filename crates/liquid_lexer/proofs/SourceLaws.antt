@@ -11,7 +11,7 @@ use Rattle.liquid_lexer.specs.Items.{Item, AreItems}
 use Rattle.liquid_lexer.specs.ItemReading.{items_at}
 use Rattle.liquid_lexer.specs.Openers.{opener, IsOpener}
 use Rattle.liquid_lexer.specs.Pieces.{Piece, text, output, tag, raw, comment, stripped, IsTag, is_tag, IsMarkup, is_output, is_plain_tag, is_raw, is_comment, content, IsSource, last, more}
-use Rattle.liquid_lexer.specs.SourceReading.{dashed, raw_at, comment_at, opener_by, opener_at, Markup, inside_of, markup_at, body_at, wanted_body, all_steps, text_step, Goes, marked, turn, source_at, Wanted, TakesWanted}
+use Rattle.liquid_lexer.specs.SourceReading.{skip_dash, raw_at, comment_at, opener_by, opener_at, Markup, inside_of, markup_at, body_at, wanted_body, all_steps, text_step, Goes, marked, turn, source_at, Wanted, TakesWanted}
 use Rattle.liquid_lexer.specs.declared.item.Delimiter.{Delimiter}
 use Rattle.liquid_lexer.specs.declared.item.Delimiter.TheVariants.{Output, Tag}
 use Rattle.liquid_lexer.specs.declared.piece.Body.{Body}
@@ -53,8 +53,8 @@ markup_takes : (bs : List ℕ) (x : Markup × List ℕ) → markup_at bs ≡ Som
 unfolding markup_at
 markup_takes bs x h =
     let k = bind_some (opener_at bs) _ x h in
-    inside_takes k.0.0 bs (dashed k.0.1 (past_byte 45 k.0.1)) x
-    (subst (λ (l : List ℕ). IsOpener k.0.0 (dashed k.0.1 (past_byte 45 k.0.1)).0 l (dashed k.0.1 (past_byte 45 k.0.1)).1) (sym (opener_takes bs k.0 k.1)) (dash_takes k.0.0 k.0.1 (past_byte 45 k.0.1) refl)) k.2
+    inside_takes k.0.0 bs (skip_dash k.0.1 (past_byte 45 k.0.1)) x
+    (subst (λ (l : List ℕ). IsOpener k.0.0 (skip_dash k.0.1 (past_byte 45 k.0.1)).0 l (skip_dash k.0.1 (past_byte 45 k.0.1)).1) (sym (opener_takes bs k.0 k.1)) (dash_takes k.0.0 k.0.1 (past_byte 45 k.0.1) refl)) k.2
 
 opener_is : (k : Delimiter) (cs : List ℕ) → opener_at (opener k ∷ cs) ≡ Some (k, cs)
 opener_is Output cs = refl
@@ -64,8 +64,8 @@ inside_again : (k : Delimiter) (before : Bool) (bs inside : List ℕ) → IsOpen
 unfolding markup_at
 inside_again k before bs inside o =
     let a = opener_again o in
-    ap (λ (l : List ℕ). option_and_then (λ k. inside_of k.0 (dashed k.1 (past_byte 45 k.1))) (opener_at l)) a.1
-    ∙ ap (option_and_then (λ k. inside_of k.0 (dashed k.1 (past_byte 45 k.1)))) (opener_is k a.0) ∙ ap (inside_of k) a.2
+    ap (λ (l : List ℕ). option_and_then (λ k. inside_of k.0 (skip_dash k.1 (past_byte 45 k.1))) (opener_at l)) a.1
+    ∙ ap (option_and_then (λ k. inside_of k.0 (skip_dash k.1 (past_byte 45 k.1)))) (opener_is k a.0) ∙ ap (inside_of k) a.2
 
 abbrev markup : Bool → Piece → Bool → Markup
 markup before p after = record { before = before; piece = p; after = after }

@@ -44,7 +44,7 @@ abbrev pub IsOfKind : FaultKind → ParseError → Type 0
 IsOfKind kind errors.Memory = ⊥
 IsOfKind kind (errors.Fault f) = f.kind ≡ kind
 
--- a fault at the place with so many bytes of the source remaining, and no want of memory
+-- a fault at the place `remaining` bytes before the end of the source, and not refused memory
 abbrev pub IsAt : ℕ → ParseError → Type 0
 IsAt remaining errors.Memory = ⊥
 IsAt remaining (errors.Fault f) = f.remaining ≡ remaining

@@ -15,9 +15,9 @@ use Rattle.liquid_lexer.specs.declared.piece.Body.TheVariants.{Raw, Comment}
 
 -- ---- marks, and bodies that aren't read
 
-abbrev pub dashed : List ℕ → Option (List ℕ) → Bool × List ℕ
-dashed bs None = (false, bs)
-dashed bs (Some rest) = (true, rest)
+abbrev pub skip_dash : List ℕ → Option (List ℕ) → Bool × List ℕ
+skip_dash bs None = (false, bs)
+skip_dash bs (Some rest) = (true, rest)
 
 -- a mark's name, and whether its dashes strip
 pub record Mark : Type 0 where
@@ -36,7 +36,7 @@ unfoldable pub mark_at : Reads Mark
 mark_at bs = do
   brace ← past_byte open_brace bs
   inside ← past_byte percent brace
-  mark_after (dashed inside (past_byte dash inside))
+  mark_after (skip_dash inside (past_byte dash inside))
 
 abbrev pub is_named : List ℕ → Option (Mark × List ℕ) → Bool
 is_named w None = false
@@ -127,7 +127,8 @@ inside_of Tag x =
 
 -- after the `{` of an opener
 unfoldable pub markup_at : Reads Markup
-markup_at bs = option_and_then (λ k. inside_of k.0 (dashed k.1 (past_byte dash k.1))) (opener_at bs)
+markup_at bs =
+    option_and_then (λ k. inside_of k.0 (skip_dash k.1 (past_byte dash k.1))) (opener_at bs)
 
 abbrev pub tag_name : Piece → List ℕ
 tag_name (tag w is) = w

@@ -1,6 +1,6 @@
-//! What is wanted where a source has a fault.
+//! What was expected where a source has a fault.
 
-/// What is wanted where a source has a fault.
+/// What was expected where a source has a fault.
 #[derive(Clone, Copy, Debug, PartialEq, Eq)]
 pub enum Expectation {
     /// `{{` or `{%`.

@@ -57,15 +57,15 @@ impl FaultKind {
     }
 }
 
-/// What is wrong, where, and what is wanted there.
+/// What is wrong, where, and what was expected there.
 #[derive(Clone, Copy, Debug, PartialEq, Eq)]
 pub struct Fault {
     pub kind: FaultKind,
     /// How many bytes of the source remain from the place on: where an item can't be read, or
     /// else where the piece opens.
     pub remaining: usize,
-    /// What is wanted at the place.
-    pub wanted: Expectation,
+    /// What was expected here.
+    pub expected: Expectation,
     /// Of a piece whose items are read but aren't allowed: how many of them remain from the one
     /// that is wrong. With 0 it is the closer, before which another is wanted.
     pub items_remaining: usize,
@@ -73,14 +73,14 @@ pub struct Fault {
 
 impl Fault {
     /// A fault where the rest of the source is `text`.
-    pub fn new(kind: FaultKind, text: &str, wanted: Expectation) -> Fault
+    pub fn new(kind: FaultKind, text: &str, expected: Expectation) -> Fault
         ensures kind { result.kind ≡ kind }
         ensures place { result.remaining ≡ length text.now }
     {
         Fault {
             kind,
             remaining: text.len(),
-            wanted,
+            expected,
             items_remaining: 0,
         }
     }

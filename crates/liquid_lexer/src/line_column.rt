@@ -1,8 +1,8 @@
 //! The line and the column of a place in a source.
 use liquid_core::{Location, Origin};
 
-/// The line and the column, in characters and each from 1, of the place with `left` bytes of the
-/// source after it. A byte order mark at the start of the source is no column.
+/// The line and the column, in characters and each from 1, of the place `remaining` bytes before
+/// the end of the source. A byte order mark at the start of the source is no column.
 pub fn location(source: &str, remaining: usize) -> Location {
     let front = source
         .get(..source.len().saturating_sub(remaining))

@@ -1,7 +1,8 @@
 //! Marks, and the bodies of `raw` and `comment`, which run up to one.
 ghost use Rattle.std.specs.Prelude.{◌≡◌, length, drop};
 ghost use Rattle.std.specs.Option.{option_map};
-ghost use Rattle.liquid_lexer.specs.SourceReading.{mark_at, mark_after, dashed, goes_on, in_body};
+ghost use Rattle.liquid_lexer.specs.SourceReading.{mark_at, mark_after, skip_dash};
+ghost use Rattle.liquid_lexer.specs.SourceReading.{goes_on, in_body};
 ghost use Rattle.liquid_lexer.specs.SourceReading.{in_comment, raw_at, comment_at};
 ghost use Rattle.liquid_lexer.specs.ValueReading.{past_byte, run_len};
 ghost use Rattle.liquid_lexer.specs.PieceView.{mark_view};
@@ -20,9 +21,9 @@ pub struct Mark<'s> {
     pub after: bool,
 }
 
-/// What follows a dash, where the text begins with one, and whether it does.
-pub fn dashed(text: &str) -> (bool, &str)
-    ensures { (result.0, result.1.now) ≡ dashed text.now (past_byte 45 text.now) }
+/// Whether the text begins with a dash, and what follows it.
+pub fn skip_dash(text: &str) -> (bool, &str)
+    ensures { (result.0, result.1.now) ≡ skip_dash text.now (past_byte 45 text.now) }
 {
     match past_byte(text, b'-') {
         Some(rest) => (true, rest),
@@ -35,7 +36,7 @@ pub fn dashed(text: &str) -> (bool, &str)
 fn read_mark(text: &str) -> Option<(Mark, &str)>
     ensures { option_map (λ x. (mark_view x.0, x.1.now)) result ≡ mark_at text.now }
 {
-    let (before, inside) = dashed(past_byte(past_byte(text, b'{')?, b'%')?);
+    let (before, inside) = skip_dash(past_byte(past_byte(text, b'{')?, b'%')?);
     mark_after(before, inside)
 }
 

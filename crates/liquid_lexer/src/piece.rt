@@ -10,7 +10,7 @@ use crate::cut::{past_byte, past_white, stripped, word};
 use crate::expectation::Expectation;
 use crate::fault::{Fault, FaultKind, ParseError};
 use crate::item::{Delimiter, Item, read_items};
-use crate::mark::{dashed, read_comment, read_raw};
+use crate::mark::{read_comment, read_raw, skip_dash};
 use crate::value::unexpected;
 use std::alloc::Global;
 use std::collections::VecDeque;
@@ -62,7 +62,7 @@ pub fn read_markup<'s>(alloc: Global, text: &'s str) -> Result<(Markup<'s>, &'s 
     let Some((kind, rest)) = opener(text) else {
         return Err(ParseError::Fault(unexpected(text, Expectation::Opener)));
     };
-    let (before, inside) = dashed(rest);
+    let (before, inside) = skip_dash(rest);
     match kind {
         Delimiter::Output => {
             let (items, after, rest) = read_items(alloc, inside, kind)?;

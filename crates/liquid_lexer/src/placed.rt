@@ -2,7 +2,7 @@
 use crate::cut::{past_byte, past_white, word};
 use crate::fault::ParseError;
 use crate::item::{Delimiter, Item, closer, read_item};
-use crate::mark::dashed;
+use crate::mark::skip_dash;
 use crate::piece::opener;
 use std::alloc::{AllocError, Global};
 
@@ -33,7 +33,7 @@ pub fn placed_piece<'s>(alloc: Global, text: &'s str) -> Result<PlacedPiece<'s>,
     let (kind, inside) = past_byte(text, b'{')
         .and_then(opener)
         .unwrap_or((Delimiter::Output, text));
-    let (_, inside) = dashed(inside);
+    let (_, inside) = skip_dash(inside);
     let (name, inside) = match kind {
         Delimiter::Output => ("", inside),
         Delimiter::Tag => word(past_white(inside)).unwrap_or(("", inside)),

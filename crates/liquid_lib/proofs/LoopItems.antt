@@ -18,7 +18,7 @@ use Rattle.liquid_core.specs.Loops.{forloop_object, loop_scope}
 use Rattle.liquid_core.specs.declared.frame.Items.{Items}
 use Rattle.liquid_core.specs.declared.frame.LoopFrame.{LoopFrame}
 use Rattle.liquid_core.specs.declared.frame.LoopKind.TheVariants.{For}
-use Rattle.liquid_evaluation.specs.Evaluation.{amount, asked_for, skipped, source_items, wanted, window_items}
+use Rattle.liquid_evaluation.specs.Evaluation.{amount, selected_items, skipped, source_items, selected_count, window_items}
 use Rattle.liquid_evaluation.specs.ItemLists.{all_items}
 use Rattle.liquid_evaluation.specs.Tree.{Source, Window}
 use Rattle.liquid_evaluation.proofs.Calls.{faulted_as, faulted_then}
@@ -38,10 +38,10 @@ listed_from (x ∷ xs) item k h =
     λ i. head i ∷ tail i
 
 pub window_placed : (ds : List Datum) (limit offset : Option ℤ) (reversed : Bool)
-    → window_items ds limit offset reversed ≡ window_values ds (skipped (length ds) offset) (wanted (length ds) (skipped (length ds) offset) limit) reversed
+    → window_items ds limit offset reversed ≡ window_values ds (skipped (length ds) offset) (selected_count (length ds) (skipped (length ds) offset) limit) reversed
 window_placed ds limit offset reversed =
     let a = window_by_place ds limit offset reversed in
-    let item : ℕ → Datum = λ k. get_or ds (place_of reversed (skipped (length ds) offset) (wanted (length ds) (skipped (length ds) offset) limit) k) nil in
+    let item : ℕ → Datum = λ k. get_or ds (place_of reversed (skipped (length ds) offset) (selected_count (length ds) (skipped (length ds) offset) limit) k) nil in
     listed_from (window_items ds limit offset reversed) item 0 (λ i lt. a.each i (subst (λ n. i < n) a.count lt) ∙ ap (λ n. Some (item n)) (let e : i ≡ 0 + i = omega arith in e))
     ∙ ap (each_from item 0) a.count
 
@@ -62,8 +62,8 @@ each_none item k m is = ap (each_from item k) (let e : m - k ≡ 0 = omega (arit
 
 -- what an evaluated window asks for
 pub asked_placed : (window : Window) (ds : List Datum) (e : Environment) (limit offset : Option ℤ) (n o m : ℕ) → length ds ≡ n → amount window.limit e ≡ Ok limit → amount window.offset e ≡ Ok offset
-    → o ≡ skipped n offset → m ≡ wanted n (skipped n offset) limit → asked_for window ds e ≡ Ok (window_values ds o m window.reversed)
-unfolding asked_for
+    → o ≡ skipped n offset → m ≡ selected_count n (skipped n offset) limit → selected_items window ds e ≡ Ok (window_values ds o m window.reversed)
+unfolding selected_items
 asked_placed window ds e limit offset n o m long l f is many =
     ap (λ r. r >>= (λ limit. amount window.offset e >>= (λ offset. Ok (window_items ds limit offset window.reversed)))) l
     ∙ ap (λ r. r >>= (λ offset. Ok (window_items ds limit offset window.reversed))) f
@@ -73,15 +73,15 @@ asked_placed window ds e limit offset n o m long l f is many =
     first : skipped (length ds) offset ≡ o
     first = ap (λ k. skipped k offset) long ∙ sym is
 
-    many_at : wanted (length ds) (skipped (length ds) offset) limit ≡ m
-    many_at = ap (λ k. wanted k (skipped k offset) limit) long ∙ sym many
+    many_at : selected_count (length ds) (skipped (length ds) offset) limit ≡ m
+    many_at = ap (λ k. selected_count k (skipped k offset) limit) long ∙ sym many
 
-pub limit_faulted : (window : Window) (ds : List Datum) (e : Environment) (kind : ErrorKind) → Faulted kind (amount window.limit e) → Faulted kind (asked_for window ds e)
-unfolding asked_for
+pub limit_faulted : (window : Window) (ds : List Datum) (e : Environment) (kind : ErrorKind) → Faulted kind (amount window.limit e) → Faulted kind (selected_items window ds e)
+unfolding selected_items
 limit_faulted window ds e kind h = faulted_then kind (amount window.limit e) (λ limit. amount window.offset e >>= (λ offset. Ok (window_items ds limit offset window.reversed))) h
 
-pub offset_faulted : (window : Window) (ds : List Datum) (e : Environment) (limit : Option ℤ) (kind : ErrorKind) → amount window.limit e ≡ Ok limit → Faulted kind (amount window.offset e) → Faulted kind (asked_for window ds e)
-unfolding asked_for
+pub offset_faulted : (window : Window) (ds : List Datum) (e : Environment) (limit : Option ℤ) (kind : ErrorKind) → amount window.limit e ≡ Ok limit → Faulted kind (amount window.offset e) → Faulted kind (selected_items window ds e)
+unfolding selected_items
 offset_faulted window ds e limit kind l h =
     faulted_as kind _ _ (ap (λ r. r >>= (λ limit. amount window.offset e >>= (λ offset. Ok (window_items ds limit offset window.reversed)))) l)
     (faulted_then kind (amount window.offset e) (λ offset. Ok (window_items ds limit offset window.reversed)) h)
@@ -93,8 +93,8 @@ pub turn_list : (items : Items) (o m : ℕ) (reversed : Bool) → window_values 
 turn_list items o m reversed = ap (λ f. each_from f 0 m) (fun_ext (λ k. sym (item_by_place items (place_of reversed o m k))))
 
 module _ (source : Source) (window : Window) (e : Environment) where
-  pub asked_of : (all items : List Datum) → source_items source e ≡ Ok all → asked_for window all e ≡ Ok items → items_asked source window e ≡ Ok items
-  asked_of all items is h = ap (λ r. r >>= (λ all. asked_for window all e)) is ∙ h
+  pub asked_of : (all items : List Datum) → source_items source e ≡ Ok all → selected_items window all e ≡ Ok items → items_asked source window e ≡ Ok items
+  asked_of all items is h = ap (λ r. r >>= (λ all. selected_items window all e)) is ∙ h
 
 -- ---- `forloop` before the loop
 
@@ -112,7 +112,7 @@ begins_for t name e parent first kind called is = record {
 
 module _ (source : Source) (window : Window) (columns : Option Expression) (e : Environment) where
   abbrev in_rows : List Datum → Option ℤ → Result (Option (List Datum × ℕ)) ErrorKind
-  in_rows all asked = asked_for window all e >>= (λ items. in_columns items (columns_of (length items) asked))
+  in_rows all asked = selected_items window all e >>= (λ items. in_columns items (columns_of (length items) asked))
 
   abbrev of_source : List Datum → Result (Option (List Datum × ℕ)) ErrorKind
   of_source all = amount columns e >>= in_rows all
@@ -120,19 +120,19 @@ module _ (source : Source) (window : Window) (columns : Option Expression) (e : 
   known : (all : List Datum) (asked : Option ℤ) → source_items source e ≡ Ok all → amount columns e ≡ Ok asked → cells_asked source window columns e ≡ in_rows all asked
   known all asked is many = ap (λ r. r >>= of_source) is ∙ ap (λ r. r >>= in_rows all) many
 
-  pub rows_window_faulted : (all : List Datum) (asked : Option ℤ) (kind : ErrorKind) → source_items source e ≡ Ok all → amount columns e ≡ Ok asked → Faulted kind (asked_for window all e) → Faulted kind (cells_asked source window columns e)
+  pub rows_window_faulted : (all : List Datum) (asked : Option ℤ) (kind : ErrorKind) → source_items source e ≡ Ok all → amount columns e ≡ Ok asked → Faulted kind (selected_items window all e) → Faulted kind (cells_asked source window columns e)
   rows_window_faulted all asked kind is many h =
-      faulted_as kind _ _ (known all asked is many) (faulted_then kind (asked_for window all e) (λ items. in_columns items (columns_of (length items) asked)) h)
+      faulted_as kind _ _ (known all asked is many) (faulted_then kind (selected_items window all e) (λ items. in_columns items (columns_of (length items) asked)) h)
 
   -- where the columns are no fault, the window's is the first
-  pub rows_window_next : (all : List Datum) (kind : ErrorKind) → source_items source e ≡ Ok all → IsOk (amount columns e) → Faulted kind (asked_for window all e) → Faulted kind (cells_asked source window columns e)
+  pub rows_window_next : (all : List Datum) (kind : ErrorKind) → source_items source e ≡ Ok all → IsOk (amount columns e) → Faulted kind (selected_items window all e) → Faulted kind (cells_asked source window columns e)
   rows_window_next all kind is columns_ok h = on (amount columns e) refl columns_ok
     where
       on : (r : Result (Option ℤ) ErrorKind) → amount columns e ≡ r → IsOk r → Faulted kind (cells_asked source window columns e)
       on (Ok asked) many ok = rows_window_faulted all asked kind is many h
       on (Err k) many ok = absurd cc
 
-  pub cells_asked_of : (all items : List Datum) (asked : Option ℤ) → source_items source e ≡ Ok all → amount columns e ≡ Ok asked → asked_for window all e ≡ Ok items
+  pub cells_asked_of : (all items : List Datum) (asked : Option ℤ) → source_items source e ≡ Ok all → amount columns e ≡ Ok asked → selected_items window all e ≡ Ok items
       → cells_asked source window columns e ≡ in_columns items (columns_of (length items) asked)
   cells_asked_of all items asked is many h = known all asked is many ∙ ap (λ r. r >>= (λ items. in_columns items (columns_of (length items) asked))) h
 
@@ -145,7 +145,7 @@ in_faulted : (item : ℕ → Datum) (m columns : ℕ) (kind : ErrorKind) → 0 <
 in_faulted item zero columns kind lt h = absurd (omega arith)
 in_faulted item (suc m) columns kind lt h = faulted_then kind (some_columns columns) (λ some. Ok (Some (each_from item 0 (suc m), some))) h
 
-module _ (source : Source) (window : Window) (columns : Option Expression) (e : Environment) (all : List Datum) (asked : Option ℤ) (o m : ℕ) (is : source_items source e ≡ Ok all) (many : amount columns e ≡ Ok asked) (h : asked_for window all e ≡ Ok (window_values all o m window.reversed)) where
+module _ (source : Source) (window : Window) (columns : Option Expression) (e : Environment) (all : List Datum) (asked : Option ℤ) (o m : ℕ) (is : source_items source e ≡ Ok all) (many : amount columns e ≡ Ok asked) (h : selected_items window all e ≡ Ok (window_values all o m window.reversed)) where
   in_these : cells_asked source window columns e ≡ in_columns (window_values all o m window.reversed) (columns_of m asked)
   in_these =
       cells_asked_of source window columns e all (window_values all o m window.reversed) asked is many h

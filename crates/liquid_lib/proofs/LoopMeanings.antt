@@ -15,7 +15,7 @@ use Rattle.liquid_core.specs.Loops.{loop_scope, forloop_object, tablerow_object}
 use Rattle.liquid_core.specs.LoopFrames.{frame_item_at, frame_map_at}
 use Rattle.liquid_core.specs.declared.interrupt.Interrupt.{Interrupt}
 use Rattle.liquid_core.specs.declared.frame.LoopFrame.{LoopFrame}
-use Rattle.liquid_evaluation.specs.Evaluation.{amount, asked_for, source_items}
+use Rattle.liquid_evaluation.specs.Evaluation.{amount, selected_items, source_items}
 use Rattle.liquid_evaluation.specs.Tree as tree
 use Rattle.liquid_meaning.specs.Effects.{is_break, take_interrupt, variable_or_nil}
 use Rattle.liquid_meaning.specs.Loops.{cell_end, cell_start, columns_of, for_all, if_empty, loop, rows, until_break}
@@ -65,7 +65,7 @@ module _ (setting : Setting) (deeper : tree.Nodes → Run Nothing) (name : Text)
   for_items items = read_environment (variable_or_nil (codes "forloop")) >>= (λ parent. if_empty items (nodes_meaning setting deeper otherwise) (loop name parent items (nodes_meaning setting deeper body)))
 
   for_asks : node_meaning setting deeper (tree.for_each name source window body otherwise) ≡ (evaluate (items_asked source window) >>= for_items)
-  for_asks = for_rule setting deeper name source window body otherwise ∙ joined (source_items source) (λ all. asked_for window all) for_items
+  for_asks = for_rule setting deeper name source window body otherwise ∙ joined (source_items source) (λ all. selected_items window all) for_items
 
   pub for_refused : (e : Error) (p : Configuration) → Faulted e.kind (items_asked source window p.environment) → Performs (Err e) (node_meaning setting deeper (tree.for_each name source window body otherwise)) p p
   for_refused e p h = by_rule for_asks (refused_met {V = List Datum} (λ x. x) unit e (items_asked source window) for_items p h)
@@ -114,10 +114,10 @@ module _ (setting : Setting) (deeper : tree.Nodes → Run Nothing) (name : Text)
   row_asks : node_meaning setting deeper (tree.tablerow name source window columns body) ≡ (evaluate (cells_asked source window columns) >>= cells name (nodes_meaning setting deeper body))
   row_asks =
       let m = nodes_meaning setting deeper body in
-      let rest : List Datum → Option ℤ → Environment → Result (Option (List Datum × ℕ)) ErrorKind = λ all asked e. fallible.◌>>=◌ (asked_for window all e) (λ items. in_columns items (columns_of (length items) asked)) in
+      let rest : List Datum → Option ℤ → Environment → Result (Option (List Datum × ℕ)) ErrorKind = λ all asked e. fallible.◌>>=◌ (selected_items window all e) (λ items. in_columns items (columns_of (length items) asked)) in
       tablerow_rule setting deeper name source window columns body
-      ∙ (λ i. evaluate (source_items source) >>= (λ all. evaluate (amount columns) >>= (λ asked. evaluate (asked_for window all) >>= (λ items. rows_known name (columns_of (length items) asked) items m i))))
-      ∙ (λ i. evaluate (source_items source) >>= (λ all. evaluate (amount columns) >>= (λ asked. joined (asked_for window all) (λ items e. in_columns items (columns_of (length items) asked)) (cells name m) i)))
+      ∙ (λ i. evaluate (source_items source) >>= (λ all. evaluate (amount columns) >>= (λ asked. evaluate (selected_items window all) >>= (λ items. rows_known name (columns_of (length items) asked) items m i))))
+      ∙ (λ i. evaluate (source_items source) >>= (λ all. evaluate (amount columns) >>= (λ asked. joined (selected_items window all) (λ items e. in_columns items (columns_of (length items) asked)) (cells name m) i)))
       ∙ (λ i. evaluate (source_items source) >>= (λ all. joined (amount columns) (rest all) (cells name m) i))
       ∙ joined (source_items source) (λ all e. fallible.◌>>=◌ (amount columns e) (λ asked. rest all asked e)) (cells name m)
 

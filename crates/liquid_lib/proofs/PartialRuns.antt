@@ -22,7 +22,7 @@ use Rattle.liquid_syntax.specs.Templates.{template_nodes, most_of, node_count_of
 use Rattle.liquid_syntax.specs.declared.template.Template.{Template}
 use Rattle.liquid_syntax.proofs.TreeCounts.{template_count}
 use Rattle.liquid_syntax.specs.declared.partials.Partials.{Partials}
-use Rattle.liquid_meaning.specs.Meaning.{Setting, found, partial_name_text, include_scope, pairs_scope, node_meaning, deeper_meaning, render_apart}
+use Rattle.liquid_meaning.specs.Meaning.{Setting, found_partial, partial_name_text, include_scope, pairs_scope, node_meaning, deeper_meaning, render_apart}
 use Rattle.liquid_meaning.specs.Runs as runs
 use Rattle.liquid_meaning.specs.Runs.{Nothing, Outcome, Run, apart, done, evaluate, fault, go_on, with_scope}
 use Rattle.liquid_meaning.specs.Within.{Within}
@@ -367,4 +367,4 @@ small_list t n h = subst (λ k. k ≤ n) (template_count t) h
 
 -- a partial of the very name comes first
 pub rendered_name : (partials : List (Text × tree.Nodes)) (name : Text) (partial : tree.Nodes) → listed partials name ≡ Some partial → render_partial partials name ≡ Ok partial
-rendered_name partials name partial is = ap (λ o. found (o else listed partials (name ++ codes ".liquid"))) is
+rendered_name partials name partial is = ap (λ o. found_partial (o else listed partials (name ++ codes ".liquid"))) is

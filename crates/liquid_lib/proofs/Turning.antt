@@ -8,7 +8,7 @@ use Rattle.liquid_core.specs.Held.{held}
 use Rattle.liquid_core.specs.Loops.{loop_scope}
 use Rattle.liquid_core.specs.Places.{place_of}
 use Rattle.liquid_core.specs.States.{Layers, layers_of, loops_of, merged_layers, enclosing_scopes, with_interrupt, with_scope_popped, with_scope_pushed, with_frame_at}
-use Rattle.liquid_core.specs.LoopFrames.{EndsIn, GoesOn, IsNext, WentOn, item_of, loop_name, loop_object, standing, frame_item_at, frame_map_at, without_innermost}
+use Rattle.liquid_core.specs.LoopFrames.{EndsIn, GoesOn, IsNext, WentOn, item_of, loop_name, loop_object, scope_maps, frame_item_at, frame_map_at, without_innermost}
 use Rattle.liquid_core.specs.declared.interrupt.Interrupt.{Interrupt}
 use Rattle.liquid_core.specs.declared.state.State.{State}
 use Rattle.liquid_core.specs.declared.frame.Scope.{Scope}
@@ -217,8 +217,8 @@ module _ (before : List Scope) (t : LoopFrame) where
   unfolding layers_of
   innermost_layers u s e =
       let outer = reverse (map held s.scopes.items) in
-      let was : standing s.frames.items outer ≡ frame_map_at u u.at (local_of (standing before outer)) ∷ standing before outer = ap (λ l. standing l outer) e ∙ standing_last before (variants.LoopFrame u) outer in
-      let again : standing s.frames.items outer ≡ frame_map_at u u.at (local_of (enclosing_scopes (standing s.frames.items outer))) ∷ enclosing_scopes (standing s.frames.items outer) =
+      let was : scope_maps s.frames.items outer ≡ frame_map_at u u.at (local_of (scope_maps before outer)) ∷ scope_maps before outer = ap (λ l. scope_maps l outer) e ∙ standing_last before (variants.LoopFrame u) outer in
+      let again : scope_maps s.frames.items outer ≡ frame_map_at u u.at (local_of (enclosing_scopes (scope_maps s.frames.items outer))) ∷ enclosing_scopes (scope_maps s.frames.items outer) =
       was ∙ sym (ap (λ l. frame_map_at u u.at (local_of (enclosing_scopes l)) ∷ enclosing_scopes l) was) in
       λ i. record (layers_of s) { scopes = again i }
 

@@ -10,7 +10,7 @@ use Rattle.liquid_core.specs.FilterAnswers.{FilterAnswer}
 use Rattle.liquid_evaluation.specs.Evaluation.{answers_with}
 use Rattle.liquid_evaluation.specs.Tree.{Nodes}
 use Rattle.liquid_meaning.specs.Meaning.{Setting, meaning}
-use Rattle.liquid_lib.specs.Pages.{Shown, fresh, shown}
+use Rattle.liquid_lib.specs.Pages.{Shown, new_run_environment, shown}
 use Rattle.liquid_lib.specs.declared.rendered_page.Page.{Page}
 
 -- the partials by name, and what the filters of a host answer by name
@@ -20,7 +20,7 @@ setting_with named partials = record { answers = answers_with named; partials = 
 unfoldable pub hosted_page : (Text → FilterAnswer) → ℕ → List (Text × Nodes) → Map Datum → Nodes
     → Shown
 hosted_page named depth partials «data» nodes =
-    shown (meaning (setting_with named partials) depth nodes (fresh «data»))
+    shown (meaning (setting_with named partials) depth nodes (new_run_environment «data»))
 
 -- it doesn't end by `Memory`
 abbrev pub EndsOtherwise : Page → Type 0

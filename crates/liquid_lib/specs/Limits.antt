@@ -1,6 +1,6 @@
 -- What a writer still grants a run: bytes of text, and turns.
 --     Takes n old new      n of those left were taken; where there is no limit, there still is none
---     is_within_limit n left      so many are left, or there is no limit
+--     is_within_limit n left      at least n are left, or there is no limit
 use Rattle.std.specs.Prelude.{◌≡◌, ℕ, ◌-◌, ◌≤◌, nat_le, Bool, true}
 use Rattle.std.specs.Prelude.{Option, Some, None, Result, Ok, Err}
 use Rattle.liquid_lib.specs.declared.limits.Limits.{Limits}
@@ -21,7 +21,7 @@ Takes n (Some left) new = (n ≤ left) × (new ≡ Some (left - n))
 abbrev pub TakesTurn : Limits → Limits → Type 0
 TakesTurn old new = Takes 1 old.turns new.turns × (new.bytes ≡ old.bytes)
 
--- so many bytes were taken, and no turn
+-- n bytes were taken, and no turn
 abbrev pub TakesBytes : ℕ → Limits → Limits → Type 0
 TakesBytes n old new = Takes n old.bytes new.bytes × (new.turns ≡ old.turns)
 

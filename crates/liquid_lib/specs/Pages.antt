@@ -45,10 +45,10 @@ ended_page text answer = record { text = text; fault = fault_of (answer_of unit 
 abbrev pub setting_over : List (Text × Nodes) → Setting
 setting_over partials = record { answers = answers_with no_host; partials = partials }
 
--- what a new run has: the data alone
-abbrev pub fresh : Map Datum → Environment
-fresh «data» = merged_layers (new_layers «data»)
+-- the environment of a new run: the data alone
+abbrev pub new_run_environment : Map Datum → Environment
+new_run_environment «data» = merged_layers (new_layers «data»)
 
 unfoldable pub page_over : ℕ → List (Text × Nodes) → Map Datum → Nodes → Shown
 page_over depth partials «data» nodes =
-    shown (meaning (setting_over partials) depth nodes (fresh «data»))
+    shown (meaning (setting_over partials) depth nodes (new_run_environment «data»))

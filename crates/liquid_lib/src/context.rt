@@ -36,7 +36,8 @@ pub(crate) struct RunContext<'g, H> {
 }
 
 impl<'g, H> RunContext<'g, H> {
-    /// What the nodes of a partial are given that is entered here, or `TooDeep` with no depth left.
+    /// The context for the nodes of a partial that is entered here, or `TooDeep` with no depth
+    /// left.
     pub(crate) fn deeper(&self, alloc: Global, partial: &'g Template) -> Result<RunContext<'g, H>>
         ensures depth { Answers (λ c. c.depth) result (depth_left self.now.depth) }
         ensures same { IfOk result (λ c. (c.partials.now ≡ self.now.partials.now) ×

@@ -124,7 +124,7 @@ impl<W: Write> CountedWrite for Counted<W> {
     }
 }
 
-/// A writer that nothing is written to, after a run into a buffer alone.
+/// The writer of a run into a buffer alone, which writes nothing to it.
 #[derive(Clone, Copy, Debug)]
 pub struct NoWriter;
 

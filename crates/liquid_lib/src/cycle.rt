@@ -52,8 +52,8 @@ pub(crate) fn run_cycle<W: CountedWrite, H: NamedFilters>(
     }
 }
 
-/// Moves the group's index on by one, up to this count: the index that it had, 0 at first. Only a
-/// new group takes memory.
+/// Moves the group's index on by one, modulo `count`. The answer is the index that it had, 0 at
+/// first. Only a new group takes memory.
 fn move_on(alloc: Global, group: &str, count: usize, state: &mut State<'_>) -> Result<usize>
     requires { 0 < count }
     ensures index { IfOk result (λ i. i ≡ cycle_index group.now (environment_of state.old)) }

@@ -1,5 +1,5 @@
-//! Which item of a node a fault is about. The node's values are made once more, in the state in
-//! which it ended, and only then.
+//! Which item of a node a fault is about. To find that, and only then, the node's values are
+//! evaluated once more, in the state in which the node ended.
 ghost use Rattle.liquid_model.specs.ErrorKinds.{IsKindOrMemory};
 
 use crate::fault_tag::{item_of_case, item_of_cycle, item_of_for, item_of_other, item_of_tablerow};

@@ -1,4 +1,4 @@
-//! Where the faults of a run stand. What is done for that is done only where a run ends by a fault.
+//! Where the faults of a run stand. That is looked for only where a run ends by a fault.
 ghost use Rattle.liquid_model.specs.ErrorKinds.{IsKindOrMemory};
 ghost use Rattle.liquid_lib.specs.inside.SameKindOrMemory.{SameKindOrMemory};
 
@@ -10,7 +10,8 @@ use std::alloc::{AllocError, Global};
 
 /// The fault of the node at an index, with where the item that it is about stands in the template
 /// or the partial, or where the node begins, where the source isn't kept. A fault that says already
-/// where it stands keeps that. Refused memory and a failed write are no node's, and say no place.
+/// where it stands keeps that. Refused memory and a failed write belong to no node and get no
+/// place.
 #[inline(never)]
 pub(crate) fn located<H: NamedFilters>(
     alloc: Global,

@@ -6,7 +6,7 @@ ghost use Rattle.liquid_syntax.specs.Templates.{partials_of, tree_of};
 ghost use Rattle.liquid_lib.specs.HostedPages.{EndsOtherwise, hosted_page};
 ghost use Rattle.liquid_lib.specs.LimitedPages.{PageWithin};
 ghost use Rattle.liquid_lib.specs.Performs.{Performs};
-ghost use Rattle.liquid_lib.specs.inside.Engine.{beside, nodes_in};
+ghost use Rattle.liquid_lib.specs.inside.Engine.{with_writer, nodes_in};
 
 use crate::borrowed_data::run_with_borrowed_data;
 use crate::context::{Places, RunContext};
@@ -73,8 +73,8 @@ fn text_with<W: CountedWrite, H: NamedFilters>(
 ) -> (String, Result<()>)
     requires plain { length (loops_of state.old) ≡ 0 }
     ensures { Performs result.1 (nodes_in H.named context.now (tree_of template.now))
-        (beside W.contents W.failure_count writer.old [] (environment_of state.old))
-        (beside W.contents W.failure_count writer.new (string_bytes result.0)
+        (with_writer W.contents W.failure_count writer.old [] (environment_of state.old))
+        (with_writer W.contents W.failure_count writer.new (string_bytes result.0)
         (environment_of state.new)) }
 {
     let mut out = Output {

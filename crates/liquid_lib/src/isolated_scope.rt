@@ -105,7 +105,7 @@ fn state_with_borrowed<'d>(alloc: Global, name: &'d str, value: &'d Value) -> Re
     ensures { IsValueOrMemory environment_of result
         (new_environment (insert empty name.now (view value.now))) }
 {
-    let mut own = State::alone(alloc, BTreeMap::new(alloc));
+    let mut own = State::isolated(alloc, BTreeMap::new(alloc));
     if let Err(fault) = own.push_borrowed(name, value) {
         drop(own);
         return Err(fault);
@@ -155,7 +155,7 @@ pub(crate) fn left_by(answer: Result<()>, own: &State<'_>) -> Result<Option<Inte
 fn isolated_state<'d>(alloc: Global, names: Object) -> Result<State<'d>>
     ensures { IsValueOrMemory environment_of result (new_environment (held names)) }
 {
-    let mut own = State::alone(alloc, BTreeMap::new(alloc));
+    let mut own = State::isolated(alloc, BTreeMap::new(alloc));
     if let Err(fault) = own.push_scope(names) {
         drop(own);
         return Err(fault);

@@ -38,7 +38,7 @@ pub struct Limited<W> {
     writer: W,
     left: Limits,
     refusals: u64,
-    // Where nothing was refused it says nothing.
+    // It means nothing until something is refused.
     last: LimitReached,
 }
 
@@ -104,7 +104,7 @@ impl<W: CountedWrite> CountedWrite for Limited<W> {
 
     ghost left = { λ c. limited_left c };
 
-    // A text that doesn't fit is refused whole, so that none is cut, and no character of it.
+    // A text that doesn't fit is refused whole, so that neither a text nor a character is cut.
     fn write(&mut self, bytes: &[u8]) -> io::Result<usize>
         ensures bound { WritesAtMost result bytes.now }
         ensures bytes { WriteAppends (W.contents (limited_inner self.old))
@@ -192,7 +192,7 @@ impl<W: CountedWrite> CountedWrite for Limited<W> {
     }
 }
 
-/// Whether so many are left, which they are where there is no limit.
+/// Whether at least `count` are left. Without a limit that is always so.
 fn is_left(left: Option<u64>, count: u64) -> bool
     ensures { result ≡ is_within_limit count left }
 {
@@ -202,7 +202,7 @@ fn is_left(left: Option<u64>, count: u64) -> bool
     }
 }
 
-/// What is left once so many are taken.
+/// What is left after taking `count`. Where there is no limit, there still is none.
 fn less(left: Option<u64>, count: u64) -> Option<u64>
     ensures { is_within_limit count left ≡ true → Takes count left result }
 {

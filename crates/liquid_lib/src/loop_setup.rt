@@ -1,4 +1,4 @@
-//! What stands before the first turn of a loop, and what ends one.
+//! What is evaluated before the first turn of a loop, and what ends the loop.
 ghost use Rattle.std.specs.Prelude.{◌≡◌, ◌<◌, ◌≤◌, List, IfOk, IfSome, None, codes, length};
 ghost use Rattle.std.specs.Prelude.{option_map, string_bytes};
 ghost use Rattle.liquid_model.specs.Answer.{Answers, IsValueOrMemory};
@@ -7,7 +7,7 @@ ghost use Rattle.liquid_model.specs.View.{view};
 ghost use Rattle.liquid_core.specs.ExpressionView.{expression_view};
 ghost use Rattle.liquid_core.specs.States.{environment_of, layers_of, loops_of, with_interrupt};
 ghost use Rattle.liquid_core.specs.LoopFrames.{parent_of};
-ghost use Rattle.liquid_evaluation.specs.Evaluation.{asked_for};
+ghost use Rattle.liquid_evaluation.specs.Evaluation.{selected_items};
 ghost use Rattle.liquid_evaluation.specs.SourceView.{source_view};
 ghost use Rattle.liquid_syntax.specs.Flats.{window_view};
 ghost use Rattle.liquid_lib.specs.inside.LoopTurns.{AreRows, IsFor, cells_asked, cells_of};
@@ -85,7 +85,7 @@ pub(crate) fn row_frame<'d>(
     Ok(Some((frame, columns)))
 }
 
-/// Which of so many items are asked for. The limit is evaluated before the offset.
+/// Which of `total` items are asked for. The limit is evaluated before the offset.
 fn evaluate_window(
     alloc: Global,
     asked: &WindowExpression,
@@ -94,7 +94,7 @@ fn evaluate_window(
 ) -> Result<Window>
     ensures items { (ds : List Datum) → length ds ≡ total →
         Answers (λ w. window_values ds w.from w.count asked.now.reversed) result
-        (asked_for (window_view asked.now) ds (environment_of state.now)) }
+        (selected_items (window_view asked.now) ds (environment_of state.now)) }
     ensures within { IfOk result (λ w. (w.from ≤ total) × (w.count ≤ total)) }
 {
     let limit = evaluate_amount(alloc, &asked.limit, state)?;
@@ -114,7 +114,7 @@ fn forloop_elsewhere(alloc: Global, state: &State<'_>) -> Result<Value>
     }
 }
 
-/// The columns of so many items, or `ZeroColumns`.
+/// The number of columns for `total` items, or `ZeroColumns` where it is 0.
 fn checked_columns(alloc: Global, asked: Option<i64>, total: usize) -> Result<Columns>
     requires { total ≤ 9223372036854775807 }
     ensures { Answers (λ c. c.count) result (some_columns (columns_of total asked)) }
@@ -130,7 +130,7 @@ fn checked_columns(alloc: Global, asked: Option<i64>, total: usize) -> Result<Co
     Ok(Columns { count })
 }
 
-/// The number that is asked for, or that of the items where none is or a negative one.
+/// The number of columns that is asked for, or `total` where none or a negative one is.
 fn column_count(asked: Option<i64>, total: usize) -> usize
     requires { total ≤ 9223372036854775807 }
     ensures columns { result ≡ columns_of total asked }

@@ -7,7 +7,7 @@ ghost use Rattle.liquid_core.specs.Environment.{cut};
 ghost use Rattle.liquid_syntax.specs.Templates.{tree_of};
 ghost use Rattle.liquid_evaluation.specs.Tree.{Nodes};
 ghost use Rattle.liquid_lib.specs.Added.{AppendsPart};
-ghost use Rattle.liquid_lib.specs.inside.Engine.{in_buffer, beside};
+ghost use Rattle.liquid_lib.specs.inside.Engine.{in_buffer, with_writer};
 ghost use Rattle.liquid_lib.specs.Failures.{OneFailed, AtMostOneFailed};
 ghost use Rattle.liquid_meaning.specs.Isolation.{changes};
 ghost use Rattle.liquid_lib.specs.StateKept.{LayersKept, AreRenderNodes};
@@ -179,8 +179,8 @@ pub(crate) fn text_beside<W: CountedWrite>(
     runtime: &mut Runtime<'_>,
 ) -> (String, Result<()>)
     ensures performs { Performs result.1 (run_in counts answer runtime.old (tree_of template.now))
-        (beside W.contents W.failure_count writer.old [] (environment_in runtime.old))
-        (beside W.contents W.failure_count writer.new (string_bytes result.0)
+        (with_writer W.contents W.failure_count writer.old [] (environment_in runtime.old))
+        (with_writer W.contents W.failure_count writer.new (string_bytes result.0)
         (environment_in runtime.new)) }
     ensures kept { LayersKept (names_in runtime.old (tree_of template.now))
         (layers_in runtime.old) (layers_in runtime.new) }

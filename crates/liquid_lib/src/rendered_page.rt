@@ -113,7 +113,7 @@ pub(crate) fn state_over<'d>(alloc: Global, data: &'d Object) -> State<'d>
     State::from_parts(alloc, parts, Data::Borrowed(data))
 }
 
-/// The page of a run that wrote this text and ended so.
+/// The page of a run that wrote this text and ended by this answer.
 pub(crate) fn page_of_end(text: String, answer: Result<()>) -> Result<Page>
     ensures page { IfOk result (λ page. page_view page ≡ ended_page (string_bytes text) answer) }
     ensures ran { IfOk result (λ _. IfErr answer (λ e. is_memory e.kind ≡ false)) }

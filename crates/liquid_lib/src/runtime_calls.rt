@@ -26,8 +26,8 @@ use std::alloc::Global;
 use std::collections::BTreeMap;
 
 impl<'p> RuntimeBuilder<'p> {
-    /// A builder without data, partials and filters of a host, of 32 nested partials. It takes no
-    /// memory.
+    /// A builder without data, partials and filters of a host, with a depth of 32 nested partials.
+    /// It takes no memory.
     pub fn new(alloc: Global) -> RuntimeBuilder<'p>
         ensures globals { globals_for result ≡ empty }
         ensures partials { partials_for result ≡ [] }
@@ -42,7 +42,7 @@ impl<'p> RuntimeBuilder<'p> {
         }
     }
 
-    /// Hands in the data.
+    /// Sets the data.
     pub fn set_globals(self, globals: Object) -> RuntimeBuilder<'p>
         ensures globals { globals_for result ≡ held globals }
         ensures partials { partials_for result ≡ partials_for self.entry }
@@ -87,7 +87,7 @@ impl<'p> RuntimeBuilder<'p> {
         }
     }
 
-    /// Says how many partials may be nested.
+    /// Sets how many partials may be nested.
     pub fn set_depth(self, depth: u32) -> RuntimeBuilder<'p>
         ensures globals { globals_for result ≡ globals_for self.entry }
         ensures partials { partials_for result ≡ partials_for self.entry }
@@ -127,7 +127,7 @@ impl<'p> Runtime<'p> {
         &self.state
     }
 
-    /// What a path leads to, as `State::try_get`. It refuses for `Memory` alone, and takes memory
+    /// What a path leads to, as `State::try_get`. Its only fault is `Memory`, and it takes memory
     /// only for the text of a first step that is no text itself.
     pub fn try_get<'a>(&'a self, alloc: Global, path: &[Value]) -> Result<Option<ValueCow<'a>>>
         ensures value { IsValueOrMemory (λ r. option_map cow_view r) result

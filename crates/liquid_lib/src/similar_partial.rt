@@ -1,4 +1,4 @@
-//! The fault of a partial that there isn't, and which one may be meant. That is looked for only
+//! The fault of a partial that doesn't exist, and which one may be meant. That is looked for only
 //! where a run ends by that fault.
 ghost use Rattle.liquid_model.specs.ErrorKinds.{IsKindOrMemory};
 
@@ -6,7 +6,7 @@ use liquid_core::{Error, ErrorKind, Quoted, more_similar};
 use liquid_syntax::Partials;
 use std::alloc::{AllocError, Global};
 
-/// Of a name that no partial has.
+/// The fault of a name that no partial has.
 pub(crate) fn unknown(alloc: Global, partials: &Partials, name: &str) -> Error
     ensures { IsKindOrMemory ErrorKind.UnknownPartial result.kind }
 {

@@ -11,8 +11,8 @@ use crate::counted::CountedWrite;
 #[derive(Clone, Copy, Debug)]
 pub struct WriteFailed;
 
-/// Writes all the bytes. A short count goes on with the rest; what failed isn't tried again, and
-/// nothing is flushed.
+/// Writes all the bytes. After a short count it goes on with the rest. A write that failed isn't
+/// tried again, and nothing is flushed.
 pub fn write_all<W: CountedWrite>(writer: &mut W, bytes: &[u8]) -> Result<(), WriteFailed>
     ensures all { OnOk result (Appends (W.contents writer.old) (W.contents writer.new) bytes.now) }
     ensures takes { OnOk result

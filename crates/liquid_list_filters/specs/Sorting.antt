@@ -35,14 +35,14 @@ key_order None None = Equal
 abbrev pub sort_by : (Datum → Key) → List Datum → List Datum
 sort_by key ds = sorted (λ d e. is_lt (key_order (key d) (key e))) ds
 
-abbrev pub given : Datum → Key
-given nil = None
-given d = Some d
+abbrev pub sort_key : Datum → Key
+sort_key nil = None
+sort_key d = Some d
 
 -- an item is sorted by itself, or by the value at a property; a missing one counts as nil
 abbrev pub key_of : Option Text → Datum → Key
-key_of None d = given d
-key_of (Some name) d = option_and_then given (property name d)
+key_of None d = sort_key d
+key_of (Some name) d = option_and_then sort_key (property name d)
 
 abbrev pub lower_case : Text → Text
 lower_case s = map to_ascii_lowercase s

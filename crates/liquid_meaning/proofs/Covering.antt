@@ -1,5 +1,5 @@
 -- The names of a run cover it, each of them whole.
-use Rattle.std.specs.Prelude.{◌≡◌, Bool, true, false, cond, ◌&&◌, T, List, [], ◌∷◌, Option, Some, None, codes}
+use Rattle.std.specs.Prelude.{◌≡◌, ℕ, Bool, true, false, cond, ◌&&◌, T, List, [], ◌∷◌, Option, Some, None, codes}
 use mathlib.Core.Path.{refl, sym, ap, subst}
 use Rattle.std.specs.Option.{unwrap_or}
 use Rattle.liquid_model.specs.Texts.{Text}
@@ -11,8 +11,8 @@ use Rattle.liquid_evaluation.specs.declared.comparison.ComparisonOperator.{Compa
 use Rattle.liquid_evaluation.specs.declared.comparison.ComparisonOperator.TheVariants.{Equals}
 use Rattle.liquid_evaluation.specs.Names.{expression_names, steps_names, all_names, optional_names, filters_names, chain_names, atom_names, atoms_names, condition_names, source_names, window_names, bound_names, target_names, include_name, node_names, nodes_names, whens_names, partials_names, run_names, mentioned}
 use Rattle.liquid_meaning.specs.Within.{Within}
-use Rattle.liquid_model.specs.Uses.{Use, Alike, nothing, everything, parts, Fields, no_fields, field, ItemUse, uncounted, every, there, asks_whether, includes, includes_fields, includes_items}
-use Rattle.liquid_meaning.specs.Reading.{Uses, Needs, key, for_known_key, grants, grants_along, grants_all, grants_optional, grants_filters, grants_chain, use_beside, grants_compared, grants_values, grants_atom, grants_atoms, grants_condition, grants_source, grants_window, grants_bindings, is_flat, grants_node, grants_nodes, grants_whens, grants_partials}
+use Rattle.liquid_model.specs.Uses.{Use, Alike, nothing, everything, parts, Fields, no_fields, field, ItemUse, uncounted, up_to, there, asks_whether, includes, includes_fields, includes_items}
+use Rattle.liquid_meaning.specs.Reading.{Uses, Needs, key, for_known_key, grants, grants_along, grants_all, grants_optional, grants_filters, grants_chain, use_beside, grants_compared, grants_values, grants_atom, grants_atoms, grants_condition, seen_limit, grants_source, grants_window, grants_bindings, is_flat, grants_node, grants_nodes, grants_whens, grants_partials}
 use Rattle.liquid_meaning.specs.Reads.{AllRespect, NamesCover, whole_names}
 use Rattle.liquid_meaning.proofs.Within.{left, right, within_mentioned}
 use Rattle.liquid_model.proofs.Alike.{alike_same}
@@ -42,7 +42,7 @@ mutual
 
   everything_includes_items : (turns : ItemUse) → T (includes_items everything turns)
   everything_includes_items uncounted = tt
-  everything_includes_items (every v) = everything_includes v
+  everything_includes_items (up_to n v) = everything_includes v
 
 module _ (N : Names) where
   abbrev W : Uses
@@ -115,10 +115,10 @@ module _ (N : Names) where
   covers_condition [] h = tt
   covers_condition (conjunction ∷ more) h = both (grants_atoms W conjunction) _ (covers_atoms conjunction (left N (atoms_names conjunction) _ h)) (covers_condition more (right N (atoms_names conjunction) _ h))
 
-  covers_source : (name : Text) (source : Source) → Within N (source_names source) → T (grants_source W name source)
+  covers_source : (name : Text) (limit : Option ℕ) (source : Source) → Within N (source_names source) → T (grants_source W name limit source)
   unfolding grants_source source_names
-  covers_source name (each_of x) h = covers_expression x _ h
-  covers_source name (counted x y) h = both (grants W x everything) _ (covers_expression x everything (left N (expression_names x) _ h)) (covers_expression y everything (right N (expression_names x) _ h))
+  covers_source name limit (each_of x) h = covers_expression x _ h
+  covers_source name limit (counted x y) h = both (grants W x everything) _ (covers_expression x everything (left N (expression_names x) _ h)) (covers_expression y everything (right N (expression_names x) _ h))
 
   covers_window : (window : Window) → Within N (window_names window) → T (grants_window W window)
   unfolding grants_window window_names
@@ -171,13 +171,13 @@ module _ (N : Names) where
           let r = right N (source_names source) _ h.1.1 in
           let s = right N (window_names window) _ r in
           both (is_flat (W (codes "forloop"))) _ (flat (codes "forloop"))
-          (both (grants_source W name source) _ (covers_source name source (left N (source_names source) _ h.1.1))
+          (both (grants_source W name (seen_limit window) source) _ (covers_source name (seen_limit window) source (left N (source_names source) _ h.1.1))
           (both (grants_window W window) _ (covers_window window (left N (window_names window) _ r))
           (both (grants_nodes needs W body) _ (covers_nodes body (left N (nodes_names body) _ s)) (covers_nodes otherwise (right N (nodes_names body) _ s)))))
       covers_node (tablerow name source window columns body) h =
           let r = right N (source_names source) _ h.1.1 in
           let s = right N (optional_names columns) _ r in
-          both (grants_source W name source) _ (covers_source name source (left N (source_names source) _ h.1.1))
+          both (grants_source W name (seen_limit window) source) _ (covers_source name (seen_limit window) source (left N (source_names source) _ h.1.1))
           (both (grants_optional W columns) _ (covers_optional columns (left N (optional_names columns) _ r))
           (both (grants_window W window) _ (covers_window window (left N (window_names window) _ s)) (covers_nodes body (right N (window_names window) _ s))))
       covers_node (capture name body) h = covers_nodes body h.1
@@ -191,7 +191,7 @@ module _ (N : Names) where
           let r = right N (expression_names x) _ h in
           let s = right N (source_names over.0) _ r.1.1 in
           both (grants W x everything) _ (covers_expression x everything (left N (expression_names x) _ h))
-          (both (grants_source W over.1 over.0) _ (covers_source over.1 over.0 (left N (source_names over.0) _ r.1.1)) (covers_bindings _ bindings (right N (target_names bindings) _ s)))
+          (both (grants_source W over.1 None over.0) _ (covers_source over.1 None over.0 (left N (source_names over.0) _ r.1.1)) (covers_bindings _ bindings (right N (target_names bindings) _ s)))
 
       pub covers_nodes : (nodes : Nodes) → Within N (nodes_names nodes) → T (grants_nodes needs W nodes)
       covers_nodes no_nodes h = tt

@@ -25,12 +25,12 @@ use Rattle.liquid_list_filters.specs.Sequences.{list, sequence, all_maps, proper
 use Rattle.liquid_list_filters.specs.Ends.{or_nil, first_answer, last_answer}
 use Rattle.liquid_list_filters.specs.Keeping.{is_wanted, where_of, where_by, where_answer, mapped_property, map_answer, compact_by, compact_answer}
 use Rattle.liquid_list_filters.specs.Rows.{reverse_answer, after_list, concat_by, concat_answer}
-use Rattle.liquid_list_filters.specs.Sorting.{insert_in_order, sorted, Key, key_order, sort_by, given, key_of, lower_case, natural_key_of, sort_named, sort_answer, sort_natural_answer}
-use Rattle.liquid_model.specs.Uses.{Use, nothing, everything, parts, ItemUse, uncounted, every, shape_of, Pairwise, Alike, AlikeItems, present, use_of_each, join, items_wanted}
+use Rattle.liquid_list_filters.specs.Sorting.{insert_in_order, sorted, Key, key_order, sort_by, sort_key, key_of, lower_case, natural_key_of, sort_named, sort_answer, sort_natural_answer}
+use Rattle.liquid_model.specs.Uses.{Use, nothing, everything, parts, ItemUse, uncounted, up_to, shape_of, Pairwise, Alike, AlikeItems, present, use_of_each, join, items_wanted}
 use Rattle.liquid_meaning.specs.Reads.{Both}
 use Rattle.liquid_meaning.specs.FilterNeeds.{filter_needs, items_each, with_field, items_or_itself, one_field, literal_first_argument, by_property, kind_needs, KnownRespected}
-use Rattle.liquid_model.proofs.Alike.{pairwise_same, pairwise_more, alike_same, alike_shape, alike_present, present_asks, join_left, join_right, AlikeLists}
-use Rattle.liquid_meaning.proofs.Seen.{pairwise_reverse}
+use Rattle.liquid_model.proofs.Alike.{pairwise_same, pairwise_more, up_to_all, up_to_more, alike_same, alike_shape, alike_present, present_asks, join_left, join_right, AlikeLists}
+use Rattle.liquid_meaning.proofs.SeenItems.{pairwise_reverse}
 use Rattle.liquid_meaning.proofs.NeededItems.{AlikeAs, by_shape, answers_same, same_size, list_alike, kept_alike, property_alike, field_of, rest_of, shape_of_field, maps_same, chosen}
 use Rattle.liquid_meaning.proofs.KeptNeeds.{compact_respects, given_respects, default_respects}
 
@@ -121,7 +121,7 @@ itself (parts members turns) ps qs a = (a.0, (a.1.0, over turns a.1.1))
   where
     over : (more : ItemUse) → Pairwise (AlikeAs (join (parts members turns) (use_of_each more))) (pair_lists ps) (pair_lists qs) → AlikeItems more (Some (object ps)) (Some (object qs))
     over uncounted a = tt
-    over (every u) a = pairwise_more _ _ (λ x y h. join_right (parts members turns) u (Some x) (Some y) h) (pair_lists ps) (pair_lists qs) a
+    over (up_to n u) a = up_to_more _ _ (λ x y h. join_right (parts members turns) u (Some x) (Some y) h) n (pair_lists ps) (pair_lists qs) (up_to_all _ n (pair_lists ps) (pair_lists qs) a)
 
 all_same : (W : Use) (ds es : Items) → Some (array ds) ≡ Some (array es) → AlikeLists W (list_of ds) (list_of es)
 all_same W ds es e = subst (λ xs. AlikeLists W (list_of ds) xs) (ap (λ o. sequence (unwrap_or o nil)) e) (pairwise_same _ (λ x. alike_same W (Some x)) (list_of ds))
@@ -260,10 +260,10 @@ kind_respects (Where f) xs v e arguments is c d a = by_argument v where_answer _
     (λ name no_length first others h c d a. subst (λ t. Both (AlikeAs v) (where_by t (first_of others) c) (where_by t (first_of others) d)) (sym h) (where_respects name v no_length (first_of others) c d a)) c d a
 kind_respects (Sort f) xs v e arguments is c d a = by_argument v sort_answer _ xs e arguments is
     (λ name no_length first others h c d a. subst (λ t. Both (AlikeAs v) (sort_named key_of t c) (sort_named key_of t d)) (sym h)
-    (sort_respects name v no_length key_of (λ d e p. ap (option_and_then given) p) c d a)) c d a
+    (sort_respects name v no_length key_of (λ d e p. ap (option_and_then sort_key) p) c d a)) c d a
 kind_respects (SortNatural f) xs v e arguments is c d a = by_argument v sort_natural_answer _ xs e arguments is
     (λ name no_length first others h c d a. subst (λ t. Both (AlikeAs v) (sort_named natural_key_of t c) (sort_named natural_key_of t d)) (sym h)
-    (sort_respects name v no_length natural_key_of (λ d e p. ap (λ o. option_map (λ x. text (lower_case (text_of x))) (option_and_then given o)) p) c d a)) c d a
+    (sort_respects name v no_length natural_key_of (λ d e p. ap (λ o. option_map (λ x. text (lower_case (text_of x))) (option_and_then sort_key o)) p) c d a)) c d a
 kind_respects (Compact f) [] v e arguments is c d a =
     subst (λ zs. Both (AlikeAs v) (compact_answer c zs) (compact_answer d zs)) (no_arguments e arguments is) (compact_respects v c d a)
 kind_respects (Compact f) (x ∷ xs) v e arguments is c d a = by_argument v compact_answer _ (x ∷ xs) e arguments is

@@ -10,7 +10,7 @@ use Rattle.liquid_model.specs.Maps.{Map, insert, merged}
 use Rattle.liquid_model.proofs.Maps.{same_key}
 use Rattle.liquid_core.specs.Environment.{Environment}
 use Rattle.liquid_evaluation.specs.Tree.{Chain, Source, Window, Nodes, node, assign, plain, for_each}
-use Rattle.liquid_evaluation.specs.Evaluation.{source_items, asked_for}
+use Rattle.liquid_evaluation.specs.Evaluation.{source_items, selected_items}
 use Rattle.liquid_meaning.specs.Runs.{Nothing, Run, evaluate, change, write, go_on, ◌>>=◌, with_scope}
 use Rattle.liquid_meaning.specs.Effects.{assigned_to}
 use Rattle.liquid_meaning.specs.Loops.{until_break, loop}
@@ -97,7 +97,7 @@ assigns_list setting deeper target chain more i = assigns_first (assigns_second 
 
 assigned_in_for : (setting : Setting) (deeper : Nodes → Run Nothing) (name : Text) (source : Source) (window : Window) (target : Text) (chain : Chain) (more otherwise : Nodes) (e : Environment)
     (all items : List Datum) (d : Datum) → ((nodes : Nodes) → Stays target (deeper nodes))
-    → source_items source e ≡ Ok all → asked_for window all e ≡ Ok (d ∷ items)
+    → source_items source e ≡ Ok all → selected_items window all e ≡ Ok (d ∷ items)
     → (let o = node_meaning setting deeper (for_each name source window (node (assign target chain) more) otherwise) e in o.end ≡ Ok tt → IsSome (o.environment.assigned target))
 unfolding node_meaning
 assigned_in_for setting deeper name source window target chain more otherwise e all items d i in_source in_window =

@@ -21,6 +21,7 @@ pub mod Rules
 pub mod RunKinds
 pub mod Runs
 pub mod Seen
+pub mod SeenItems
 pub mod Stays
 pub mod Steps
 pub mod Tied

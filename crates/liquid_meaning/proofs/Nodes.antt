@@ -17,7 +17,7 @@ use Rattle.liquid_evaluation.specs.Evaluation.{bound_values}
 use Rattle.liquid_meaning.specs.Runs.{Nothing, Run, read_environment, evaluate, change, ◌>>=◌}
 use Rattle.liquid_meaning.specs.Effects.{assigned_to, counted_to, interrupted_by, counter_number, take_interrupt, if_none, unless_interrupted}
 use Rattle.liquid_meaning.specs.Loops.{if_empty, columns_of, needs_columns, loop, rows}
-use Rattle.liquid_meaning.specs.Meaning.{Setting, write_item, cycle_meaning, has_equal, within_i64, named, partial_name_text, found, render_apart, node_meaning, nodes_meaning, whens_meaning}
+use Rattle.liquid_meaning.specs.Meaning.{Setting, write_item, cycle_meaning, has_equal, within_i64, named, partial_name_text, found_partial, render_apart, node_meaning, nodes_meaning, whens_meaning}
 use Rattle.liquid_evaluation.specs.Names.{expression_names, all_names, optional_names, condition_names, source_names, window_names, bound_names, target_names, include_name, node_names, nodes_names, whens_names}
 use Rattle.liquid_meaning.specs.Isolation.{KeepsOthers}
 use Rattle.liquid_meaning.proofs.Maps.{agree_insert, outside_insert}
@@ -111,7 +111,7 @@ module _ (N : Names) where
   isolated_rows name columns items i = isolated_bind (isolated_columns items columns) (λ a. isolated_for_all _ (λ k d. isolated_bind (isolated_write _) (λ a. isolated_bind (isolated_with_scope _ i) (λ a. isolated_write _))) 0 items)
 
   -- on with a partial that is found
-  isolated_found : {A : Type 0} (o : Option Nodes) (k : Nodes → Run A) → ((nodes : Nodes) → o ≡ Some nodes → Isolated N (k nodes)) → Isolated N (evaluate (λ e. found o) >>= k)
+  isolated_found : {A : Type 0} (o : Option Nodes) (k : Nodes → Run A) → ((nodes : Nodes) → o ≡ Some nodes → Isolated N (k nodes)) → Isolated N (evaluate (λ e. found_partial o) >>= k)
   unfolding ◌>>=◌ evaluate
   isolated_found None k ik e f h = record { text = refl; end = refl; agree = h; kept = kept_here N e }
   isolated_found (Some nodes) k ik e f h =

@@ -21,14 +21,15 @@ use Rattle.liquid_evaluation.specs.declared.comparison.ComparisonOperator.TheVar
 use Rattle.liquid_meaning.specs.Runs.{Nothing, Run, done, read_environment, evaluate, change, write, ◌>>=◌}
 use Rattle.liquid_meaning.specs.Effects.{assigned_to, counted_to, interrupted_by, counter_number, variable_or_nil, take_interrupt, if_none, unless_interrupted, is_last_text}
 use Rattle.liquid_meaning.specs.Loops.{if_empty, columns_of, needs_columns, cell_start, cell_end, loop, rows}
-use Rattle.liquid_meaning.specs.Meaning.{Setting, write_item, cycle_meaning, has_equal, within_i64, named, partial_name_text, found, pairs_scope, include_scope, render_apart, node_meaning, nodes_meaning, whens_meaning, deeper_meaning, meaning}
+use Rattle.liquid_meaning.specs.Meaning.{Setting, write_item, cycle_meaning, has_equal, within_i64, named, partial_name_text, found_partial, pairs_scope, include_scope, render_apart, node_meaning, nodes_meaning, whens_meaning, deeper_meaning, meaning}
 use Rattle.liquid_model.specs.Uses.{Use, nothing, everything, parts, there, shape_of, Pairwise, Alike, asks_whether, present}
-use Rattle.liquid_meaning.specs.Reading.{Uses, Needs, grants, grants_all, grants_optional, use_beside, grants_compared, grants_values, grants_condition, grants_source, grants_window, grants_bindings, grants_chain, bound_use, all_of, is_flat, grants_node, grants_nodes, grants_whens, grants_partials}
+use Rattle.liquid_meaning.specs.Reading.{Uses, Needs, grants, grants_all, grants_optional, use_beside, grants_compared, grants_values, grants_condition, seen_limit, grants_source, grants_window, grants_bindings, grants_chain, bound_use, all_of, is_flat, grants_node, grants_nodes, grants_whens, grants_partials}
 use Rattle.liquid_meaning.specs.Reads.{AlikeMaps, AlikeIn, Both, Respects, ReadsAlone}
 use Rattle.liquid_model.proofs.Alike.{both_left, both_right, alike_same, alike_shape, alike_present, present_asks, AlikeLists, pairwise_length}
 use Rattle.liquid_meaning.proofs.AlikeMaps.{alike_empty, alike_insert, alike_merged}
 use Rattle.liquid_meaning.proofs.Comparisons.{beside_asks, Sides, sides_equal}
-use Rattle.liquid_meaning.proofs.Seen.{Same, equal_both, lookup_alike, required_equal, sides_alike, chain_alike, truth_equal, source_alike, amount_equal, asked_alike, bound_alike}
+use Rattle.liquid_meaning.proofs.Seen.{Same, equal_both, lookup_alike, required_equal, sides_alike, chain_alike, truth_equal, amount_equal, bound_alike}
+use Rattle.liquid_meaning.proofs.SeenItems.{AlikeUpTo, source_alike, asked_alike}
 use Rattle.liquid_meaning.proofs.Tied.{TiedOutcomes, Tied, tied_done, tied_fault, tied_write, tied_read, tied_evaluate, tied_value, tied_change, tied_bind, tied_then, tied_cond, tied_with_scope, tied_buffered, tied_apart, tied_for_all, tied_until_break}
 
 module _ (U : Uses) where
@@ -184,7 +185,7 @@ module _ (U : Uses) where
   tied_all_pairs bindings h = tied_evaluate _ _ _ (λ e f a. bound_alike U e f a all_of (λ name. tt) bindings h)
 
   -- on with a partial that is found
-  tied_found : {A : Type 0} {R : A → A → Type 0} (o : Option Nodes) (k l : Nodes → Run A) → ((nodes : Nodes) → o ≡ Some nodes → Tied U R (k nodes) (l nodes)) → Tied U R (evaluate (λ e. found o) >>= k) (evaluate (λ e. found o) >>= l)
+  tied_found : {A : Type 0} {R : A → A → Type 0} (o : Option Nodes) (k l : Nodes → Run A) → ((nodes : Nodes) → o ≡ Some nodes → Tied U R (k nodes) (l nodes)) → Tied U R (evaluate (λ e. found_partial o) >>= k) (evaluate (λ e. found_partial o) >>= l)
   unfolding ◌>>=◌ evaluate
   tied_found None k l g e f h = record { text = refl; end = refl; left = h }
   tied_found (Some nodes) k l g e f h =
@@ -255,16 +256,16 @@ module _ (needs : Needs) (U : Uses) (setting : Setting) (respects : Respects set
     node_tied (for_each name source window body otherwise) h =
         let flat = both_left (is_flat (U (codes "forloop"))) _ h in
         let r = both_right (is_flat (U (codes "forloop"))) _ h in
-        let s = both_right (grants_source U name source) _ r in
+        let s = both_right (grants_source U name (seen_limit window) source) _ r in
         let t = both_right (grants_window U window) _ s in
-        tied_bind (tied_evaluate (AlikeLists (U name)) _ _ (λ e f a. source_alike U e f a name source (both_left (grants_source U name source) _ r))) (λ ds es a.
+        tied_bind (tied_evaluate (AlikeUpTo (seen_limit window) (U name)) _ _ (λ e f a. source_alike U e f a name (seen_limit window) source (both_left (grants_source U name (seen_limit window) source) _ r))) (λ ds es a.
         tied_bind (tied_evaluate (AlikeLists (U name)) _ _ (λ e f b. asked_alike U e f b (U name) window ds es a (both_left (grants_window U window) _ s))) (λ xs ys b.
         tied_bind (tied_parent U flat) (λ c d outer.
         tied_if_empty U (U name) xs ys b (nodes_tied otherwise (both_right (grants_nodes needs U body) _ t)) (tied_loop U name c d xs ys outer b (nodes_tied body (both_left (grants_nodes needs U body) _ t))))))
     node_tied (tablerow name source window columns body) h =
-        let r = both_right (grants_source U name source) _ h in
+        let r = both_right (grants_source U name (seen_limit window) source) _ h in
         let s = both_right (grants_optional U columns) _ r in
-        tied_bind (tied_evaluate (AlikeLists (U name)) _ _ (λ e f a. source_alike U e f a name source (both_left (grants_source U name source) _ h))) (λ ds es a.
+        tied_bind (tied_evaluate (AlikeUpTo (seen_limit window) (U name)) _ _ (λ e f a. source_alike U e f a name (seen_limit window) source (both_left (grants_source U name (seen_limit window) source) _ h))) (λ ds es a.
         tied_then (tied_value _ _ (λ e f b. amount_equal U e f b columns (both_left (grants_optional U columns) _ r))) (λ asked.
         tied_bind (tied_evaluate (AlikeLists (U name)) _ _ (λ e f b. asked_alike U e f b (U name) window ds es a (both_left (grants_window U window) _ s))) (λ xs ys b.
         subst (λ n. Tied U Same (rows name (columns_of (length xs) asked) xs (nodes_meaning setting deeper body)) (rows name (columns_of n asked) ys (nodes_meaning setting deeper body)))
@@ -282,9 +283,9 @@ module _ (needs : Needs) (U : Uses) (setting : Setting) (respects : Respects set
     node_tied (render x (Some over) bindings) h =
         let r = both_right (grants U x everything) _ h in
         tied_then (tied_name U x (both_left (grants U x everything) _ h)) (λ name.
-        tied_bind (tied_evaluate (AlikeLists (U over.1)) _ _ (λ e f a. source_alike U e f a over.1 over.0 (both_left (grants_source U over.1 over.0) _ r))) (λ ds es a.
+        tied_bind (tied_evaluate (AlikeLists (U over.1)) _ _ (λ e f a. source_alike U e f a over.1 None over.0 (both_left (grants_source U over.1 None over.0) _ r))) (λ ds es a.
         tied_until_break (U over.1) _ _ (λ k x y b. tied_render_apart name bindings _ _
-        (alike_scope U (codes "forloop") _ _ over.1 x y (counted (U over.1) k ds es a) b) (both_right (grants_source U over.1 over.0) _ r)) 0 ds es a))
+        (alike_scope U (codes "forloop") _ _ over.1 x y (counted (U over.1) k ds es a) b) (both_right (grants_source U over.1 None over.0) _ r)) 0 ds es a))
 
     pub nodes_tied : (nodes : Nodes) → T (grants_nodes needs U nodes) → Tied U Same (nodes_meaning setting deeper nodes) (nodes_meaning setting deeper nodes)
     nodes_tied no_nodes h = tied_done Same tt tt refl

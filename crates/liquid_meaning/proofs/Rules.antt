@@ -14,11 +14,11 @@ use Rattle.liquid_core.specs.Loops.{loop_scope, forloop_object}
 use Rattle.liquid_core.specs.declared.interrupt.Interrupt.{Interrupt}
 use Rattle.liquid_core.specs.declared.interrupt.Interrupt.TheVariants.{Break, Continue}
 use Rattle.liquid_evaluation.specs.Tree.{Bindings, Chain, Condition, Nodes, Source, Whens, Window, no_whens, when, plain, raw, comment, output, assign, increment, decrement, break_loop, continue_loop, cycle, if_true, unless, case_of, for_each, tablerow, capture, ifchanged, include, jekyll_include, render}
-use Rattle.liquid_evaluation.specs.Evaluation.{chain_value, truth_of, source_items, amount, asked_for, bound_values}
+use Rattle.liquid_evaluation.specs.Evaluation.{chain_value, truth_of, source_items, amount, selected_items, bound_values}
 use Rattle.liquid_meaning.specs.Runs.{Nothing, Run, done, read_environment, evaluate, change, write, go_on, ◌>>=◌, with_scope, buffered, apart}
 use Rattle.liquid_meaning.specs.Effects.{assigned_to, counted_to, interrupted_by, changed_to, counter_number, is_break, is_last_text, variable_or_nil}
 use Rattle.liquid_meaning.specs.Loops.{columns_of, for_all, if_empty, loop, rows, until_break}
-use Rattle.liquid_meaning.specs.Meaning.{Setting, within_i64, cycle_meaning, has_equal, partial_name_text, found, include_scope, pairs_scope, render_apart, node_meaning, nodes_meaning, whens_meaning}
+use Rattle.liquid_meaning.specs.Meaning.{Setting, within_i64, cycle_meaning, has_equal, partial_name_text, found_partial, include_scope, pairs_scope, render_apart, node_meaning, nodes_meaning, whens_meaning}
 
 module _ (setting : Setting) (deeper : Nodes → Run Nothing) where
   pub plain_rule : (t : Text) → node_meaning setting deeper (plain t) ≡ write t
@@ -64,17 +64,17 @@ module _ (setting : Setting) (deeper : Nodes → Run Nothing) where
   capture_rule name body = refl
 
   pub include_rule : (x : Expression) (bindings : Bindings) → node_meaning setting deeper (include x bindings)
-      ≡ (evaluate (partial_name_text x) >>= (λ name. evaluate (bound_values bindings) >>= (λ pairs. evaluate (λ e. found (listed setting.partials name)) >>= (λ partial. with_scope (pairs_scope pairs) (deeper partial)))))
+      ≡ (evaluate (partial_name_text x) >>= (λ name. evaluate (bound_values bindings) >>= (λ pairs. evaluate (λ e. found_partial (listed setting.partials name)) >>= (λ partial. with_scope (pairs_scope pairs) (deeper partial)))))
   unfolding node_meaning
   include_rule x bindings = refl
 
   pub jekyll_rule : (name : Text) (bindings : Bindings) → node_meaning setting deeper (jekyll_include name bindings)
-      ≡ (evaluate (bound_values bindings) >>= (λ pairs. evaluate (λ e. found (listed setting.partials name)) >>= (λ partial. with_scope (include_scope pairs) (deeper partial))))
+      ≡ (evaluate (bound_values bindings) >>= (λ pairs. evaluate (λ e. found_partial (listed setting.partials name)) >>= (λ partial. with_scope (include_scope pairs) (deeper partial))))
   unfolding node_meaning
   jekyll_rule name bindings = refl
 
   pub render_rule : (x : Expression) (bindings : Bindings) → node_meaning setting deeper (render x None bindings)
-      ≡ (evaluate (partial_name_text x) >>= (λ name. (evaluate (bound_values bindings) >>= (λ pairs. evaluate (λ e. found (listed setting.partials name else listed setting.partials (name ++ codes ".liquid"))) >>= (λ partial. apart (pairs_scope pairs) (deeper partial)))) >>= (λ left. done tt)))
+      ≡ (evaluate (partial_name_text x) >>= (λ name. (evaluate (bound_values bindings) >>= (λ pairs. evaluate (λ e. found_partial (listed setting.partials name else listed setting.partials (name ++ codes ".liquid"))) >>= (λ partial. apart (pairs_scope pairs) (deeper partial)))) >>= (λ left. done tt)))
   unfolding node_meaning merged empty
   render_rule x bindings = refl
 
@@ -112,13 +112,13 @@ module _ (setting : Setting) (deeper : Nodes → Run Nothing) where
   ifchanged_rule body = refl
 
   pub for_rule : (name : Text) (source : Source) (window : Window) (body otherwise : Nodes) → node_meaning setting deeper (for_each name source window body otherwise)
-      ≡ (evaluate (source_items source) >>= (λ all. evaluate (asked_for window all) >>= (λ items. read_environment (variable_or_nil (codes "forloop")) >>= (λ parent.
+      ≡ (evaluate (source_items source) >>= (λ all. evaluate (selected_items window all) >>= (λ items. read_environment (variable_or_nil (codes "forloop")) >>= (λ parent.
       if_empty items (nodes_meaning setting deeper otherwise) (loop name parent items (nodes_meaning setting deeper body))))))
   unfolding node_meaning
   for_rule name source window body otherwise = refl
 
   pub tablerow_rule : (name : Text) (source : Source) (window : Window) (columns : Option Expression) (body : Nodes) → node_meaning setting deeper (tablerow name source window columns body)
-      ≡ (evaluate (source_items source) >>= (λ all. evaluate (amount columns) >>= (λ asked. evaluate (asked_for window all) >>= (λ items.
+      ≡ (evaluate (source_items source) >>= (λ all. evaluate (amount columns) >>= (λ asked. evaluate (selected_items window all) >>= (λ items.
       rows name (columns_of (length items) asked) items (nodes_meaning setting deeper body)))))
   unfolding node_meaning
   tablerow_rule name source window columns body = refl

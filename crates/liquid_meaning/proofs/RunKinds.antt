@@ -14,11 +14,11 @@ use Rattle.liquid_evaluation.specs.declared.comparison.ComparisonOperator.{Compa
 use Rattle.liquid_evaluation.specs.declared.comparison.ComparisonOperator.TheVariants.{Equals, NotEquals, LessThan, GreaterThan, LessThanEquals, GreaterThanEquals, Contains}
 use Rattle.liquid_evaluation.specs.Calls.{applied}
 use Rattle.liquid_evaluation.specs.Tree.{Filter, FilterCall, Chain, Atom, bare, compared, Condition, Source, each_of, counted, Window, Bindings, Node, plain, raw, comment, output, assign, increment, decrement, break_loop, continue_loop, cycle, if_true, unless, case_of, for_each, tablerow, capture, ifchanged, include, jekyll_include, render, Nodes, no_nodes, node, Whens, no_whens, when}
-use Rattle.liquid_evaluation.specs.Evaluation.{FilterAnswers, entry_value, calls_by, chain_value, contains, comparison_truth, atom_truth, all_true, truth_of, value_items, not_too_long, source_items, amount, asked_for, bound_values}
+use Rattle.liquid_evaluation.specs.Evaluation.{FilterAnswers, entry_value, calls_by, chain_value, contains, comparison_truth, atom_truth, all_true, truth_of, value_items, not_too_long, source_items, amount, selected_items, bound_values}
 use Rattle.liquid_meaning.specs.Runs.{Nothing, Run, done, read_environment, evaluate, fault, change, write, go_on, ◌>>=◌, with_scope, ended_with, buffered, apart}
 use Rattle.liquid_meaning.specs.Effects.{take_interrupt, if_none, unless_interrupted}
 use Rattle.liquid_meaning.specs.Loops.{until_break, for_all, if_empty, needs_columns, loop, rows}
-use Rattle.liquid_meaning.specs.Meaning.{Setting, write_item, cycle_meaning, has_equal, within_i64, named, partial_name_text, found, render_apart, node_meaning, nodes_meaning, whens_meaning, deeper_meaning, meaning}
+use Rattle.liquid_meaning.specs.Meaning.{Setting, write_item, cycle_meaning, has_equal, within_i64, named, partial_name_text, found_partial, render_apart, node_meaning, nodes_meaning, whens_meaning, deeper_meaning, meaning}
 use Rattle.std.specs.Option.{ok_or}
 use Rattle.std.proofs.Common.{arith}
 use Rattle.std.proofs.Math.Facts.{leb_yes, yes_leb}
@@ -142,8 +142,8 @@ module _ (limit : ℕ) (least : (kind : ErrorKind) → T (is_run_kind kind) → 
   ended_amount None e = ended_ok None
   ended_amount (Some x) e = ended_then (ended_whole x e) (λ n. ended_ok _)
 
-  ended_asked : (window : Window) (ds : List Datum) (e : Environment) → Ended (asked_for window ds e)
-  unfolding asked_for
+  ended_asked : (window : Window) (ds : List Datum) (e : Environment) → Ended (selected_items window ds e)
+  unfolding selected_items
   ended_asked window ds e = ended_then (ended_amount window.limit e) (λ limit. ended_then (ended_amount window.offset e) (λ offset. ended_ok _))
 
   ended_bound : (bindings : Bindings) (e : Environment) → Ended (bound_values bindings e)
@@ -274,7 +274,7 @@ module _ (limit : ℕ) (least : (kind : ErrorKind) → T (is_run_kind kind) → 
   ends_pairs : (bindings : Bindings) → Ends (evaluate (bound_values bindings))
   ends_pairs bindings = ends_evaluate (ended_bound bindings)
 
-  ends_found : (partial : Option Nodes) → Ends (evaluate (λ e. found partial))
+  ends_found : (partial : Option Nodes) → Ends (evaluate (λ e. found_partial partial))
   ends_found partial = ends_evaluate (λ e. ended_ok_or partial _ tt)
 
   ends_source : (source : Source) → Ends (evaluate (source_items source))

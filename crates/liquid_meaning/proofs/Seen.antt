@@ -1,6 +1,5 @@
 -- What is evaluated in two environments that are alike is alike in what is granted.
-use Rattle.std.specs.Prelude.{◌≡◌, ℕ, zero, suc, ℤ, Bool, true, false, cond, ◌&&◌, T, List, [], ◌∷◌, length, get_or, nat_le, Option, Some, None, Result, Ok, Err}
-use mathlib.Core.List.{reverse, reverse_aux}
+use Rattle.std.specs.Prelude.{◌≡◌, ℤ, Bool, true, false, cond, ◌&&◌, T, List, [], ◌∷◌, Option, Some, None, Result, Ok, Err}
 use Rattle.std.specs.Fmt.{signed_decimal}
 use mathlib.Core.Path.{refl, sym, ap, subst, subst₂, ◌∙◌}
 use Rattle.std.specs.Option.{option_and_then, ok_or, unwrap_or}
@@ -9,7 +8,7 @@ use Rattle.liquid_model.specs.Data.{Datum, nil, truth, number, text, array, obje
 use Rattle.liquid_model.specs.Whole.{whole, fits}
 use Rattle.liquid_model.proofs.Compares.{number_text_is_read}
 use Rattle.liquid_model.specs.declared.error.ErrorKind.{ErrorKind}
-use Rattle.liquid_model.specs.declared.error.ErrorKind.TheVariants.{UnknownVariable, UnexpectedValue, RangeTooLong}
+use Rattle.liquid_model.specs.declared.error.ErrorKind.TheVariants.{UnknownVariable}
 use Rattle.liquid_model.specs.Find.{find, step_into}
 use Rattle.liquid_model.specs.Find as finding
 use Rattle.liquid_core.specs.Expression.{Expression, literal, variable, Steps, no_steps, step}
@@ -17,13 +16,13 @@ use Rattle.liquid_core.specs.Environment.{Environment, lookup}
 use Rattle.liquid_core.specs.Expressions.{value_of, path_of, required, all_required, needed_whole}
 use Rattle.liquid_model.specs.Fallible.{◌>>=◌}
 use Rattle.liquid_evaluation.specs.Calls.{applied}
-use Rattle.liquid_evaluation.specs.Tree.{FilterCall, Chain, Atom, bare, compared, Condition, Source, each_of, counted, Window, Bindings}
-use Rattle.liquid_evaluation.specs.Evaluation.{FilterAnswers, entry_value, calls_by, chain_value, bare_truth, atom_truth, all_true, truth_of, value_items, most_items, not_too_long, source_items, amount, skipped, wanted, items_in_window, window_items, asked_for, bound_values}
-use Rattle.liquid_model.specs.Uses.{Use, everything, parts, no_fields, every, there, shape_of, member, loop_items, Pairwise, Alike, use_at, is_everything, asks_whether}
-use Rattle.liquid_meaning.specs.Reading.{Uses, known_key, key, for_known_key, grants, grants_along, grants_all, grants_optional, grants_filters, Needs, use_before, grants_chain, use_beside, grants_compared, grants_atom, grants_atoms, grants_condition, grants_source, grants_window, grants_bindings}
+use Rattle.liquid_evaluation.specs.Tree.{FilterCall, Chain, Atom, bare, compared, Condition, Bindings}
+use Rattle.liquid_evaluation.specs.Evaluation.{FilterAnswers, entry_value, calls_by, chain_value, bare_truth, atom_truth, all_true, truth_of, amount, bound_values}
+use Rattle.liquid_model.specs.Uses.{Use, everything, there, shape_of, member, Pairwise, Alike, use_at, is_everything, asks_whether}
+use Rattle.liquid_meaning.specs.Reading.{Uses, known_key, key, for_known_key, grants, grants_along, grants_all, grants_optional, grants_filters, Needs, use_before, grants_chain, use_beside, grants_compared, grants_atom, grants_atoms, grants_condition, grants_bindings}
 use Rattle.liquid_meaning.specs.Reads.{AlikeIn, Both, Respects}
 use Rattle.liquid_meaning.proofs.Comparisons.{beside_asks, Sides, sides_compare}
-use Rattle.liquid_model.proofs.Alike.{AlikeLists, pairwise_length, both_left, both_right, pairwise_same, alike_same, alike_shape, alike_at, alike_included, alike_everything, present_asks, alike_present, alike_else}
+use Rattle.liquid_model.proofs.Alike.{both_left, both_right, alike_same, alike_shape, alike_at, alike_included, alike_everything, present_asks, alike_present, alike_else}
 
 -- ---- results
 
@@ -272,98 +271,6 @@ module _ (U : Uses) (e f : Environment) (agree : AlikeIn U e f) where
   amount_equal None h = refl
   amount_equal (Some x) h = same_then (whole_equal x h) (λ n. refl)
 
--- ---- the items of loops
-
-pub then_both : {A B : Type 0} (S : B → B → Type 0) (x y : Result A ErrorKind) (k l : A → Result B ErrorKind) → x ≡ y → ((a : A) → Both S (k a) (l a)) → Both S (x >>= k) (y >>= l)
-then_both S x y k l e g = subst (λ z. Both S (x >>= k) (z >>= l)) e (at x)
-  where
-    at : (z : Result _ ErrorKind) → Both S (z >>= k) (z >>= l)
-    at (Ok a) = g a
-    at (Err kind) = refl
-
-module _ {A : Type 0} (R : A → A → Type 0) where
-  pairwise_get : (z : A) → R z z → (xs ys : List A) (i : ℕ) → Pairwise R xs ys → R (get_or xs i z) (get_or ys i z)
-  pairwise_get z r [] [] i h = r
-  pairwise_get z r [] (y ∷ ys) i h = absurd h
-  pairwise_get z r (x ∷ xs) [] i h = absurd h
-  pairwise_get z r (x ∷ xs) (y ∷ ys) zero h = h.0
-  pairwise_get z r (x ∷ xs) (y ∷ ys) (suc i) h = pairwise_get z r xs ys i h.1
-
-  pairwise_turned : (xs ys zs ws : List A) → Pairwise R xs ys → Pairwise R zs ws → Pairwise R (reverse_aux xs zs) (reverse_aux ys ws)
-  pairwise_turned [] [] zs ws h k = k
-  pairwise_turned [] (y ∷ ys) zs ws h k = absurd h
-  pairwise_turned (x ∷ xs) [] zs ws h k = absurd h
-  pairwise_turned (x ∷ xs) (y ∷ ys) zs ws h k = pairwise_turned xs ys (x ∷ zs) (y ∷ ws) h.1 (h.0, k)
-
-  pub pairwise_reverse : (xs ys : List A) → Pairwise R xs ys → Pairwise R (reverse xs) (reverse ys)
-  pairwise_reverse xs ys h = pairwise_turned xs ys [] [] h tt
-
--- whether a loop goes over values of this kind
-goes : Option Datum → Bool
-goes (Some nil) = true
-goes (Some (array ds)) = true
-goes (Some (object ps)) = true
-goes _ = false
-
-by_kind : (d : Datum) → value_items d ≡ cond (goes (shape_of (Some d))) (Ok (loop_items d)) (Err UnexpectedValue)
-unfolding goes
-by_kind nil = refl
-by_kind (truth b) = refl
-by_kind (number z) = refl
-by_kind (text s) = refl
-by_kind (array ds) = refl
-by_kind (object ps) = refl
-
-module _ (u : Use) where
-  not_too_long_alike : (n m : ℕ) (ds es : List Datum) → n ≡ m → AlikeLists u ds es → Both (AlikeLists u) (not_too_long n ds) (not_too_long m es)
-  not_too_long_alike n m ds es e h = subst (λ k. Both (AlikeLists u) (not_too_long n ds) (not_too_long k es)) e (at (nat_le n most_items))
-    where
-      at : (b : Bool) → Both (AlikeLists u) (cond b (Ok ds) (Err RangeTooLong)) (cond b (Ok es) (Err RangeTooLong))
-      at true = h
-      at false = refl
-
-  value_items_alike : (c d : Datum) → shape_of (Some c) ≡ shape_of (Some d) → AlikeLists u (loop_items c) (loop_items d) → Both (AlikeLists u) (value_items c) (value_items d)
-  value_items_alike c d e h = subst₂ (Both (AlikeLists u)) (sym (by_kind c)) (sym (by_kind d)) (subst (λ b. Both (AlikeLists u) (cond (goes (shape_of (Some c))) (Ok (loop_items c)) (Err UnexpectedValue)) (cond b (Ok (loop_items d)) (Err UnexpectedValue))) (ap goes e) (at (goes (shape_of (Some c)))))
-    where
-      at : (b : Bool) → Both (AlikeLists u) (cond b (Ok (loop_items c)) (Err UnexpectedValue)) (cond b (Ok (loop_items d)) (Err UnexpectedValue))
-      at true = h
-      at false = refl
-
-  items_at_alike : (ds es : List Datum) (o m : ℕ) → AlikeLists u ds es → AlikeLists u (items_in_window ds o m) (items_in_window es o m)
-  items_at_alike ds es o zero h = tt
-  items_at_alike ds es o (suc m) h = (pairwise_get _ nil (alike_same u (Some nil)) ds es o h, items_at_alike ds es (suc o) m h)
-
-  -- the items of a list of n
-  abbrev within : Option ℤ → Option ℤ → ℕ → List Datum → List Datum
-  within limit offset n ds = items_in_window ds (skipped n offset) (wanted n (skipped n offset) limit)
-
-  window_alike : (ds es : List Datum) (limit offset : Option ℤ) (reversed : Bool) → AlikeLists u ds es → AlikeLists u (window_items ds limit offset reversed) (window_items es limit offset reversed)
-  window_alike ds es limit offset reversed h = at (length ds) (length es) (pairwise_length _ ds es h)
-    where
-      turned : (xs ys : List Datum) (b : Bool) → AlikeLists u xs ys → AlikeLists u (cond b (reverse xs) xs) (cond b (reverse ys) ys)
-      turned xs ys true k = pairwise_reverse _ xs ys k
-      turned xs ys false k = k
-
-      at : (n m : ℕ) → n ≡ m → AlikeLists u (cond reversed (reverse (within limit offset n ds)) (within limit offset n ds)) (cond reversed (reverse (within limit offset m es)) (within limit offset m es))
-      at n m e = subst (λ m. AlikeLists u (cond reversed (reverse (within limit offset n ds)) (within limit offset n ds)) (cond reversed (reverse (within limit offset m es)) (within limit offset m es))) e (turned (within limit offset n ds) (within limit offset n es) reversed (items_at_alike ds es (skipped n offset) (wanted n (skipped n offset) limit) h))
-
-module _ (U : Uses) (e f : Environment) (agree : AlikeIn U e f) where
-  pub source_alike : (name : Text) (source : Source) → T (grants_source U name source) → Both (AlikeLists (U name)) (source_items source e) (source_items source f)
-  unfolding source_items grants_source
-  source_alike name (each_of x) h =
-      both_then (λ c d. Alike (parts no_fields (every (U name))) (Some c) (Some d)) _ _ _ _ _ (required_alike U e f agree x (parts no_fields (every (U name))) tt h) (λ c d a.
-      both_then (AlikeLists (U name)) _ _ _ _ _ (value_items_alike (U name) c d a.0 a.1.1) (λ ds es k.
-      not_too_long_alike (U name) (length ds) (length es) ds es (pairwise_length _ ds es k) k))
-  source_alike name (counted x y) h = both_equal _ (λ ds. pairwise_same _ (λ d. alike_same (U name) (Some d)) ds) _ _
-      (same_then (whole_equal U e f agree x (both_left (grants U x everything) _ h)) (λ a. same_then (whole_equal U e f agree y (both_right (grants U x everything) _ h)) (λ b. refl)))
-
-  pub asked_alike : (u : Use) (window : Window) (ds es : List Datum) → AlikeLists u ds es → T (grants_window U window) → Both (AlikeLists u) (asked_for window ds e) (asked_for window es f)
-  unfolding asked_for grants_window
-  asked_alike u window ds es k h =
-      then_both _ _ _ _ _ (amount_equal U e f agree window.limit (both_left (grants_optional U window.limit) _ h)) (λ limit.
-      then_both _ _ _ _ _ (amount_equal U e f agree window.offset (both_right (grants_optional U window.limit) _ h)) (λ offset.
-      window_alike u ds es limit offset window.reversed k))
-
   -- ---- the pairs of a tag
 
   abbrev pub AlikePair : (Text → Use) → Text × Datum → Text × Datum → Type 0
@@ -373,5 +280,5 @@ module _ (U : Uses) (e f : Environment) (agree : AlikeIn U e f) where
   unfolding bound_values grants_bindings
   bound_alike W asks [] h = tt
   bound_alike W asks (b ∷ bs) h =
-      both_then (λ c d. Alike (W b.0) (Some c) (Some d)) _ _ _ _ _ (required_alike U e f agree b.1 (W b.0) (asks b.0) (both_left (grants U b.1 (W b.0)) _ h)) (λ c d a.
+      both_then (λ c d. Alike (W b.0) (Some c) (Some d)) _ _ _ _ _ (required_alike b.1 (W b.0) (asks b.0) (both_left (grants U b.1 (W b.0)) _ h)) (λ c d a.
       both_then (Pairwise (AlikePair W)) _ _ _ _ _ (bound_alike W asks bs (both_right (grants U b.1 (W b.0)) _ h)) (λ ps qs k. ((refl, a), k)))

@@ -13,7 +13,7 @@ use Rattle.liquid_evaluation.specs.Tree.{FilterCall, Chain, Atom, bare, compared
 use Rattle.liquid_core.specs.Environment.{Names, Environment, lookup}
 use Rattle.liquid_model.specs.Fallible.{◌>>=◌}
 use Rattle.liquid_core.specs.Expressions.{value_of, path_of, required, all_required, needed_whole}
-use Rattle.liquid_evaluation.specs.Evaluation.{FilterAnswers, entry_value, calls_by, chain_value, bare_truth, atom_truth, all_true, truth_of, source_items, amount, asked_for, bound_values}
+use Rattle.liquid_evaluation.specs.Evaluation.{FilterAnswers, entry_value, calls_by, chain_value, bare_truth, atom_truth, all_true, truth_of, source_items, amount, selected_items, bound_values}
 use Rattle.liquid_evaluation.specs.Names.{expression_names, steps_names, all_names, optional_names, filters_names, chain_names, atom_names, atoms_names, condition_names, source_names, window_names, bound_names}
 use Rattle.liquid_meaning.proofs.Runs.{AgreeOn}
 use Rattle.liquid_meaning.specs.Within.{Within}
@@ -88,8 +88,8 @@ module _ (N : Names) (e f : Environment) (agree : AgreeOn N e f) where
   amount_same None h = refl
   amount_same (Some x) h = bind_same (whole_same x h) (λ n. refl)
 
-  pub asked_same : (window : Window) (ds : List Datum) → Within N (window_names window) → asked_for window ds e ≡ asked_for window ds f
-  unfolding asked_for window_names
+  pub asked_same : (window : Window) (ds : List Datum) → Within N (window_names window) → selected_items window ds e ≡ selected_items window ds f
+  unfolding selected_items window_names
   asked_same window ds h = bind_same (amount_same window.limit (left N (optional_names window.limit) _ h)) (λ limit. bind_same (amount_same window.offset (right N (optional_names window.limit) _ h)) (λ offset. refl))
 
   pub bound_same : (bindings : Bindings) → Within N (bound_names bindings) → bound_values bindings e ≡ bound_values bindings f

@@ -14,7 +14,7 @@ use Rattle.liquid_evaluation.specs.Tree.{Chain, Condition, Source, Window, Node,
 use Rattle.liquid_evaluation.specs.Tree.{unless, for_each, tablerow, capture, ifchanged, Nodes}
 use Rattle.liquid_evaluation.specs.Tree.{node}
 use Rattle.liquid_evaluation.specs.Evaluation.{chain_value, truth_of, source_items, amount}
-use Rattle.liquid_evaluation.specs.Evaluation.{asked_for}
+use Rattle.liquid_evaluation.specs.Evaluation.{selected_items}
 use Rattle.liquid_meaning.specs.Runs.{Nothing, Run, write, ◌>>◌, with_scope}
 use Rattle.liquid_meaning.specs.Effects.{is_break, take_interrupt, variable_or_nil}
 use Rattle.liquid_core.specs.Loops.{loop_scope, forloop_object, tablerow_object}
@@ -71,15 +71,15 @@ module _ (setting : Setting) (deeper : Nodes → Run Nothing) (name : Text) wher
       in_ifchanged : {body : Nodes} {e : Environment} → RanAmong body e → RanIn (ifchanged body) e
       in_for : {variable : Text} {source : Source} {window : Window} {body otherwise : Nodes}
           {all items : List Datum} {d : Datum} {e : Environment}
-          → source_items source e ≡ Ok all → asked_for window all e ≡ Ok (d ∷ items)
+          → source_items source e ≡ Ok all → selected_items window all e ≡ Ok (d ∷ items)
           → RanAtItem variable (variable_or_nil (codes "forloop") e) (length (d ∷ items)) body 0
           (d ∷ items) e
           → RanIn (for_each variable source window body otherwise) e
       in_tablerow : {variable : Text} {source : Source} {window : Window}
           {columns : Option Expression} {body : Nodes} {all items : List Datum}
           {asked : Option ℤ} {d : Datum} {e : Environment}
-          → source_items source e ≡ Ok all → amount columns e ≡ Ok asked → asked_for window all e ≡
-          Ok (d ∷ items)
+          → source_items source e ≡ Ok all → amount columns e ≡ Ok asked → selected_items window all
+          e ≡ Ok (d ∷ items)
           → (columns_of (length (d ∷ items)) asked == 0) ≡ false
           → RanInCell variable (columns_of (length (d ∷ items)) asked) (length (d ∷ items)) body 0
           (d ∷ items) e

@@ -12,7 +12,7 @@ use Rattle.liquid_core.specs.Hosts.{no_host}
 use Rattle.liquid_filters.specs.RunKinds.{EndsAsRun}
 use Rattle.liquid_evaluation.specs.Tree.{Filter, Chain, Source, Window, Nodes, no_nodes, node}
 use Rattle.liquid_evaluation.specs.Tree.{plain, assign, for_each}
-use Rattle.liquid_evaluation.specs.Evaluation.{answers_with, source_items, asked_for}
+use Rattle.liquid_evaluation.specs.Evaluation.{answers_with, source_items, selected_items}
 use Rattle.liquid_core.specs.Loops.{forloop_object}
 use Rattle.liquid_meaning.specs.Meaning.{Setting, meaning}
 
@@ -35,7 +35,7 @@ abbrev pub AssignedInLoop : Type 0
 AssignedInLoop = (setting : Setting) (depth : ℕ) (name : Text) (source : Source) (window : Window)
     (target : Text) (chain : Chain) (more otherwise : Nodes) (e : Environment)
     (all items : List Datum) (d : Datum)
-    → source_items source e ≡ Ok all → asked_for window all e ≡ Ok (d ∷ items)
+    → source_items source e ≡ Ok all → selected_items window all e ≡ Ok (d ∷ items)
     → (let o = meaning setting depth
     (node (for_each name source window (node (assign target chain) more) otherwise)
     no_nodes) e in

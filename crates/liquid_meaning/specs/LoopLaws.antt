@@ -2,7 +2,7 @@
 use Rattle.std.specs.Prelude.{◌≡◌, ℕ, ◌+◌, ◌%◌, ◌==◌, ◌<◌, ℤ, pos, ◌+ℤ◌, ◌≤ℤ◌, ◌<ℤ◌, true, false}
 use Rattle.std.specs.Prelude.{List, [], length, reverse, get_or, slice_get, Option, Some}
 use Rattle.liquid_model.specs.Data.{Datum, nil, number}
-use Rattle.liquid_evaluation.specs.Evaluation.{count_to, numbers_from, skipped, wanted}
+use Rattle.liquid_evaluation.specs.Evaluation.{count_to, numbers_from, skipped, selected_count}
 use Rattle.liquid_evaluation.specs.Evaluation.{window_items}
 use Rattle.liquid_core.specs.Loops.{is_last_column}
 
@@ -17,7 +17,7 @@ pub record WindowOf (ds : List Datum) (limit offset : Option ℤ) (o m : ℕ) : 
 abbrev pub WindowLaw : Type 0
 WindowLaw = (ds : List Datum) (limit offset : Option ℤ)
     → (let o = skipped (length ds) offset in WindowOf ds limit offset o
-    (wanted (length ds) o limit))
+    (selected_count (length ds) o limit))
 
 -- the numbers of `(a..b)`: both ends and all between, in their order; none where a > b
 pub record NumbersBetween (a b : ℤ) (ds : List Datum) : Type 0 where

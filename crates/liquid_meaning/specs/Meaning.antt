@@ -31,7 +31,7 @@ use Rattle.liquid_evaluation.specs.Tree.{if_true, unless, case_of, for_each, tab
 use Rattle.liquid_evaluation.specs.Tree.{ifchanged, include, jekyll_include, render, Nodes}
 use Rattle.liquid_evaluation.specs.Tree.{no_nodes, node, Whens, no_whens, when}
 use Rattle.liquid_evaluation.specs.Evaluation.{FilterAnswers, chain_value, truth_of, source_items}
-use Rattle.liquid_evaluation.specs.Evaluation.{amount, asked_for, bound_values}
+use Rattle.liquid_evaluation.specs.Evaluation.{amount, selected_items, bound_values}
 use Rattle.liquid_meaning.specs.Runs.{Nothing, Run, done, read_environment, evaluate, fault, change}
 use Rattle.liquid_meaning.specs.Runs.{write}
 use Rattle.liquid_meaning.specs.Runs.{◌>>=◌, ◌>>◌, with_scope, buffered, apart}
@@ -83,8 +83,8 @@ named (Err kind) = Err kind
 abbrev pub partial_name_text : Expression → Environment → Result Text ErrorKind
 partial_name_text x e = named (required x e)
 
-abbrev pub found : Option Nodes → Result Nodes ErrorKind
-found partial = ok_or partial UnknownPartial
+abbrev pub found_partial : Option Nodes → Result Nodes ErrorKind
+found_partial partial = ok_or partial UnknownPartial
 
 -- the pairs, of which the later of one name wins
 abbrev pub pairs_scope : List (Text × Datum) → Map Datum
@@ -103,8 +103,8 @@ module _ (setting : Setting) (deeper : Nodes → Run Nothing) where
   abbrev pub render_apart : Text → Bindings → Map Datum → Run (Option Interrupt)
   render_apart name bindings over = do
     pairs ← evaluate (bound_values bindings)
-    partial ← evaluate (λ e. found (listed setting.partials name else listed setting.partials
-        (name ++ codes ".liquid")))
+    partial ← evaluate (λ e. found_partial (listed setting.partials name else listed
+        setting.partials (name ++ codes ".liquid")))
     apart (merged over (pairs_scope pairs)) (deeper partial)
 
   unfoldable mutual
@@ -146,14 +146,14 @@ module _ (setting : Setting) (deeper : Nodes → Run Nothing) where
     -- the source first, then limit and offset; `parentloop` is what `forloop` is before the loop
     node_meaning (for_each name source window body otherwise) = do
       all ← evaluate (source_items source)
-      items ← evaluate (asked_for window all)
+      items ← evaluate (selected_items window all)
       parent ← read_environment (variable_or_nil (codes "forloop"))
       if_empty items (nodes_meaning otherwise) (loop name parent items (nodes_meaning body))
     -- the source first, then `cols`, limit and offset
     node_meaning (tablerow name source window columns body) = do
       all ← evaluate (source_items source)
       asked ← evaluate (amount columns)
-      items ← evaluate (asked_for window all)
+      items ← evaluate (selected_items window all)
       rows name (columns_of (length items) asked) items (nodes_meaning body)
     -- the body's text is stored in place of written
     node_meaning (capture name body) = do
@@ -170,11 +170,11 @@ module _ (setting : Setting) (deeper : Nodes → Run Nothing) where
     node_meaning (include x bindings) = do
       name ← evaluate (partial_name_text x)
       pairs ← evaluate (bound_values bindings)
-      partial ← evaluate (λ e. found (listed setting.partials name))
+      partial ← evaluate (λ e. found_partial (listed setting.partials name))
       with_scope (pairs_scope pairs) (deeper partial)
     node_meaning (jekyll_include name bindings) = do
       pairs ← evaluate (bound_values bindings)
-      partial ← evaluate (λ e. found (listed setting.partials name))
+      partial ← evaluate (λ e. found_partial (listed setting.partials name))
       with_scope (include_scope pairs) (deeper partial)
     -- the partial runs once, apart
     node_meaning (render x None bindings) = do

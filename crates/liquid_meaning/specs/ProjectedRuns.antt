@@ -1,5 +1,4 @@
--- What a run needs of its data: what is left of it where only that is asked for which its template
--- can see.
+-- The data a run needs: the data cut down to the parts that its template can see.
 --     ProjectedRun      a run over the data is a run over what is left of it;   SameSight      and
 --                       so are the runs over data of which the same is left
 use Rattle.std.specs.Prelude.{◌≡◌, ℕ, T, false}

@@ -2,11 +2,12 @@
 --     Uses      what is asked of the value of each name
 --     grants U x v      where environments are alike in U, the expression's values are alike in v
 --     use_beside comparison x      what a comparison with x sees of a value
+--     seen_limit window      how many items a loop sees at most, where its window says so
 --     Needs      what each call of a filter asks of its input
 --     covers needs U setting nodes      U grants all that the template or a partial asks for: a
 --                                       test
 use Rattle.std.specs.Prelude.{Bool, true, false, cond, ◌&&◌, List, [], ◌∷◌, Option, Some, None}
-use Rattle.std.specs.Prelude.{codes}
+use Rattle.std.specs.Prelude.{codes, ℕ, ◌+◌, ℤ, pos, negsuc}
 use Rattle.std.specs.Fmt.{signed_decimal}
 use Rattle.liquid_model.specs.Texts.{Text}
 use Rattle.liquid_model.specs.Data.{Datum, truth, number, text, array, object, text_of}
@@ -22,7 +23,7 @@ use Rattle.liquid_evaluation.specs.Tree.{continue_loop, cycle, if_true, unless, 
 use Rattle.liquid_evaluation.specs.Tree.{tablerow, capture, ifchanged, include, jekyll_include}
 use Rattle.liquid_evaluation.specs.Tree.{render, Nodes, no_nodes, node, Whens, no_whens, when}
 use Rattle.liquid_meaning.specs.Meaning.{Setting}
-use Rattle.liquid_model.specs.Uses.{Use, everything, parts, no_fields, every, there, is_everything}
+use Rattle.liquid_model.specs.Uses.{Use, everything, parts, no_fields, up_to, there, is_everything}
 use Rattle.liquid_model.specs.Uses.{asks_whether, present, use_at, includes}
 
 abbrev pub Uses : Type 0
@@ -125,10 +126,40 @@ grants_condition U [] = true
 grants_condition U (conjunction ∷ conjunctions) = grants_atoms U conjunction &&
     grants_condition U conjunctions
 
--- of a loop over a value each item is seen as the loop's variable is
-unfoldable pub grants_source : Uses → Text → Source → Bool
-grants_source U name (each_of x) = grants U x (parts no_fields (every (U name)))
-grants_source U name (counted first last) = grants U first everything && grants U last everything
+abbrev pub not_negative : ℤ → Option ℕ
+not_negative (pos n) = Some n
+not_negative (negsuc n) = None
+
+-- a literal number that isn't negative
+abbrev pub literal_amount : Expression → Option ℕ
+literal_amount (literal (number z)) = not_negative z
+literal_amount _ = None
+
+abbrev pub literal_limit : Option Expression → Option ℕ
+literal_limit None = None
+literal_limit (Some x) = literal_amount x
+
+-- without an offset no item is left out
+abbrev pub literal_offset : Option Expression → Option ℕ
+literal_offset None = Some 0
+literal_offset (Some x) = literal_amount x
+
+-- a limit after an offset
+abbrev pub limit_after : Option ℕ → Option ℕ → Option ℕ
+limit_after None n = None
+limit_after (Some o) None = None
+limit_after (Some o) (Some n) = Some (o + n)
+
+-- no item after these is seen, whatever `reversed` says; without a literal limit, or after an
+-- offset that is no literal, all items are
+abbrev pub seen_limit : Window → Option ℕ
+seen_limit window = limit_after (literal_offset window.offset) (literal_limit window.limit)
+
+-- of a loop over a value each item up to a limit is seen as the loop's variable is
+unfoldable pub grants_source : Uses → Text → Option ℕ → Source → Bool
+grants_source U name limit (each_of x) = grants U x (parts no_fields (up_to limit (U name)))
+grants_source U name limit (counted first last) =
+    grants U first everything && grants U last everything
 
 unfoldable pub grants_window : Uses → Window → Bool
 grants_window U window = grants_optional U window.limit && grants_optional U window.offset
@@ -172,9 +203,10 @@ module _ (needs : Needs) where
     grants_node U (case_of target whens otherwise) = grants U target there &&
         (grants_whens U target whens && grants_nodes U otherwise)
     grants_node U (for_each name source window body otherwise) = is_flat (U (codes "forloop")) &&
-        (grants_source U name source &&
+        (grants_source U name (seen_limit window) source &&
         (grants_window U window && (grants_nodes U body && grants_nodes U otherwise)))
-    grants_node U (tablerow name source window columns body) = grants_source U name source &&
+    grants_node U (tablerow name source window columns body) =
+        grants_source U name (seen_limit window) source &&
         (grants_optional U columns && (grants_window U window && grants_nodes U body))
     grants_node U (capture name body) = grants_nodes U body
     grants_node U (ifchanged body) = grants_nodes U body
@@ -184,7 +216,7 @@ module _ (needs : Needs) where
     grants_node U (render x None bindings) = grants U x everything &&
         grants_bindings U (bound_use U) bindings
     grants_node U (render x (Some each) bindings) = grants U x everything &&
-        (grants_source U each.1 each.0 && grants_bindings U (bound_use U) bindings)
+        (grants_source U each.1 None each.0 && grants_bindings U (bound_use U) bindings)
 
     pub grants_nodes : Uses → Nodes → Bool
     grants_nodes U no_nodes = true

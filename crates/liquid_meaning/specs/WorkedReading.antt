@@ -1,6 +1,7 @@
 -- Worked uses: what covers some templates, and what is left of some values.
 use Prim.Native.String.{String}
-use Rattle.std.specs.Prelude.{◌≡◌, Bool, true, false, pos, List, [], ◌∷◌, None, codes}
+use Rattle.std.specs.Prelude.{◌≡◌, ℕ, Bool, true, false, pos, List, [], ◌∷◌, Option, Some, None}
+use Rattle.std.specs.Prelude.{codes}
 use Rattle.liquid_model.specs.Texts.{Text}
 use Rattle.liquid_model.specs.Data.{Datum, nil, number, text, array, object, no_items, item}
 use Rattle.liquid_model.specs.Data.{no_pairs, pair}
@@ -8,14 +9,14 @@ use Rattle.liquid_core.specs.Expression.{literal, variable, no_steps, step}
 use Rattle.liquid_evaluation.specs.declared.comparison.ComparisonOperator.TheVariants.{Contains}
 use Rattle.liquid_evaluation.specs.declared.comparison.ComparisonOperator.TheVariants.{Equals}
 use Rattle.liquid_evaluation.specs.Tree.{each_of, existing, Chain, Node, assign, bare, if_true}
-use Rattle.liquid_evaluation.specs.Tree.{case_of, increment, Nodes, no_nodes, output, render, Whens}
-use Rattle.liquid_evaluation.specs.Tree.{no_whens, when}
+use Rattle.liquid_evaluation.specs.Tree.{case_of, for_each, increment, Nodes, no_nodes, output}
+use Rattle.liquid_evaluation.specs.Tree.{render, Whens, no_whens, when}
 use Rattle.liquid_core.specs.Expression.{Expression}
 use Rattle.liquid_filters.specs.declared.kind.FilterKind.{FilterKind}
 use Rattle.liquid_filters.specs.declared.kind.FilterKind.TheVariants.{Compact, Default, Map, Size}
 use Rattle.liquid_filters.specs.declared.kind.FilterKind.TheVariants.{Where}
 use Rattle.liquid_model.specs.Uses.{Use, nothing, everything, parts, Fields, no_fields, field}
-use Rattle.liquid_model.specs.Uses.{uncounted, every, there, use_in}
+use Rattle.liquid_model.specs.Uses.{uncounted, every, up_to, there, use_in}
 use Rattle.liquid_meaning.specs.FilterNeeds.{known_needs}
 use Rattle.liquid_meaning.specs.Reading.{Uses, Needs, covers}
 use Rattle.liquid_meaning.specs.Reads.{needs_all}
@@ -36,9 +37,12 @@ asking fs key = use_in key (fields fs)
 abbrev pub with_members : List (String × Use) → Use
 with_members fs = parts (fields fs) uncounted
 
--- this of each item
+-- this of each item, and of each of the first n
 abbrev pub of_each : Use → Use
 of_each u = parts no_fields (every u)
+
+abbrev pub of_first : ℕ → Use → Use
+of_first n u = parts no_fields (up_to (Some n) u)
 
 abbrev pub covered_by : Needs → List (String × Use) → List (Text × Nodes) → List Node → Bool
 covered_by needs fs partials nodes = covers needs (asking fs) (record {
@@ -72,6 +76,13 @@ case_over x values = case_of x (whens_of values) no_nodes
 abbrev pub titles : List Node
 titles = for_in "p" (each_of (name "products")) (show (variable_property "p" "title") ∷ []) ∷ []
 
+-- the same in a window
+abbrev pub some_titles : Option Expression → Option Expression → List Node
+some_titles limit offset =
+    for_each (codes "p") (each_of (name "products"))
+    (record { limit = limit; offset = offset; reversed = true })
+    (tree (show (variable_property "p" "title") ∷ [])) no_nodes ∷ []
+
 abbrev pub title : Use
 title = with_members (("title", everything) ∷ [])
 
@@ -94,6 +105,20 @@ pub record WorkedReading : Type 0 where
   pub a_loop_asks_its_source : covered (("products", of_each there) ∷ ("p", title) ∷ []) [] titles ≡
       false
   pub a_loop_asks_how_many : covered (("products", title) ∷ ("p", title) ∷ []) [] titles ≡ false
+  -- {% for p in products limit: 3 offset: 2 reversed %}, without the offset, and with offset: n
+  pub a_limit : covered (("products", of_first 3 title) ∷ ("p", title) ∷ []) []
+      (some_titles (Some (integer 3)) None) ≡ true
+  pub a_limit_asks_no_fewer : covered (("products", of_first 2 title) ∷ ("p", title) ∷ []) []
+      (some_titles (Some (integer 3)) None) ≡ false
+  pub a_limit_after_an_offset : covered (("products", of_first 5 title) ∷ ("p", title) ∷ []) []
+      (some_titles (Some (integer 3)) (Some (integer 2))) ≡ true
+  pub an_offset_counts : covered (("products", of_first 4 title) ∷ ("p", title) ∷ []) []
+      (some_titles (Some (integer 3)) (Some (integer 2))) ≡ false
+  pub an_offset_that_is_computed : covered
+      (("products", of_first 9 title) ∷ ("p", title) ∷ ("n", everything) ∷ []) []
+      (some_titles (Some (integer 3)) (Some (name "n"))) ≡ false
+  pub no_limit_asks_every_item : covered (("products", of_first 9 title) ∷ ("p", title) ∷ []) []
+      (some_titles None None) ≡ false
   -- {{ a.b.c }}
   pub a_path : covered (("a", with_members (("b", with_members (("c", everything) ∷ [])) ∷ [])) ∷
       []) []

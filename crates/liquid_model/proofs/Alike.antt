@@ -1,9 +1,12 @@
 -- Values that are alike: with themselves, in what a use includes, member by member and item by item.
-use Rattle.std.specs.Prelude.{◌≡◌, suc, Bool, true, false, cond, ◌&&◌, T, length, List, [], ◌∷◌, Option, Some, None}
+use Rattle.std.specs.Prelude.{◌≡◌, ℕ, zero, suc, ◌≤◌, nat_le, take, Bool, true, false, cond, ◌&&◌, T, length, List, [], ◌∷◌, Option, Some, None}
 use mathlib.Core.Path.{refl, ap, subst}
+use native.Mathlib.Omega.{arith}
+use Rattle.std.proofs.Math.Facts.{leb_yes, yes_leb}
+use Rattle.std.proofs.Math.Nat.{le-max_left, le-max_right}
 use Rattle.liquid_model.specs.Texts.{Text, same_text, ◌else◌}
 use Rattle.liquid_model.specs.Data.{Datum}
-use Rattle.liquid_model.specs.Uses.{Use, nothing, everything, parts, Fields, no_fields, field, ItemUse, uncounted, every, shape_of, member, loop_items_of, Pairwise, Alike, AlikeFields, AlikeItems, use_in, use_at, use_of_items, is_everything, asks_whether, asks_items, present, includes, includes_fields, includes_items, joined_fields, join, join_turns, IncludedAlike, JoinedAlike}
+use Rattle.liquid_model.specs.Uses.{Use, nothing, everything, parts, Fields, no_fields, field, ItemUse, uncounted, up_to, shape_of, member, loop_items_of, Pairwise, PairwiseUpTo, Alike, AlikeFields, AlikeItems, use_in, use_at, use_of_items, is_everything, asks_whether, asks_items, reaches, further, present, includes, includes_fields, includes_items, joined_fields, join, join_turns, IncludedAlike, JoinedAlike}
 use Rattle.liquid_model.proofs.Maps.{same_text_equal}
 
 -- ---- tests
@@ -34,6 +37,52 @@ pairwise_length R [] (y ∷ ys) h = absurd h
 pairwise_length R (x ∷ xs) [] h = absurd h
 pairwise_length R (x ∷ xs) (y ∷ ys) h = ap suc (pairwise_length R xs ys h.1)
 
+-- ---- lists up to a limit
+
+module _ {A : Type 0} (R : A → A → Type 0) where
+  pub pairwise_first : (n : ℕ) (xs ys : List A) → Pairwise R xs ys → Pairwise R (take n xs) (take n ys)
+  pairwise_first zero xs ys h = tt
+  pairwise_first (suc n) [] [] h = tt
+  pairwise_first (suc n) [] (y ∷ ys) h = absurd h
+  pairwise_first (suc n) (x ∷ xs) [] h = absurd h
+  pairwise_first (suc n) (x ∷ xs) (y ∷ ys) h = (h.0, pairwise_first n xs ys h.1)
+
+  fewer : (m n : ℕ) → n ≤ m → (xs ys : List A) → Pairwise R (take m xs) (take m ys) → Pairwise R (take n xs) (take n ys)
+  fewer m zero r xs ys h = tt
+  fewer zero (suc n) r xs ys h = absurd (omega arith)
+  fewer (suc m) (suc n) r [] [] h = tt
+  fewer (suc m) (suc n) r [] (y ∷ ys) h = absurd h
+  fewer (suc m) (suc n) r (x ∷ xs) [] h = absurd h
+  fewer (suc m) (suc n) r (x ∷ xs) (y ∷ ys) h = (h.0, fewer m n (omega arith) xs ys h.1)
+
+  pub up_to_same : ((x : A) → R x x) → (n : Option ℕ) (xs : List A) → PairwiseUpTo n R xs xs
+  up_to_same r None xs = pairwise_same R r xs
+  up_to_same r (Some n) xs = (refl, pairwise_same R r (take n xs))
+
+  pub up_to_fewer : (m n : Option ℕ) (xs ys : List A) → T (reaches m n) → PairwiseUpTo m R xs ys → PairwiseUpTo n R xs ys
+  up_to_fewer None None xs ys r h = h
+  up_to_fewer None (Some n) xs ys r h = (ap (λ k. nat_le k 9223372036854775807) (pairwise_length R xs ys h), pairwise_first n xs ys h)
+  up_to_fewer (Some m) None xs ys r h = absurd r
+  up_to_fewer (Some m) (Some n) xs ys r h = (h.0, fewer m n (leb_yes r) xs ys h.1)
+
+  -- of all items, so of those up to a limit
+  pub up_to_all : (n : Option ℕ) (xs ys : List A) → Pairwise R xs ys → PairwiseUpTo n R xs ys
+  up_to_all n xs ys h = up_to_fewer None n xs ys tt h
+
+pub up_to_more : {A : Type 0} (R S : A → A → Type 0) → ((x y : A) → R x y → S x y) → (n : Option ℕ) (xs ys : List A) → PairwiseUpTo n R xs ys → PairwiseUpTo n S xs ys
+up_to_more R S k None xs ys h = pairwise_more R S k xs ys h
+up_to_more R S k (Some n) xs ys h = (h.0, pairwise_more R S k (take n xs) (take n ys) h.1)
+
+further_left : (m n : Option ℕ) → T (reaches (further m n) m)
+further_left None n = tt
+further_left (Some m) None = tt
+further_left (Some m) (Some n) = yes_leb (le-max_left m n)
+
+further_right : (m n : Option ℕ) → T (reaches (further m n) n)
+further_right None n = tt
+further_right (Some m) None = tt
+further_right (Some m) (Some n) = yes_leb (le-max_right m n)
+
 abbrev pub AlikeLists : Use → List Datum → List Datum → Type 0
 AlikeLists u = Pairwise (λ c d. Alike u (Some c) (Some d))
 
@@ -51,7 +100,7 @@ mutual
 
   alike_same_items : (turns : ItemUse) (o : Option Datum) → AlikeItems turns o o
   alike_same_items uncounted o = tt
-  alike_same_items (every u) o = pairwise_same _ (λ d. alike_same u (Some d)) (loop_items_of o)
+  alike_same_items (up_to n u) o = up_to_same _ (λ d. alike_same u (Some d)) n (loop_items_of o)
 
 pub alike_equal : (u : Use) (o p : Option Datum) → o ≡ p → Alike u o p
 alike_equal u o p e = subst (λ q. Alike u o q) e (alike_same u o)
@@ -76,11 +125,11 @@ alike_at key nothing o p a = tt
 alike_at key everything o p a = ap (member key) a
 alike_at key (parts members turns) o p a = alike_in key members o p a.1.0
 
-pub alike_items : (u : Use) (o p : Option Datum) → T (asks_items u) → Alike u o p → Pairwise (λ d e. Alike (use_of_items u) (Some d) (Some e)) (loop_items_of o) (loop_items_of p)
-alike_items nothing o p h a = absurd h
-alike_items everything o p h a = subst (λ q. Pairwise (λ d e. Some d ≡ Some e) (loop_items_of o) (loop_items_of q)) a (pairwise_same _ (λ d. refl) (loop_items_of o))
-alike_items (parts members uncounted) o p h a = absurd h
-alike_items (parts members (every u)) o p h a = a.1.1
+pub alike_items : (n : Option ℕ) (u : Use) (o p : Option Datum) → T (asks_items n u) → Alike u o p → PairwiseUpTo n (λ d e. Alike (use_of_items u) (Some d) (Some e)) (loop_items_of o) (loop_items_of p)
+alike_items n nothing o p h a = absurd h
+alike_items n everything o p h a = subst (λ q. PairwiseUpTo n (λ d e. Some d ≡ Some e) (loop_items_of o) (loop_items_of q)) a (up_to_same _ (λ d. refl) n (loop_items_of o))
+alike_items n (parts members uncounted) o p h a = absurd h
+alike_items n (parts members (up_to m u)) o p h a = up_to_fewer _ m n (loop_items_of o) (loop_items_of p) h a.1.1
 
 pub alike_everything : (u : Use) (o p : Option Datum) → T (is_everything u) → Alike u o p → o ≡ p
 alike_everything nothing o p h a = absurd h
@@ -102,8 +151,8 @@ mutual
 
   included_items : (turns : ItemUse) (u : Use) (o p : Option Datum) → T (includes_items u turns) → Alike u o p → AlikeItems turns o p
   included_items uncounted u o p h a = tt
-  included_items (every v) u o p h a =
-      pairwise_more _ _ (λ d e k. alike_included v (use_of_items u) (Some d) (Some e) (both_right (asks_items u) _ h) k) (loop_items_of o) (loop_items_of p) (alike_items u o p (both_left (asks_items u) _ h) a)
+  included_items (up_to n v) u o p h a =
+      up_to_more _ _ (λ d e k. alike_included v (use_of_items u) (Some d) (Some e) (both_right (asks_items n u) _ h) k) n (loop_items_of o) (loop_items_of p) (alike_items n u o p (both_left (asks_items n u) _ h) a)
 
 -- ---- uses together
 
@@ -125,8 +174,9 @@ mutual
 
   turns_left : (turns more : ItemUse) (o p : Option Datum) → AlikeItems (join_turns turns more) o p → AlikeItems turns o p
   turns_left uncounted more o p a = tt
-  turns_left (every u) uncounted o p a = a
-  turns_left (every u) (every v) o p a = pairwise_more _ _ (λ d e k. join_left u v (Some d) (Some e) k) (loop_items_of o) (loop_items_of p) a
+  turns_left (up_to m u) uncounted o p a = a
+  turns_left (up_to m u) (up_to n v) o p a = up_to_more _ _ (λ d e k. join_left u v (Some d) (Some e) k) m (loop_items_of o) (loop_items_of p)
+      (up_to_fewer _ (further m n) m (loop_items_of o) (loop_items_of p) (further_left m n) a)
 
 mutual
   pub join_right : (u v : Use) (o p : Option Datum) → Alike (join u v) o p → Alike v o p
@@ -138,8 +188,9 @@ mutual
 
   turns_right : (turns more : ItemUse) (o p : Option Datum) → AlikeItems (join_turns turns more) o p → AlikeItems more o p
   turns_right uncounted more o p a = a
-  turns_right (every u) uncounted o p a = tt
-  turns_right (every u) (every v) o p a = pairwise_more _ _ (λ d e k. join_right u v (Some d) (Some e) k) (loop_items_of o) (loop_items_of p) a
+  turns_right (up_to m u) uncounted o p a = tt
+  turns_right (up_to m u) (up_to n v) o p a = up_to_more _ _ (λ d e k. join_right u v (Some d) (Some e) k) n (loop_items_of o) (loop_items_of p)
+      (up_to_fewer _ (further m n) n (loop_items_of o) (loop_items_of p) (further_right m n) a)
 
 pub included_alike : IncludedAlike
 included_alike u v o p h a = alike_included v u o p h a

@@ -8,8 +8,8 @@ use Rattle.liquid_model.specs.Digest.{items_len}
 use Rattle.liquid_model.specs.Find.{counted, item_at, item_back, item_from, item_step}
 use Rattle.liquid_model.specs.Lists.{list_of}
 use Rattle.liquid_model.specs.Whole.{whole_text}
-use Rattle.liquid_model.specs.Uses.{Use, nothing, everything, parts, Fields, no_fields, field, ItemUse, uncounted, every, member, Alike, AlikeFields, AlikeItems, use_of_each, join, is_place, of_places, items_wanted}
-use Rattle.liquid_model.proofs.Alike.{alike_same, alike_equal, join_left, join_right, pairwise_more, AlikeLists, pairwise_length}
+use Rattle.liquid_model.specs.Uses.{Use, nothing, everything, parts, Fields, no_fields, field, ItemUse, uncounted, up_to, member, Alike, AlikeFields, AlikeItems, use_of_each, join, is_place, of_places, items_wanted}
+use Rattle.liquid_model.proofs.Alike.{alike_same, alike_equal, join_left, join_right, up_to_all, up_to_more, AlikeLists, pairwise_length}
 
 pub list_lengths : (ds : Items) → length (list_of ds) ≡ items_len ds
 list_lengths no_items = refl
@@ -69,7 +69,7 @@ array_alike members turns ds es a =
   where
     over : (turns : ItemUse) → AlikeLists (join (use_of_each turns) (of_places members)) (list_of ds) (list_of es) → AlikeItems turns (Some (array ds)) (Some (array es))
     over uncounted a = tt
-    over (every u) a = pairwise_more _ _ (λ d e h. join_left u (of_places members) (Some d) (Some e) h) (list_of ds) (list_of es) a
+    over (up_to n u) a = up_to_more _ _ (λ d e h. join_left u (of_places members) (Some d) (Some e) h) n (list_of ds) (list_of es) (up_to_all _ n (list_of ds) (list_of es) a)
 
 items_equal : (ds es : Items) → AlikeLists everything (list_of ds) (list_of es) → ds ≡ es
 items_equal no_items no_items a = refl

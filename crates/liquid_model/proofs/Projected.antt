@@ -9,9 +9,9 @@ use Rattle.liquid_model.specs.Digest.{items_len, pairs_len}
 use Rattle.liquid_model.specs.Find.{counted, value_at, item_at, item_back, item_step, or_size}
 use Rattle.liquid_model.specs.Lists.{list_of, pair_lists}
 use Rattle.liquid_model.specs.Whole.{whole_text}
-use Rattle.liquid_model.specs.Uses.{Use, nothing, everything, parts, Fields, no_fields, field, ItemUse, uncounted, every, member, Pairwise, Alike, AlikeFields, AlikeItems, asks_whether, use_of_each, has_every, join, is_place, items_wanted}
+use Rattle.liquid_model.specs.Uses.{Use, nothing, everything, parts, Fields, no_fields, field, ItemUse, uncounted, up_to, member, Pairwise, Alike, AlikeFields, AlikeItems, asks_whether, use_of_each, has_every, join, is_place, items_wanted}
 use Rattle.liquid_model.specs.Projected.{use_of_key, asks_length, asks_of_list, finds_key, of_seconds, second_wanted, values_wanted, pairs_wanted, projected, projected_items, projected_pairs, ProjectedAlike}
-use Rattle.liquid_model.proofs.Alike.{alike_same, alike_equal, alike_shape, join_left, join_right, AlikeLists}
+use Rattle.liquid_model.proofs.Alike.{alike_same, alike_equal, alike_shape, join_left, join_right, up_to_all, AlikeLists}
 use Rattle.liquid_model.proofs.AlikeLists.{array_alike, step_alike}
 use Rattle.liquid_model.proofs.Maps.{same_text_equal}
 
@@ -199,18 +199,23 @@ pair_alike (parts members turns) key c d a =
   where
     over : (turns : ItemUse) → Alike (join (use_of_each turns) (of_seconds members)) (Some c) (Some d) → AlikeItems turns (Some (array (as_list key c))) (Some (array (as_list key d)))
     over uncounted a = tt
-    over (every u) a = (alike_same u (Some (text key)), (join_left u (of_seconds members) (Some c) (Some d) a, tt))
+    over (up_to n u) a = up_to_all _ n (list_of (as_list key c)) (list_of (as_list key d)) (alike_same u (Some (text key)), (join_left u (of_seconds members) (Some c) (Some d) a, tt))
 
 -- ---- values
 
 of_list : (members : Fields) (turns : ItemUse) (ds : Items) → ((u : Use) → AlikeLists u (list_of ds) (list_of (projected_items u true ds)))
     → Alike (parts members turns) (Some (array ds)) (Some (projected (parts members turns) (array ds)))
-of_list members (every u) ds all = array_alike members (every u) ds _ (all (items_wanted (parts members (every u))))
+of_list members (up_to n u) ds all = array_alike members (up_to n u) ds _ (all (items_wanted (parts members (up_to n u))))
 of_list members uncounted ds all = at (asks_of_list members) refl
   where
     at : (b : Bool) → asks_of_list members ≡ b → Alike (parts members uncounted) (Some (array ds)) (Some (array (projected_items (items_wanted (parts members uncounted)) b ds)))
     at true e = array_alike members uncounted ds _ (all (items_wanted (parts members uncounted)))
     at false e = (refl, (fields_unseen ds _ members e, tt))
+
+over_map : (ps : Pairs) (turns : ItemUse) (members : Fields) → ((n : Option ℕ) (u : Use) → AlikeLists u (pair_lists ps) (pair_lists (projected_pairs (pairs_wanted members (up_to n u)) true ps)))
+    → AlikeItems turns (Some (object ps)) (Some (object (projected_pairs (pairs_wanted members turns) (has_every turns || asks_length members) ps)))
+over_map ps uncounted members each = tt
+over_map ps (up_to n u) members each = up_to_all _ n (pair_lists ps) (pair_lists (projected_pairs (pairs_wanted members (up_to n u)) true ps)) (each n u)
 
 of_map : (members : Fields) (turns : ItemUse) (ps : Pairs) → ((key : Text) → Alike (pairs_wanted members turns key) (value_at key ps) (value_at key (projected_pairs (pairs_wanted members turns) (has_every turns || asks_length members) ps)))
     → AlikeItems turns (Some (object ps)) (Some (object (projected_pairs (pairs_wanted members turns) (has_every turns || asks_length members) ps)))
@@ -246,7 +251,7 @@ mutual
   alike_projected (object ps) everything = refl
   alike_projected (object ps) (parts members turns) = of_map members turns ps
       (λ key. pairs_projected ps (pairs_wanted members turns) (has_every turns || asks_length members) key)
-      (over_projected ps turns members)
+      (over_map ps turns members (λ n u. each_projected ps n u members))
 
   list_projected : (ds : Items) (u : Use) → AlikeLists u (list_of ds) (list_of (projected_items u true ds))
   list_projected no_items u = tt
@@ -256,14 +261,13 @@ mutual
   pairs_projected no_pairs W keep key = alike_same (W key) None
   pairs_projected (pair l d ps) W keep key = key_alike W keep l d ps key (alike_projected d (W l)) (pairs_projected ps W keep key)
 
-  over_projected : (ps : Pairs) (turns : ItemUse) (members : Fields) → AlikeItems turns (Some (object ps)) (Some (object (projected_pairs (pairs_wanted members turns) (has_every turns || asks_length members) ps)))
-  over_projected ps uncounted members = tt
-  over_projected no_pairs (every u) members = tt
-  over_projected (pair l d ps) (every u) members =
-      let W = pairs_wanted members (every u) in
+  each_projected : (ps : Pairs) (n : Option ℕ) (u : Use) (members : Fields) → AlikeLists u (pair_lists ps) (pair_lists (projected_pairs (pairs_wanted members (up_to n u)) true ps))
+  each_projected no_pairs n u members = tt
+  each_projected (pair l d ps) n u members =
+      let W = pairs_wanted members (up_to n u) in
       let rest = projected_pairs W true ps in
       subst (λ qs. Pairwise (λ c e. Alike u (Some c) (Some e)) (pair_lists (pair l d ps)) (pair_lists qs)) (sym (kept_pair (asks_whether (W l)) true refl (pair l (projected (W l) d) rest) rest))
-      (pair_alike u l d (projected (W l) d) (join_right (use_of_key l members) (second_wanted u) (Some d) (Some (projected (W l) d)) (alike_projected d (W l))), over_projected ps (every u) members)
+      (pair_alike u l d (projected (W l) d) (join_right (use_of_key l members) (second_wanted u) (Some d) (Some (projected (W l) d)) (alike_projected d (W l))), each_projected ps n u members)
 
 pub projected_alike : ProjectedAlike
 projected_alike u d = alike_projected d u

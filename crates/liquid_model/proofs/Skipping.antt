@@ -1,5 +1,5 @@
 -- A reader that skips what nobody asks for.
-use Rattle.std.specs.Prelude.{◌≡◌, suc, Bool, true, false, cond, Some, None, bytes_eq}
+use Rattle.std.specs.Prelude.{◌≡◌, ℕ, suc, Bool, true, false, cond, Option, Some, None, bytes_eq}
 use Rattle.std.specs.declared.cmp.Ordering.{Ordering}
 use Rattle.std.specs.declared.cmp.Ordering.TheVariants.{Less, Equal, Greater}
 use Rattle.std.specs.Ordering.{nat_cmp, match_ordering, is_eq}
@@ -10,11 +10,12 @@ use Rattle.liquid_model.specs.Texts.{Text}
 use Rattle.liquid_model.specs.Data.{array, object, no_items, item, Pairs, no_pairs, pair, put, text}
 use Rattle.liquid_model.specs.Digest.{pairs_len}
 use Rattle.liquid_model.specs.Find.{value_at}
+use Rattle.liquid_model.specs.Lists.{pair_lists}
 use Rattle.liquid_model.proofs.Maps.{value_at_put, value_at_put_other}
-use Rattle.liquid_model.specs.Uses.{Use, Fields, ItemUse, uncounted, every, Alike, AlikeItems, asks_whether}
+use Rattle.liquid_model.specs.Uses.{Use, Fields, ItemUse, uncounted, up_to, Alike, AlikeItems, asks_whether}
 use Rattle.liquid_model.specs.Projected.{use_of_key, second_wanted, values_wanted, pairs_wanted, asks_length}
 use Rattle.liquid_model.specs.Skipping.{AlikeKeys, SameKeys, PutInBoth, PutInOne, PutAtSameKey, MapWithAllKeys, MapWithSomeKeys, ListWithAllItems, ListWithoutItems}
-use Rattle.liquid_model.proofs.Alike.{alike_same, join_left, join_right}
+use Rattle.liquid_model.proofs.Alike.{AlikeLists, alike_same, join_left, join_right, up_to_all}
 use Rattle.liquid_model.proofs.AlikeLists.{items_alike}
 use Rattle.liquid_model.proofs.Projected.{unasked, fields_of_maps, fields_unseen, pair_alike}
 
@@ -72,16 +73,19 @@ lengths_of_same W no_pairs (pair l d qs) a = absurd a
 lengths_of_same W (pair k c ps) no_pairs a = absurd a
 lengths_of_same W (pair k c ps) (pair l d qs) a = ap suc (lengths_of_same W ps qs a.1.1)
 
-turns_of_same : (members : Fields) (turns : ItemUse) (ps qs : Pairs) → SameKeys (pairs_wanted members turns) ps qs → AlikeItems turns (Some (object ps)) (Some (object qs))
-turns_of_same members uncounted ps qs a = tt
-turns_of_same members (every u) no_pairs no_pairs a = tt
-turns_of_same members (every u) no_pairs (pair l d qs) a = absurd a
-turns_of_same members (every u) (pair k c ps) no_pairs a = absurd a
-turns_of_same members (every u) (pair k c ps) (pair l d qs) a = (
+each_of_same : (members : Fields) (n : Option ℕ) (u : Use) (ps qs : Pairs) → SameKeys (pairs_wanted members (up_to n u)) ps qs → AlikeLists u (pair_lists ps) (pair_lists qs)
+each_of_same members n u no_pairs no_pairs a = tt
+each_of_same members n u no_pairs (pair l d qs) a = absurd a
+each_of_same members n u (pair k c ps) no_pairs a = absurd a
+each_of_same members n u (pair k c ps) (pair l d qs) a = (
   subst (λ m. Alike u (Some (array (item (text k) (item c no_items)))) (Some (array (item (text m) (item d no_items))))) a.0
       (pair_alike u k c d (join_right (use_of_key k members) (second_wanted u) (Some c) (Some d) a.1.0)),
-  turns_of_same members (every u) ps qs a.1.1,
+  each_of_same members n u ps qs a.1.1,
 )
+
+turns_of_same : (members : Fields) (turns : ItemUse) (ps qs : Pairs) → SameKeys (pairs_wanted members turns) ps qs → AlikeItems turns (Some (object ps)) (Some (object qs))
+turns_of_same members uncounted ps qs a = tt
+turns_of_same members (up_to n u) ps qs a = up_to_all _ n (pair_lists ps) (pair_lists qs) (each_of_same members n u ps qs a)
 
 pub map_with_all_keys : MapWithAllKeys
 map_with_all_keys members turns ps qs a = (
@@ -94,7 +98,7 @@ map_with_all_keys members turns ps qs a = (
 )
 
 pub map_with_some_keys : MapWithSomeKeys
-map_with_some_keys members (every u) ps qs none a = absurd cc
+map_with_some_keys members (up_to n u) ps qs none a = absurd cc
 map_with_some_keys members uncounted ps qs none a = (
   refl,
   (

@@ -3,7 +3,7 @@ use Rattle.std.proofs.Common.{◌≡◌, List, [], ◌∷◌, String, Global, BT
 use Rattle.std.specs.Cmp.Lexicographic.{slice_cmp, bytes_decides}
 use Rattle.std.specs.Map.{lookup}
 use Rattle.std.specs.BTreeMap.{is_at}
-use Rattle.std.specs.Prelude.{Box, MatchOption}
+use Rattle.std.specs.Prelude.{MatchOption}
 use Rattle.std.proofs.lemmas.Map.Text.{is_eq-slice_cmp}
 use Rattle.liquid_model.specs.Texts.{Text, same_text}
 use Rattle.liquid_model.specs.Uses as seen
@@ -11,6 +11,7 @@ use Rattle.liquid_model.specs.Uses.{use_in, includes, includes_fields, includes_
 use Rattle.liquid_model.specs.UseViews.{use_view, members_view, turns_view}
 use Rattle.liquid_model.specs.declared.uses.Use.{Use}
 use Rattle.liquid_model.specs.declared.uses.Use as uses
+use Rattle.liquid_model.specs.declared.uses.ItemUse.{ItemUse}
 
 both_hold : (a b : Bool) → a ≡ true → b ≡ true → a && b ≡ true
 both_hold true b e f = f
@@ -50,7 +51,7 @@ view-Nothing = search (rules, uses.the_lemmas)
 pub view-Everything : use_view uses.Everything ≡ seen.everything
 view-Everything = search (rules, uses.the_lemmas)
 
-pub view-Parts : (ms : BTreeMap (String Global) Use) (is : Option (Box Use Global)) → use_view (uses.Parts ms is) ≡ seen.parts (members_view ms.entries) (turns_view is)
+pub view-Parts : (ms : BTreeMap (String Global) Use) (is : Option ItemUse) → use_view (uses.Parts ms is) ≡ seen.parts (members_view ms.entries) (turns_view is)
 view-Parts ms None = search (rules, uses.the_lemmas)
 view-Parts ms (Some b) = search (rules, uses.the_lemmas)
 
@@ -68,7 +69,7 @@ mutual
 
   everything_items : (turns : seen.ItemUse) → includes_items seen.everything turns ≡ true
   everything_items seen.uncounted = refl
-  everything_items (seen.every v) = everything_includes v
+  everything_items (seen.up_to n v) = everything_includes v
 
 -- the members alone decide of fields, and the items of turns
 fields_of_parts : (held : seen.Fields) (t s : seen.ItemUse) (members : seen.Fields) → includes_fields (seen.parts held t) members ≡ includes_fields (seen.parts held s) members
@@ -77,7 +78,7 @@ fields_of_parts held t s (seen.field key v more) = ap (λ b. includes (use_in ke
 
 turns_of_parts : (held other : seen.Fields) (t turns : seen.ItemUse) → includes_items (seen.parts held t) turns ≡ includes_items (seen.parts other t) turns
 turns_of_parts held other t seen.uncounted = refl
-turns_of_parts held other t (seen.every v) = refl
+turns_of_parts held other t (seen.up_to n v) = refl
 
 pub parts_include : (held members : seen.Fields) (t turns : seen.ItemUse) (a b : Bool) → a ≡ includes_fields (seen.parts held seen.uncounted) members → b ≡ includes_items (seen.parts seen.no_fields t) turns
     → a && b ≡ includes (seen.parts held t) (seen.parts members turns)

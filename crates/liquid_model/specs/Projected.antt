@@ -6,7 +6,7 @@ use Rattle.liquid_model.specs.Texts.{Text, same_text}
 use Rattle.liquid_model.specs.Data.{Datum, nil, truth, number, text, array, object, Items, no_items}
 use Rattle.liquid_model.specs.Data.{item, Pairs, no_pairs, pair}
 use Rattle.liquid_model.specs.Uses.{Use, nothing, everything, parts, Fields, no_fields, field}
-use Rattle.liquid_model.specs.Uses.{ItemUse, uncounted, every, Alike, asks_whether, use_of_each}
+use Rattle.liquid_model.specs.Uses.{ItemUse, uncounted, up_to, Alike, asks_whether, use_of_each}
 use Rattle.liquid_model.specs.Uses.{has_every, join, is_place, items_wanted}
 
 -- what is asked of a member, by all fields of its name
@@ -42,7 +42,7 @@ second_wanted (parts members turns) = join (use_of_each turns) (of_seconds membe
 
 abbrev pub values_wanted : ItemUse → Use
 values_wanted uncounted = nothing
-values_wanted (every u) = second_wanted u
+values_wanted (up_to n u) = second_wanted u
 
 -- what is asked of a map's values, where these are asked of the map
 abbrev pub pairs_wanted : Fields → ItemUse → Text → Use

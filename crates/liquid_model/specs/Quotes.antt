@@ -1,7 +1,7 @@
 -- What a message shows of a text that a stranger wrote, and what a message is: a short line.
 --     quotation text      at most 60 characters of the text, with `...` where more follow, and none
 --                         that a terminal would obey
---     is_line most text      the text has at most so many bytes, and none of them is a control
+--     is_line most text      the text has at most `most` bytes, and none of them is a control
 --                            character
 use Rattle.std.specs.Prelude.{◌≡◌, ◌≤◌, ℕ, ◌-◌, Bool, true, false, IsTrue, cond, not, ◌&&◌, ◌||◌}
 use Rattle.std.specs.Prelude.{◌==◌, nat_lt, nat_le, List, [], ◌∷◌, ◌++◌, codes, length}
@@ -16,7 +16,7 @@ use Rattle.liquid_model.specs.ErrorKinds.{is_write}
 
 -- ---- quotations
 
--- so many characters of a text are shown at most; one that is escaped counts as 8
+-- the most characters of a text that are shown; one that is escaped counts as 8
 abbrev pub most_quoted : ℕ
 most_quoted = 60
 
@@ -62,11 +62,11 @@ quotation text = quoted most_quoted (chars text)
 abbrev pub is_line_byte : ℕ → Bool
 is_line_byte b = not (nat_lt b 32) && not (b == 127)
 
--- at most so many bytes, and no control character
+-- at most `most` bytes, and no control character
 abbrev pub is_line : ℕ → Text → Bool
 is_line most text = nat_le (length text) most && list_all is_line_byte text
 
--- a message has so many bytes at most
+-- the most bytes that a message has
 abbrev pub most_bytes : ℕ
 most_bytes = 1000
 

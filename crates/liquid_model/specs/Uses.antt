@@ -2,11 +2,13 @@
 --     Use      of a value: nothing, everything, or some members and maybe the items
 --     alike u o p      o and p are alike in what u asks of them;   o and p may be missing
 --     use_at key u, use_of_items u      what u asks of a member, and of each item
+--     reaches m n      the items up to the limit m are all those up to n;   further m n      the
+--                      larger limit
 --     includes u v      u asks for all that v asks for;   join u v      all that both ask for
 --     items_wanted u      all that is asked of an item of a list of which u is asked
 --     IncludedAlike, JoinedAlike      the laws of `includes` and `join`
 use Rattle.std.specs.Prelude.{◌≡◌, T, Bool, true, false, cond, ◌&&◌, ◌||◌, is_some, codes, List, []}
-use Rattle.std.specs.Prelude.{◌∷◌, Option, Some, None}
+use Rattle.std.specs.Prelude.{◌∷◌, Option, Some, None, ℕ, max, nat_le, length, take}
 use Rattle.std.specs.Option.{option_and_then}
 use Rattle.liquid_model.specs.Texts.{Text, same_text}
 use Rattle.liquid_model.specs.Data.{Datum, text, array, object, no_items, no_pairs}
@@ -28,11 +30,15 @@ mutual
     no_fields : Fields
     field : Text → Use → Fields → Fields
 
-  -- what is asked of the items that a loop goes over: nothing at all, or how many there are and
-  -- this of each
+  -- what is asked of the items that a loop goes over: nothing at all, or this of each of the first
+  -- ones up to a limit; without a limit how many there are, and this of each
   pub data ItemUse : Type 0 where
     uncounted : ItemUse
-    every : Use → ItemUse
+    up_to : Option ℕ → Use → ItemUse
+
+-- how many there are, and this of each
+abbrev pub every : Use → ItemUse
+every u = up_to None u
 
 -- whether there is a value, and its kind
 abbrev pub there : Use
@@ -73,6 +79,16 @@ Pairwise R [] (y ∷ ys) = ⊥
 Pairwise R (x ∷ xs) [] = ⊥
 Pairwise R (x ∷ xs) (y ∷ ys) = R x y × Pairwise R xs ys
 
+-- whether a loop may go over as many items as xs has: more are refused, whatever its window
+abbrev pub is_loopable : {A : Type 0} → List A → Bool
+is_loopable xs = nat_le (length xs) 9223372036854775807
+
+-- R holds place by place up to a limit, and without one the lists have one length
+abbrev pub PairwiseUpTo : {A : Type 0} → Option ℕ → (A → A → Type 0) → List A → List A → Type 0
+PairwiseUpTo None R xs ys = Pairwise R xs ys
+PairwiseUpTo (Some n) R xs ys = (is_loopable xs ≡ is_loopable ys) ×
+    Pairwise R (take n xs) (take n ys)
+
 abbrev mutual
   pub Alike : Use → Option Datum → Option Datum → Type 0
   Alike nothing o p = Unit {0}
@@ -86,7 +102,7 @@ abbrev mutual
 
   pub AlikeItems : ItemUse → Option Datum → Option Datum → Type 0
   AlikeItems uncounted o p = Unit {0}
-  AlikeItems (every u) o p = Pairwise (λ d e. Alike u (Some d) (Some e)) (loop_items_of o)
+  AlikeItems (up_to n u) o p = PairwiseUpTo n (λ d e. Alike u (Some d) (Some e)) (loop_items_of o)
       (loop_items_of p)
 
 -- ---- what a use asks for
@@ -104,7 +120,7 @@ use_at key (parts members turns) = use_in key members
 -- of each item
 abbrev pub use_of_each : ItemUse → Use
 use_of_each uncounted = nothing
-use_of_each (every u) = u
+use_of_each (up_to n u) = u
 
 abbrev pub use_of_items : Use → Use
 use_of_items nothing = nothing
@@ -122,13 +138,23 @@ asks_whether _ = true
 
 abbrev pub has_every : ItemUse → Bool
 has_every uncounted = false
-has_every (every u) = true
+has_every (up_to n u) = true
 
--- how many items there are is asked
-abbrev pub asks_items : Use → Bool
-asks_items nothing = false
-asks_items everything = true
-asks_items (parts members turns) = has_every turns
+-- whether the items up to one limit are all those up to the other
+abbrev pub reaches : Option ℕ → Option ℕ → Bool
+reaches None n = true
+reaches (Some m) None = false
+reaches (Some m) (Some n) = nat_le n m
+
+abbrev pub goes_up_to : Option ℕ → ItemUse → Bool
+goes_up_to n uncounted = false
+goes_up_to n (up_to m u) = reaches m n
+
+-- whether the items up to a limit are asked for
+abbrev pub asks_items : Option ℕ → Use → Bool
+asks_items n nothing = false
+asks_items n everything = true
+asks_items n (parts members turns) = goes_up_to n turns
 
 -- u, and whether there is a value
 abbrev pub present : Use → Use
@@ -148,13 +174,19 @@ abbrev mutual
 
   pub includes_items : Use → ItemUse → Bool
   includes_items u uncounted = true
-  includes_items u (every v) = asks_items u && includes (use_of_items u) v
+  includes_items u (up_to n v) = asks_items n u && includes (use_of_items u) v
 
 -- ---- uses together
 
 abbrev pub joined_fields : Fields → Fields → Fields
 joined_fields no_fields others = others
 joined_fields (field key u more) others = field key u (joined_fields more others)
+
+-- the larger of two limits
+abbrev pub further : Option ℕ → Option ℕ → Option ℕ
+further None n = None
+further (Some m) None = None
+further (Some m) (Some n) = Some (max m n)
 
 abbrev mutual
   -- all that u and v ask for
@@ -168,8 +200,8 @@ abbrev mutual
 
   pub join_turns : ItemUse → ItemUse → ItemUse
   join_turns uncounted more = more
-  join_turns (every u) uncounted = every u
-  join_turns (every u) (every v) = every (join u v)
+  join_turns (up_to m u) uncounted = up_to m u
+  join_turns (up_to m u) (up_to n v) = up_to (further m n) (join u v)
 
 -- whether a step by this text finds one item of a list
 abbrev pub is_place : Text → Bool

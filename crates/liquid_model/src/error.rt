@@ -58,7 +58,7 @@ pub enum ErrorKind {
     Write,
     /// The source ends inside an output, a tag or a quote.
     Unclosed,
-    /// What stands where an item is wanted is none.
+    /// Something that is no item stands where one is wanted.
     BadItem,
     /// A number in the source is beyond 64 bits.
     NumberLiteral,
@@ -190,7 +190,7 @@ impl Error {
     ghost use Rattle.liquid_model.specs.Errors.{partial_location_text};
 
     /// A fault of this kind with this message, or `Memory` where there is no room for the message.
-    /// Of a message that is no short line the beginning that is one stays (`line_of`).
+    /// A message that is no short line is cut to its beginning that is one (`line_of`).
     pub fn new(alloc: Global, kind: ErrorKind, message: &str) -> Error
         ensures kind_or_memory { IsKindOrMemory kind result.kind }
         ensures message { IsTrue (is_message kind message.now) →
@@ -202,8 +202,8 @@ impl Error {
         }
     }
 
-    /// A fault of this kind with this message. Of a message that is no short line the beginning
-    /// that is one stays (`line_of`).
+    /// A fault of this kind with this message. A message that is no short line is cut to its
+    /// beginning that is one (`line_of`).
     pub fn with_message(kind: ErrorKind, message: String) -> Error
         ensures kind { result.kind ≡ kind }
         ensures message { IsTrue (is_message kind (string_bytes message)) → result.message ≡
@@ -236,8 +236,8 @@ impl Error {
     }
 
     /// A fault of this kind with a message that is written out, as a `format_args!` is, or `Memory`
-    /// where there is no room for the message. Of a message that is no short line the beginning
-    /// that is one stays (`line_of`).
+    /// where there is no room for the message. A message that is no short line is cut to its
+    /// beginning that is one (`line_of`).
     pub fn formatted<M: fmt::Display + Drop>(alloc: Global, kind: ErrorKind, message: M) -> Error
         ensures kind_or_memory { IsKindOrMemory kind result.kind }
         ensures message { IfSome (M.output message) (λ written. IsTrue (is_message kind written) →
@@ -313,7 +313,7 @@ impl Error {
     }
 }
 
-/// The message that a text is for a fault of this kind.
+/// What a fault of this kind keeps of a text as its message.
 fn message_of(kind: ErrorKind, text: String) -> String
     ensures message { IsTrue (is_message kind (string_bytes result)) }
     ensures same { IsTrue (is_message kind (string_bytes text)) → result ≡ text }

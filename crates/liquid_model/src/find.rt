@@ -51,7 +51,8 @@ impl Value {
         Ok(found_along(self, path))
     }
 
-    /// One step on, where it is the key of a map, or leads to an item of a list. None says nothing.
+    /// One step on, where it is the key of a map, or leads to an item of a list. `None` doesn't
+    /// mean that it leads nowhere.
     pub fn direct_part<'a>(&'a self, part: &Value) -> Option<&'a Value>
         ensures { IfSome result (λ v. Some (view v.now) ≡ step (view self.now) (view part.now)) }
     {

@@ -28,6 +28,6 @@ pub use location::{Location, Origin};
 pub use object::{look_up, store};
 pub use quotation::{Quoted, excerpt};
 pub use text::write_text;
-pub use uses::{Use, Uses, member_of};
+pub use uses::{ItemUse, Use, Uses, member_of};
 pub use value::{Object, Value, copy_items};
 pub use whole::whole_of;

@@ -18,8 +18,8 @@ pub fn line_of(most: usize, text: String) -> String
     line
 }
 
-/// Where the line ends that a text begins with: before the first control character, after so many
-/// bytes, or with the text.
+/// Where the line ends that a text begins with: before the first control character, after `most`
+/// bytes, or with the text, whichever comes first.
 fn line_end(most: usize, text: &str) -> usize
     ensures within { result ≤ length text.now }
     ensures line { is_line most (take result text.now) ≡ true }

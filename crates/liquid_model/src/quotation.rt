@@ -9,7 +9,7 @@ use std::alloc::{AllocError, Global};
 use std::fmt;
 use std::fmt::{Formatter, Write};
 
-/// So many characters of a text are shown at most.
+/// The most characters of a text that a message shows.
 const MOST_QUOTED: usize = 60;
 
 /// A text as a message shows it: its beginning of at most 60 characters, with `...` where more
@@ -53,7 +53,7 @@ fn write_quotation<W: Write>(text: &str, f: &mut Formatter<W>) -> fmt::Result
     Ok(())
 }
 
-/// As how many characters a character counts.
+/// How many characters a character counts as.
 fn cost(letter: char) -> usize
     ensures { result ≡ cost letter }
 {

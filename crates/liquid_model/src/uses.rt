@@ -1,5 +1,6 @@
 //! Which parts of values are asked for.
 ghost use Rattle.std.specs.Prelude.{◌≡◌, MatchOption};
+ghost use Rattle.liquid_model.specs.Uses as seen;
 ghost use Rattle.liquid_model.specs.Uses.{includes, includes_fields, includes_items};
 ghost use Rattle.liquid_model.specs.Uses.{no_fields, nothing, parts, uncounted, use_in};
 ghost use Rattle.liquid_model.specs.UseViews.{use_view, members_view, turns_view};
@@ -7,6 +8,7 @@ ghost use Rattle.liquid_model.specs.UseViews.{use_view, members_view, turns_view
 use std::collections::BTreeMap;
 
 /// What is asked of a value: the parts of it that somebody looks at.
+#[cycle(uses)]
 #[derive(Drop)]
 pub enum Use {
     /// Nothing, not even whether there is a value.
@@ -18,10 +20,21 @@ pub enum Use {
         /// What is asked of the members, each by the text of the step that finds it: a key, an
         /// index, `first`, `last` or `size`.
         members: Uses,
-        /// What is asked of each item that a loop goes over; without it, not even how many
+        /// What is asked of the items that a loop goes over; without it, not even how many
         /// items there are.
-        items: Option<Box<Use>>,
+        items: Option<ItemUse>,
     },
+}
+
+/// What is asked of the items that a loop goes over.
+#[cycle(uses)]
+#[derive(Drop)]
+pub struct ItemUse {
+    /// The most items that are seen, from the first on. Without it every item is seen, and how
+    /// many there are.
+    pub limit: Option<usize>,
+    /// What is asked of each of them.
+    pub each: Box<Use>,
 }
 
 /// What is asked of values by their names. Of a value that isn't named here nothing is asked.
@@ -33,6 +46,21 @@ impl Use {
         ensures { result ≡ includes (use_view self.now) (use_view other.now) }
     {
         included(other, self)
+    }
+}
+
+impl ItemUse {
+    /// Whether the items up to a limit are asked for; without one, whether every item is.
+    pub fn reaches(&self, limit: Option<usize>) -> bool
+        ensures { result ≡ seen.reaches self.now.limit limit }
+    {
+        match self.limit {
+            None => true,
+            Some(most) => match limit {
+                None => false,
+                Some(count) => count <= most,
+            },
+        }
     }
 }
 
@@ -73,14 +101,14 @@ fn included_members(asked: &Uses, held: &Uses) -> bool
 }
 
 #[cycle(included)]
-fn included_items(asked: &Option<Box<Use>>, held: &Option<Box<Use>>) -> bool
+fn included_items(asked: &Option<ItemUse>, held: &Option<ItemUse>) -> bool
     ensures { result
         ≡ includes_items (parts no_fields (turns_view held.now)) (turns_view asked.now) }
 {
     match asked {
         None => true,
-        Some(item) => match held {
-            Some(found) => included(item, found),
+        Some(wanted) => match held {
+            Some(found) => { found.reaches(wanted.limit) && included(&wanted.each, &found.each) }
             None => false,
         },
     }

@@ -8,8 +8,8 @@ use Rattle.liquid_model.specs.Whole.{whole}
 use Rattle.liquid_model.specs.declared.error.Error.{Error}
 use Rattle.liquid_model.specs.declared.value.Value.{Value}
 use Rattle.liquid_filter_base.specs.Arguments.{Answer}
-use Rattle.liquid_filter_base.specs.Stands.{Stands}
-use Rattle.liquid_filter_base.proofs.Standing.{none_given, stands}
+use Rattle.liquid_filter_base.specs.Satisfies.{Satisfies}
+use Rattle.liquid_filter_base.proofs.Standing.{none_given, satisfies}
 use Rattle.liquid_number_filters.specs.Decimals.{is_decimal_text}
 use Rattle.liquid_number_filters.specs.NumberLaws.{AbsoluteOf, OperandSteps, StepsWith}
 use Rattle.liquid_number_filters.specs.Numbers.{abs, of_none, of_one}
@@ -20,15 +20,15 @@ use Rattle.liquid_number_filters.proofs.Operations.{abs_one}
 use Rattle.liquid_number_filters.proofs.RoundingRelation.{round_one, rounded_one}
 
 pub operated : (R : ℤ → ℤ → Answer → Type 0) (divides : Bool) (f : Datum → Datum → Answer) → ((d e : Datum) → IsTheOne (OperandSteps R divides d e) (f d e))
-    → (d : Datum) (args : List Datum) (r : Result Value Error) → Answers view r (of_one f d args) → Stands (StepsWith R divides d args) r
+    → (d : Datum) (args : List Datum) (r : Result Value Error) → Answers view r (of_one f d args) → Satisfies (StepsWith R divides d args) r
 operated R divides f one d [] r h = none_given (λ e rest. OperandSteps R divides d e) r
-operated R divides f one d (e ∷ args) r h = stands (OperandSteps R divides d e) (f d e) r (one d e) h
+operated R divides f one d (e ∷ args) r h = satisfies (OperandSteps R divides d e) (f d e) r (one d e) h
 
-pub absolutes : (d : Datum) (args : List Datum) (r : Result Value Error) → Answers view r (of_none abs d args) → Stands (AbsoluteOf (scalar d) (whole d) (is_decimal_text d)) r
-absolutes d args r = stands (AbsoluteOf (scalar d) (whole d) (is_decimal_text d)) (abs d) r (abs_one d)
+pub absolutes : (d : Datum) (args : List Datum) (r : Result Value Error) → Answers view r (of_none abs d args) → Satisfies (AbsoluteOf (scalar d) (whole d) (is_decimal_text d)) r
+absolutes d args r = satisfies (AbsoluteOf (scalar d) (whole d) (is_decimal_text d)) (abs d) r (abs_one d)
 
-pub brought : (how : Rounding) (d : Datum) (args : List Datum) (r : Result Value Error) → Answers view r (of_none (rounded how) d args) → Stands (IsRounded how (whole d) d) r
-brought how d args r = stands (IsRounded how (whole d) d) (rounded how d) r (rounded_one how d)
+pub brought : (how : Rounding) (d : Datum) (args : List Datum) (r : Result Value Error) → Answers view r (of_none (rounded how) d args) → Satisfies (IsRounded how (whole d) d) r
+brought how d args r = satisfies (IsRounded how (whole d) d) (rounded how d) r (rounded_one how d)
 
-pub rounds : (d : Datum) (args : List Datum) (r : Result Value Error) → Answers view r (round d args) → Stands (Rounds args d) r
-rounds d args r = stands (Rounds args d) (round d args) r (round_one d args)
+pub rounds : (d : Datum) (args : List Datum) (r : Result Value Error) → Answers view r (round d args) → Satisfies (Rounds args d) r
+rounds d args r = satisfies (Rounds args d) (round d args) r (round_one d args)

@@ -10,7 +10,7 @@ use Rattle.liquid_model.specs.declared.error.ErrorKind.{ErrorKind}
 use Rattle.liquid_model.specs.declared.error.ErrorKind.TheVariants.{InvalidInput, InvalidArgument}
 use Rattle.liquid_model.specs.declared.error.ErrorKind.TheVariants.{DivideByZero, Float}
 use Rattle.liquid_filter_base.specs.Arguments.{Answer}
-use Rattle.liquid_filter_base.specs.Stands.{WithFirst}
+use Rattle.liquid_filter_base.specs.Satisfies.{WithFirst}
 use Rattle.liquid_number_filters.specs.Decimals.{is_decimal_text}
 use Rattle.liquid_number_filters.specs.Division.{IsDivision}
 use Rattle.liquid_number_filters.specs.Numbers.{in_range, unlike, plus, minus, times, divided_by}

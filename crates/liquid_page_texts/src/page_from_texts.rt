@@ -145,8 +145,8 @@ fn read_seen(alloc: Global, data: &str, template: &Template, partials: &Partials
     data_for(alloc, data, &uses)
 }
 
-/// Whether there are so many bytes of data for each node of the templates that to find out what
-/// these see takes little beside reading the data.
+/// Whether there are at least `BYTES_FOR_A_NODE` bytes of data for each node of the templates.
+/// Then finding out what these see takes little time beside reading the data.
 fn is_long(data: &str, template: &Template, partials: &Partials) -> bool {
     let mut nodes = template.nodes().len();
     for slot in partials.slots().values() {

@@ -3,4 +3,3 @@ pub mod Making
 pub mod Named
 pub mod Over
 pub mod Runs
-pub mod Stepping

@@ -1,6 +1,6 @@
 -- What a page, or the page of a pattern, makes of a record.
 use Rattle.std.specs.Prelude.{◌≡◌, Option, Some, Result, Ok, Err}
-use mathlib.Core.Path.{sym, ap, ◌∙◌}
+use mathlib.Core.Path.{ap, subst, ◌∙◌}
 use Rattle.liquid_model.specs.Data.{Datum, Pairs}
 use Rattle.liquid_model.specs.Maps.{Map, merged}
 use Rattle.liquid_model.specs.Texts.{Text}
@@ -22,9 +22,9 @@ pub unnamed_is : (job : Job) (pattern : Option Nodes) (why : Reason) → Err why
 unnamed_is job pattern why named = ap (λ n. n then λ x. made_page x (record_page job job.template)) named
 
 -- what is made over the data with a record's over it is what the record comes to
-pub made_with : (job : Job) («data» : Pairs) (over : Map Datum) (pattern : Option Nodes) (x : Result Made Reason) → over ≡ merged (map_of «data») job.shared
-    → x ≡ made_by (record job { shared = over }) pattern → x ≡ made_by (with_record «data» job) pattern
-made_with job «data» over pattern x e made = made ∙ (λ i. made_by (record job { shared = e i }) pattern)
+pub made_with : (job : Job) («data» : Pairs) (over : Map Datum) (pattern : Option Nodes) (P : Result Made Reason → Type 0) → over ≡ merged (map_of «data») job.shared
+    → P (made_by (record job { shared = over }) pattern) → P (made_by (with_record «data» job) pattern)
+made_with job «data» over pattern P e h = subst (λ m. P (made_by (record job { shared = m }) pattern)) e h
 
 -- the shared data is there again
 pub same_job : (job : Job) (over : Map Datum) → over ≡ job.shared → record job { shared = over } ≡ job

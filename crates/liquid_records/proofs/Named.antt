@@ -17,6 +17,10 @@ pub none_yet : (m : BTreeMap (String Global) ℕ) → m.entries ≡ [] → map_n
 unfolding empty
 none_yet m e = λ i. (λ name. lookup (is_at (λ k. slice_cmp nat_cmp name (string_bytes k))) (e i))
 
+-- a map that stays as it was has the same names
+pub same_names : (m k : BTreeMap (String Global) ℕ) → k.entries ≡ m.entries → map_names k ≡ map_names m
+same_names m k e = λ i. (λ name. lookup (is_at (λ k. slice_cmp nat_cmp name (string_bytes k))) (e i))
+
 one_more : (m k : BTreeMap (String Global) ℕ) (name : Text) (n : ℕ) → UpdatesBy string_cmp (λ x. slice_cmp nat_cmp name (string_bytes x)) m k (Some n) → map_names k ≡ insert (map_names m) name n
 unfolding insert
 one_more m k name n u = fun_ext (λ q. btree_map_updates_text name m k (Some n) u q)

@@ -1,8 +1,8 @@
 -- What a record comes to: a page and the name of its file, or why it has none. It depends on the
 -- job and the record's own data alone.
 --     record_page job nodes      the page of a template over the job's data, rendered from nothing
---     comes_to job pattern data      what a record with this data comes to, where files are named
---                                    by a pattern
+--     record_outcome job pattern data      what a record with this data comes to, where files are
+--                                          named by a pattern
 use Rattle.std.specs.Prelude.{ℕ, cond, List, [], Option, Some, None, Result, Ok, Err}
 use Rattle.liquid_model.specs.Data.{Datum, Pairs}
 use Rattle.liquid_model.specs.Maps.{Map, merged}
@@ -77,6 +77,6 @@ abbrev pub made_by : Job → Option Nodes → Result Made Reason
 made_by job pattern = record_file_name job pattern then λ name.
     made_page name (record_page job job.template)
 
-abbrev pub comes_to : Job → Option Nodes → Result Pairs ErrorKind → Result Made Reason
-comes_to job pattern (Ok «data») = made_by (with_record «data» job) pattern
-comes_to job pattern (Err kind) = Err (no_data kind)
+abbrev pub record_outcome : Job → Option Nodes → Result Pairs ErrorKind → Result Made Reason
+record_outcome job pattern (Ok «data») = made_by (with_record «data» job) pattern
+record_outcome job pattern (Err kind) = Err (no_data kind)

@@ -11,7 +11,7 @@ use Rattle.liquid_model.specs.Texts.{Text}
 use Rattle.liquid_model.specs.declared.error.ErrorKind.{ErrorKind}
 use Rattle.liquid_evaluation.specs.Tree.{Nodes}
 use Rattle.liquid_disk.specs.Files.{Files, holds}
-use Rattle.liquid_records.specs.Records.{Job, Made, Reason, comes_to}
+use Rattle.liquid_records.specs.Records.{Job, Made, Reason, record_outcome}
 use Rattle.liquid_records.specs.Steps.{EarlierNames, Fate, IsRecordStep, Leaves, unwritten}
 
 -- records by their numbers: the data of each, or the kind of its fault
@@ -65,8 +65,8 @@ HavePages comes _ _ files = ⊤
 
 -- a merge that begins over these files
 abbrev pub IsMerge : Job → Nodes → Records → Files → List Fate → Stand → Type 0
-IsMerge job pattern records files fates new = AreRecordsTaken (comes_to job (Some pattern)) records
-    (record { names = empty; files = files }) fates new
+IsMerge job pattern records files fates new = AreRecordsTaken (record_outcome job (Some pattern))
+    records (record { names = empty; files = files }) fates new
 
 -- ---- the laws
 
@@ -79,7 +79,7 @@ NeverTwice = (job : Job) (pattern : Nodes) (records : Records) (files : Files) (
 abbrev pub PagesStand : Type 0
 PagesStand = (job : Job) (pattern : Nodes) (records : Records) (files : Files) (fates : List Fate)
     (new : Stand) → IsMerge job pattern records files fates new
-    → HavePages (comes_to job (Some pattern)) records fates new.files
+    → HavePages (record_outcome job (Some pattern)) records fates new.files
 
 -- no other file changes
 abbrev pub OthersStay : Type 0

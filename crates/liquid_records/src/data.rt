@@ -1,52 +1,94 @@
-//! Data over other data, and taken off again.
-ghost use Rattle.std.specs.Prelude.{◌≡◌, IfOk, Some, None, option_map, string_bytes};
-ghost use Rattle.liquid_model.specs.Answer.{IsValueOrMemory};
+//! Lays data over other data, and takes it off again.
+ghost use Rattle.std.specs.Prelude.{◌≡◌, IfOk, IfErr, OnErr, OnOk, IsSome, Some, None, option_map};
+ghost use Rattle.std.specs.Prelude.{string_bytes};
 ghost use Rattle.liquid_model.specs.Maps.{merged};
 ghost use Rattle.liquid_model.specs.View.{view};
 ghost use Rattle.liquid_core.specs.Held.{held};
 ghost use Rattle.liquid_core.specs.DataChanges.{with_value};
-ghost use Rattle.liquid_records.specs.inside.Covered.{covered_view, uncovered};
+ghost use Rattle.liquid_records.specs.inside.Covered.{AreThere, covered_view, uncovered};
 
-use liquid_core::{Object, Result, Value};
-use std::alloc::Global;
+use liquid_core::{Error, ErrorKind, Object, Result, Value};
+use std::alloc::{AllocError, Global};
 
-/// The data with these members over it, and what was covered by them: the name of each in turn,
-/// with the value that stood there.
+/// Lays these members over the data. The answer is what they cover: the name of each in turn, with
+/// the value that stood there. It is `Memory` where a growth was refused, and no other kind; then
+/// the data is as it was.
 pub(crate) fn lay_over(
     alloc: Global,
-    data: Object,
+    data: &mut Object,
     members: Object,
-) -> Result<(Object, Vec<(String, Option<Value>)>)>
-    ensures over { IsValueOrMemory (λ p. held p.0) result (merged (held members) (held «data»)) }
-    ensures back { IfOk result (λ p. uncovered (covered_view p.1.items) (held p.0) ≡ held «data») }
+) -> Result<Vec<(String, Option<Value>)>>
+    ensures over { OnOk result (held «data».new ≡ merged (held members) (held «data».old)) }
+    ensures back { IfOk result (λ covered. uncovered (covered_view covered.items)
+        (held «data».new) ≡ held «data».old) }
+    ensures there { IfOk result (λ covered. AreThere (covered_view covered.items)
+        (held «data».new)) }
+    ensures untouched { OnErr result (held «data».new ≡ held «data».old) }
+    ensures memory { IfErr result (λ e. e.kind ≡ ErrorKind.Memory) }
 {
-    let mut over = data;
     let mut covered = Vec::new(alloc);
     for (name, value) in members {
-        let kept = String::from_str(alloc, name.as_str())?;
-        let before = exchange(&mut over, name, value)?;
-        covered.push((kept, before))?;
+        match cover(alloc, data, name, value, &mut covered) {
+            Ok(()) => {}
+            Err(refused) => {
+                take_off(data, covered);
+                return Err(refused);
+            }
+        }
     }
-    Ok((over, covered))
+    Ok(covered)
 }
 
-/// Takes off what was laid over data: what was covered stands in its place again.
-pub(crate) fn take_off(over: Object, covered: Vec<(String, Option<Value>)>) -> Result<Object>
-    ensures { IsValueOrMemory held result (uncovered (covered_view covered.items) (held over)) }
+/// Takes off what was laid over data: what was covered stands in its place again. It takes no
+/// memory.
+pub(crate) fn take_off(data: &mut Object, covered: Vec<(String, Option<Value>)>)
+    requires { AreThere (covered_view covered.items) (held «data».old) }
+    ensures { held «data».new ≡ uncovered (covered_view covered.items) (held «data».old) }
 {
-    let mut data = over;
     let mut left = covered;
     while let Some((name, before)) = left.pop() {
-        put_back(&mut data, name, before)?;
+        put_back(data, name, before);
     }
-    Ok(data)
+}
+
+/// Lays one value over the data, after what is covered already. Where a growth was refused, both
+/// are as they were.
+fn cover(
+    alloc: Global,
+    data: &mut Object,
+    name: String,
+    value: Value,
+    covered: &mut Vec<(String, Option<Value>)>,
+) -> Result<()>
+    ensures put { OnOk result (held «data».new
+        ≡ with_value (held «data».old) (string_bytes name) (Some (view value))) }
+    ensures back { OnOk result (uncovered (covered_view covered.new.items) (held «data».new)
+        ≡ uncovered (covered_view covered.old.items) (held «data».old)) }
+    ensures there { OnOk result (AreThere (covered_view covered.old.items) (held «data».old)
+        → AreThere (covered_view covered.new.items) (held «data».new)) }
+    ensures untouched { OnErr result (held «data».new ≡ held «data».old) }
+    ensures same { OnErr result (covered.new.items ≡ covered.old.items) }
+    ensures memory { IfErr result (λ e. e.kind ≡ ErrorKind.Memory) }
+{
+    let kept = String::from_str(alloc, name.as_str())?;
+    let before = exchange(data, name, value)?;
+    match covered.push((kept, before)) {
+        Ok(()) => Ok(()),
+        Err(refused) => {
+            let (name, before) = refused.value;
+            put_back(data, name, before);
+            Err(Error::from(AllocError))
+        }
+    }
 }
 
 /// Puts a value at a name. The answer is the value that stood there.
 fn exchange(data: &mut Object, name: String, value: Value) -> Result<Option<Value>>
-    ensures put { IsValueOrMemory (λ _. held «data».new) result
-        (with_value (held «data».old) (string_bytes name) (Some (view value))) }
+    ensures put { OnOk result (held «data».new
+        ≡ with_value (held «data».old) (string_bytes name) (Some (view value))) }
     ensures before { IfOk result (λ o. option_map view o ≡ held «data».old (string_bytes name)) }
+    ensures untouched { OnErr result (held «data».new ≡ held «data».old) }
+    ensures memory { IfErr result (λ e. e.kind ≡ ErrorKind.Memory) }
 {
     Ok(data.insert(name, value)?)
 }
@@ -58,14 +100,26 @@ fn take_away(data: &mut Object, name: &str)
     drop(data.remove(name));
 }
 
-/// Puts a value at a name, or takes away what stands there.
-fn put_back(data: &mut Object, name: String, before: Option<Value>) -> Result<()>
-    ensures { IsValueOrMemory (λ _. held «data».new) result
-        (with_value (held «data».old) (string_bytes name) (option_map view before)) }
+/// Puts a value at a name at which one stands, or takes that one away.
+fn put_back(data: &mut Object, name: String, before: Option<Value>)
+    requires { IsSome (held «data».old (string_bytes name)) }
+    ensures { held «data».new
+        ≡ with_value (held «data».old) (string_bytes name) (option_map view before) }
 {
     match before {
-        Some(value) => drop(exchange(data, name, value)?),
+        Some(value) => replace(data, name, value),
         None => take_away(data, name.as_str()),
     }
-    Ok(())
+}
+
+/// Puts a value at a name at which one stands, so that there is room for it.
+fn replace(data: &mut Object, name: String, value: Value)
+    requires { IsSome (held «data».old (string_bytes name)) }
+    ensures { held «data».new
+        ≡ with_value (held «data».old) (string_bytes name) (Some (view value)) }
+{
+    match data.insert(name, value) {
+        Ok(before) => drop(before),
+        Err(refused) => drop(refused),
+    }
 }

@@ -1,11 +1,11 @@
 //! One template over many records.
-ghost use Rattle.std.specs.Prelude.{◌≡◌, IfOk, Ok, string_bytes};
+ghost use Rattle.std.specs.Prelude.{◌≡◌, Ok, string_bytes};
 ghost use Rattle.liquid_model.specs.Answer.{IsValueOrMemory};
 ghost use Rattle.liquid_model.specs.View.{pairs_view};
 ghost use Rattle.liquid_syntax.specs.Templates.{tree_of};
 ghost use Rattle.liquid_lib.specs.Pages.{page_view};
 ghost use Rattle.liquid_json.specs.Json.{data_of};
-ghost use Rattle.liquid_records.specs.Records.{checked_name, comes_to, made_by, made_page};
+ghost use Rattle.liquid_records.specs.Records.{checked_name, record_outcome, made_by, made_page};
 ghost use Rattle.liquid_records.specs.Records.{record_file_name};
 ghost use Rattle.liquid_records.specs.Records.{page_name, record_page};
 ghost use Rattle.liquid_records.specs.Views.{job_view, made_view, outcome_view, pattern_view};
@@ -54,66 +54,41 @@ impl Job {
     /// in front of the shared one of its name.
     /// Where there is a pattern, its page is the name of the record's file.
     ///
-    /// The answer is `Memory` where a growth was refused, and no other kind; then the job is gone.
-    /// Else it is as it was.
-    #[tactic(auto, using(crate::proofs::Making::made_with, crate::proofs::Making::same_job))]
-    pub fn made(
-        self,
+    /// The answer is `Memory` where a growth was refused, and no other kind. The job is as it was,
+    /// on every answer.
+    pub fn make_page(
+        &mut self,
         alloc: Global,
         data: Object,
         pattern: Option<&Template>,
-    ) -> Result<(Job, RecordResult<Made>)>
-        ensures made { IsValueOrMemory (λ p. outcome_view made_view p.1) result
-            (comes_to (job_view self) (pattern_view pattern.entry)
+    ) -> Result<RecordResult<Made>>
+        ensures made { IsValueOrMemory (outcome_view made_view) result
+            (record_outcome (job_view self.old) (pattern_view pattern.entry)
             (Ok (pairs_view «data».entries))) }
-        ensures same { IfOk result (λ p. job_view p.0 ≡ job_view self) }
+        ensures same { job_view self.new ≡ job_view self.old }
     {
-        let Job {
-            template,
-            partials,
-            depth,
-            shared,
-        } = self;
-        let (over, covered) = lay_over(alloc, shared, data)?;
-        let job = Job {
-            template,
-            partials,
-            depth,
-            shared: over,
-        };
-        let outcome = job.made_over(alloc, pattern)?;
-        let Job {
-            template,
-            partials,
-            depth,
-            shared: over,
-        } = job;
-        let shared = take_off(over, covered)?;
-        let job = Job {
-            template,
-            partials,
-            depth,
-            shared,
-        };
-        Ok((job, outcome))
+        let covered = lay_over(alloc, &mut self.shared, data)?;
+        let outcome = self.made_over(alloc, pattern);
+        take_off(&mut self.shared, covered);
+        outcome
     }
 
-    /// As `made`, of a record that is a text of JSON.
-    pub fn made_of_json(
-        self,
+    /// As `make_page`, of a record that is a text of JSON.
+    pub fn make_page_of_json(
+        &mut self,
         alloc: Global,
         text: &str,
         pattern: Option<&Template>,
-    ) -> Result<(Job, RecordResult<Made>)>
-        ensures made { IsValueOrMemory (λ p. outcome_view made_view p.1) result
-            (comes_to (job_view self) (pattern_view pattern.entry) (data_of text.now)) }
-        ensures same { IfOk result (λ p. job_view p.0 ≡ job_view self) }
+    ) -> Result<RecordResult<Made>>
+        ensures made { IsValueOrMemory (outcome_view made_view) result
+            (record_outcome (job_view self.old) (pattern_view pattern.entry) (data_of text.now)) }
+        ensures same { job_view self.new ≡ job_view self.old }
     {
         match data_from_json(alloc, text) {
-            Ok(data) => self.made(alloc, data, pattern),
+            Ok(data) => self.make_page(alloc, data, pattern),
             Err(fault) => match fault.kind {
                 ErrorKind::Memory => Err(fault),
-                _ => Ok((self, Err(Why::NoData(fault)))),
+                _ => Ok(Err(Why::NoData(fault))),
             },
         }
     }
@@ -167,7 +142,7 @@ fn page_named(name: String, page: Page) -> RecordResult<Made>
     }
 }
 
-/// The name that a page is, where it has no fault.
+/// The name that the text of a page is, where the page has no fault.
 fn name_in(page: Page) -> RecordResult<String>
     ensures { outcome_view string_bytes result ≡ page_name (page_view page) }
 {
@@ -178,7 +153,7 @@ fn name_in(page: Page) -> RecordResult<String>
     }
 }
 
-/// A name, where it is one of a file.
+/// A name, where it is the name of a file.
 fn checked_name(name: String) -> RecordResult<String>
     ensures { outcome_view string_bytes result ≡ checked_name (string_bytes name) }
 {

@@ -4,7 +4,7 @@ ghost use Rattle.liquid_model.specs.Maps.{empty};
 ghost use Rattle.liquid_model.specs.View.{pairs_view};
 ghost use Rattle.liquid_json.specs.Json.{data_of};
 ghost use Rattle.liquid_syntax.specs.Templates.{tree_of};
-ghost use Rattle.liquid_records.specs.Records.{comes_to};
+ghost use Rattle.liquid_records.specs.Records.{record_outcome};
 ghost use Rattle.liquid_records.specs.Steps.{IsRecordStep, Leaves};
 ghost use Rattle.liquid_records.specs.Views.{fate_view, job_of, job_view, made_view, merge_names};
 ghost use Rattle.liquid_records.specs.Views.{outcome_view, pattern_of};
@@ -58,60 +58,51 @@ impl Merge {
     /// or why the record has no page there: then no file changed but one that can't be written.
     ///
     /// It is `Memory` where a growth was refused, and no other kind; then no file changed, and the
-    /// merge is gone.
-    #[tactic(auto, using(crate::proofs::Stepping::step_of, crate::proofs::Stepping::leaves_of))]
+    /// merge is as it was, so that the next record can be taken.
     pub fn take<D: Disk>(
-        self,
+        &mut self,
         alloc: Global,
         number: usize,
         data: Object,
         disk: &mut D,
-    ) -> Result<(Merge, Fate)>
+    ) -> Result<Fate>
         ensures step { IfOk result
-            (λ p. IsRecordStep number (comes_to (job_of self) (Some (pattern_of self))
+            (λ fate. IsRecordStep number
+            (record_outcome (job_of self.old) (Some (pattern_of self.old))
             (Ok (pairs_view «data».entries)))
-            (merge_names self) (fate_view p.1) (merge_names p.0)) }
-        ensures files { IfSome (D.files disk.old) (λ f. IfOk result (λ p.
-            Leaves (comes_to (job_of self) (Some (pattern_of self))
-            (Ok (pairs_view «data».entries))) (fate_view p.1) f (D.files disk.new))) }
-        ensures job { IfOk result (λ p. job_of p.0 ≡ job_of self) }
-        ensures pattern { IfOk result (λ p. pattern_of p.0 ≡ pattern_of self) }
+            (merge_names self.old) (fate_view fate) (merge_names self.new)) }
+        ensures files { IfSome (D.files disk.old) (λ f. IfOk result (λ fate.
+            Leaves (record_outcome (job_of self.old) (Some (pattern_of self.old))
+            (Ok (pairs_view «data».entries))) (fate_view fate) f (D.files disk.new))) }
+        ensures job { job_of self.new ≡ job_of self.old }
+        ensures pattern { pattern_of self.new ≡ pattern_of self.old }
+        ensures names { OnErr result (merge_names self.new ≡ merge_names self.old) }
         ensures untouched { OnErr result (D.files disk.new ≡ D.files disk.old) }
         ensures memory { IfErr result (λ e. e.kind ≡ ErrorKind.Memory) }
     {
-        let Merge {
-            job,
-            pattern,
-            names,
-        } = self;
-        let (job, outcome) = job.made(alloc, data, Some(&pattern))?;
-        let mut names = names;
-        let fate = put_if_made(alloc, number, outcome, &mut names, disk)?;
-        let merge = Merge {
-            job,
-            pattern,
-            names,
-        };
-        Ok((merge, fate))
+        let outcome = self.job.make_page(alloc, data, Some(&self.pattern))?;
+        put_if_made(alloc, number, outcome, &mut self.names, disk)
     }
 
     /// As `take`, of a record that is a text of JSON.
     pub fn take_json<D: Disk>(
-        self,
+        &mut self,
         alloc: Global,
         number: usize,
         text: &str,
         disk: &mut D,
-    ) -> Result<(Merge, Fate)>
+    ) -> Result<Fate>
         ensures step { IfOk result
-            (λ p. IsRecordStep number (comes_to (job_of self) (Some (pattern_of self))
-            (data_of text.now))
-            (merge_names self) (fate_view p.1) (merge_names p.0)) }
-        ensures files { IfSome (D.files disk.old) (λ f. IfOk result (λ p.
-            Leaves (comes_to (job_of self) (Some (pattern_of self)) (data_of text.now))
-            (fate_view p.1) f (D.files disk.new))) }
-        ensures job { IfOk result (λ p. job_of p.0 ≡ job_of self) }
-        ensures pattern { IfOk result (λ p. pattern_of p.0 ≡ pattern_of self) }
+            (λ fate. IsRecordStep number
+            (record_outcome (job_of self.old) (Some (pattern_of self.old)) (data_of text.now))
+            (merge_names self.old) (fate_view fate) (merge_names self.new)) }
+        ensures files { IfSome (D.files disk.old) (λ f. IfOk result (λ fate.
+            Leaves
+            (record_outcome (job_of self.old) (Some (pattern_of self.old)) (data_of text.now))
+            (fate_view fate) f (D.files disk.new))) }
+        ensures job { job_of self.new ≡ job_of self.old }
+        ensures pattern { pattern_of self.new ≡ pattern_of self.old }
+        ensures names { OnErr result (merge_names self.new ≡ merge_names self.old) }
         ensures untouched { OnErr result (D.files disk.new ≡ D.files disk.old) }
         ensures memory { IfErr result (λ e. e.kind ≡ ErrorKind.Memory) }
     {
@@ -119,7 +110,7 @@ impl Merge {
             Ok(data) => self.take(alloc, number, data, disk),
             Err(fault) => match fault.kind {
                 ErrorKind::Memory => Err(fault),
-                _ => Ok((self, Err(Failure::NoPage(Why::NoData(fault))))),
+                _ => Ok(Err(Failure::NoPage(Why::NoData(fault)))),
             },
         }
     }
@@ -137,6 +128,7 @@ fn put_if_made<D: Disk>(
         (map_names names.old) (fate_view fate) (map_names names.new)) }
     ensures files { IfSome (D.files disk.old) (λ f. IfOk result (λ fate.
         Leaves (outcome_view made_view outcome) (fate_view fate) f (D.files disk.new))) }
+    ensures names { OnErr result (map_names names.new ≡ map_names names.old) }
     ensures untouched { OnErr result (D.files disk.new ≡ D.files disk.old) }
     ensures memory { IfErr result (λ e. e.kind ≡ ErrorKind.Memory) }
 {
@@ -147,6 +139,7 @@ fn put_if_made<D: Disk>(
 }
 
 /// Writes a page into the file of its name, unless the name came before.
+#[tactic(auto, using(crate::proofs::Named::same_names))]
 fn put<D: Disk>(
     alloc: Global,
     number: usize,
@@ -160,6 +153,7 @@ fn put<D: Disk>(
     ensures files { IfSome (D.files disk.old)
         (λ f. IfOk result (λ fate. Leaves (Ok (made_view made)) (fate_view fate) f
         (D.files disk.new))) }
+    ensures names { OnErr result (map_names names.new ≡ map_names names.old) }
     ensures untouched { OnErr result (D.files disk.new ≡ D.files disk.old) }
     ensures memory { IfErr result (λ e. e.kind ≡ ErrorKind.Memory) }
 {

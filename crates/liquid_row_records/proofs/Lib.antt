@@ -1,5 +1,6 @@
 pub mod Columns
 pub mod Fields
+pub mod LeftOut
 pub mod LineReadings
 pub mod Places
 pub mod RowRecords

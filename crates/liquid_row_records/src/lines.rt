@@ -1,7 +1,7 @@
 //! Records that are a line of JSON each.
 ghost use Rattle.std.specs.Char.{is_ascii_whitespace};
-ghost use Rattle.std.specs.List.{list_all};
-ghost use Rattle.std.specs.Prelude.{◌≡◌, IfOk, IfSome, OnOk, false, true};
+ghost use Rattle.std.specs.List.{list_all, list_any};
+ghost use Rattle.std.specs.Prelude.{◌≡◌, ◌==◌, IfOk, IfSome, OnOk, false, true};
 ghost use Rattle.std.specs.Io.BufRead.{DropsThrough, take_through};
 ghost use Rattle.liquid_row_records.specs.Lines.{lines_left};
 
@@ -14,6 +14,8 @@ use std::io::{BufRead, BufReader, Read};
 pub struct Lines<R> {
     reader: BufReader<R>,
     line: Vec<u8>,
+    /// Whether there was no room for the line that was read last, which is left out then.
+    is_left_out: bool,
 }
 
 impl<R: Read + Drop> Lines<R> {
@@ -23,18 +25,24 @@ impl<R: Read + Drop> Lines<R> {
             Ok(reader) => Ok(Lines {
                 reader,
                 line: Vec::new(alloc),
+                is_left_out: false,
             }),
             Err(_) => Err(AllocError),
         }
     }
 
-    /// Reads the next line that isn't blank. Whether there is one.
+    /// Reads the next line that isn't blank. Whether there is one. A line for which there is no
+    /// room counts as one, and is left out.
     pub fn advance(&mut self) -> io::Result<bool>
-        ensures found { IfOk result (λ found. found ≡ true →
+        ensures found { IfOk result (λ found. found ≡ true → self.new.is_left_out ≡ false →
             list_all is_ascii_whitespace self.new.line.items ≡ false) }
     {
         for _ in 0..u64::MAX {
-            if self.read_line()? == 0 {
+            let count = self.read_line()?;
+            if self.is_left_out {
+                return Ok(true);
+            }
+            if count == 0 {
                 return Ok(false);
             }
             if !is_blank(self.line.as_slice()) {
@@ -45,15 +53,45 @@ impl<R: Read + Drop> Lines<R> {
     }
 
     /// Reads the next line with its end, and answers how many bytes it has: none where the text
-    /// ends. All that stands after it is still to come.
+    /// ends. A line for which there is no room is left out. All that stands after the line is still
+    /// to come.
     fn read_line(&mut self) -> io::Result<usize>
-        ensures line { OnOk result (IfSome (lines_left R.remaining self.old)
+        ensures line { OnOk result (self.new.is_left_out ≡ false →
+            IfSome (lines_left R.remaining self.old)
             (λ text. self.new.line.items ≡ take_through 10 text)) }
         ensures rest { OnOk result (DropsThrough (lines_left R.remaining self.old)
             (lines_left R.remaining self.new) 10) }
     {
         self.line.clear();
-        self.reader.read_until(b'\n', &mut self.line)
+        self.is_left_out = false;
+        match self.reader.read_until(b'\n', &mut self.line) {
+            Ok(count) => Ok(count),
+            Err(refused) => self.leave_out(refused),
+        }
+    }
+
+    /// Leaves out a line whose beginning was read, where there was no room for more.
+    fn leave_out(&mut self, refused: io::Error) -> io::Result<usize>
+        ensures left_out { OnOk result (self.new.is_left_out ≡ true) }
+        ensures no_end { OnOk result (list_any (λ b. b == 10) self.old.line.items ≡ false) }
+        ensures rest { OnOk result (DropsThrough (lines_left R.remaining self.old)
+            (lines_left R.remaining self.new) 10) }
+    {
+        let has_end = self.line.as_slice().contains(&b'\n');
+        if refused.kind() != io::ErrorKind::OutOfMemory || has_end {
+            return Err(refused);
+        }
+        self.is_left_out = true;
+        self.line.clear();
+        self.line.shrink_to_fit();
+        self.reader.skip_until(b'\n')
+    }
+
+    /// Whether there was no room for the line that was read last.
+    pub fn is_left_out(&self) -> bool
+        ensures { result ≡ self.now.is_left_out }
+    {
+        self.is_left_out
     }
 
     /// The line that was read last.

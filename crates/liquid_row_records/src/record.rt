@@ -17,7 +17,7 @@ use std::fmt;
 /// Why a row is no record.
 #[derive(Clone, Copy, Debug, Drop)]
 pub enum RowFault {
-    /// It has so many cells, and there are so many columns.
+    /// It doesn't have a cell for each column: the number of its cells, and that of the columns.
     Cells(usize, usize),
     /// A cell isn't UTF-8.
     NotUtf8,

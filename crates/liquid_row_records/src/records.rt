@@ -72,7 +72,9 @@ impl<R: Read + Drop> Records<R> {
         Records { source, number: 0 }
     }
 
-    /// Reads the next record. Whether there is one.
+    /// Reads the next record. Whether there is one. A line for which there is no room is one
+    /// without data; a row for which there is none is a failed read, since nothing says where it
+    /// ends.
     pub fn advance(&mut self) -> io::Result<bool>
         ensures number { IfOk result (λ found. self.new.number ≡
             record_number_after found self.old.number) }
@@ -104,13 +106,18 @@ impl<R: Read + Drop> Records<R> {
         }
     }
 
-    /// Its data, or why it has none. The answer is `Memory` where a growth was refused, and no
-    /// other kind.
+    /// Its data, or why it has none. The answer is `Memory` where a growth was refused, also that
+    /// of the line that it stands in, and no other kind.
     pub fn data(&self, alloc: Global, form: DataForm) -> Result<RecordReading<'_>>
         ensures { IsValueOrMemory reading_view result (reading_of form self.now.source) }
     {
         match &self.source {
-            Source::Lines(lines) => data_of_line(alloc, lines.line(), form),
+            Source::Lines(lines) => {
+                if lines.is_left_out() {
+                    return Err(Error::from(AllocError));
+                }
+                data_of_line(alloc, lines.line(), form)
+            }
             Source::Rows(rows) => match rows.data(alloc)? {
                 Ok(data) => Ok(Ok(RecordData::Data(in_form(alloc, data, form)?))),
                 Err(fault) => Ok(Err(RecordFault::NoRow(fault))),

@@ -8,7 +8,7 @@ use Rattle.json.specs.Layout.{pretty}
 use Rattle.json.specs.Token.{Token}
 use Rattle.liquid_model.specs.Texts.{Text}
 use Rattle.liquid_model.specs.Uses.{Use, nothing, everything, parts, Fields, no_fields, field}
-use Rattle.liquid_model.specs.Uses.{ItemUse, uncounted, every}
+use Rattle.liquid_model.specs.Uses.{ItemUse, uncounted, up_to}
 
 -- a text under a key
 abbrev pub entry_tokens : Text → Text → List Token
@@ -46,7 +46,7 @@ abbrev mutual
   -- what a loop goes over
   pub item_use_tokens : ItemUse → List Token
   item_use_tokens uncounted = []
-  item_use_tokens (every u) = Token.key (codes "items") ∷ use_tokens u
+  item_use_tokens (up_to n u) = Token.key (codes "items") ∷ use_tokens u
 
 abbrev pub properties_tokens : Fields → List Token
 properties_tokens members = properties_start ++ property_tokens members

@@ -8,7 +8,7 @@ ghost use Rattle.liquid_schemas.specs.Schemas.{properties_start, properties_toke
 ghost use Rattle.liquid_schemas.specs.Schemas.{schema_text, use_tokens};
 
 use json::{Pretty, Token};
-use liquid_core::{Use, Uses};
+use liquid_core::{ItemUse, Use, Uses};
 use std::alloc::{AllocError, Global};
 
 /// The draft of JSON Schema that the schema is of.
@@ -91,13 +91,13 @@ fn are_none(members: &Uses) -> bool
 
 /// Puts the schema of the items, where a loop goes over them.
 #[cycle(put)]
-fn put_items(items: &Option<Box<Use>>, schema: &mut Pretty) -> Result<(), AllocError>
+fn put_items(items: &Option<ItemUse>, schema: &mut Pretty) -> Result<(), AllocError>
     ensures { OnOk result (schema.new ≡ schema.old ++ item_use_tokens (turns_view items.now)) }
 {
     match items {
         Some(item) => {
             schema.token(Token::Key("items"))?;
-            put_schema(item, schema)
+            put_schema(&item.each, schema)
         }
         None => Ok(()),
     }

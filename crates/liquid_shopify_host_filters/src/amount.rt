@@ -102,7 +102,8 @@ fn push_grouped(out: &mut String, digits: &str, separator: &str) -> Result<()>
     Ok(())
 }
 
-/// Appends the separator where so many digits follow that a group of three begins.
+/// Appends the separator where a group of three digits begins: where `left` digits follow, and
+/// `left` is a multiple of three but not 0.
 fn push_separator(out: &mut String, left: usize, separator: &str) -> Result<()>
     ensures { IsValueOrMemory (λ _. string_bytes out.new) result
         (string_bytes out.old ++ separator_at separator.now left) }

@@ -14,7 +14,7 @@ use Rattle.liquid_meaning.specs.Isolation.{Agree}
 use Rattle.liquid_meaning.proofs.Maps.{AgreeAt, same_cut}
 use Rattle.liquid_model.proofs.Maps.{same_text_equal}
 use Rattle.liquid_meaning.proofs.Changes.{agreeing_runs}
-use Rattle.liquid_lib.specs.Pages.{fault_of, fresh, setting_over, page_over}
+use Rattle.liquid_lib.specs.Pages.{fault_of, new_run_environment, setting_over, page_over}
 use Rattle.liquid_syntax.proofs.Held.{apart}
 use Rattle.liquid_site.specs.Contents.{Trees, Contents, page_of, mentions_any}
 use Rattle.liquid_core.specs.DataChanges.{with_value}
@@ -31,19 +31,19 @@ agree_other N m name d out q inside = at (same_text name q) (same_text_equal nam
     at true e = absurd (clash (subst (λ y. N y ≡ false) (e tt) out) inside)
     at false e = refl
 
-agree_fresh : (N : Names) (own other : Map Datum) → cut_map N own ≡ cut_map N other → Agree N (fresh own) (fresh other)
+agree_fresh : (N : Names) (own other : Map Datum) → cut_map N own ≡ cut_map N other → Agree N (new_run_environment own) (new_run_environment other)
 agree_fresh N own other h = λ i. record {
-  local = cut_map N (fresh own).local;
-  assigned = cut_map N (fresh own).assigned;
-  counters = cut_map N (fresh own).counters;
+  local = cut_map N (new_run_environment own).local;
+  assigned = cut_map N (new_run_environment own).assigned;
+  counters = cut_map N (new_run_environment own).counters;
   globals = h i;
-  registers = (fresh own).registers;
+  registers = (new_run_environment own).registers;
 }
 
-same_page : (depth : ℕ) (partials : Trees) (own other : Map Datum) (nodes : Nodes) → Agree (mentioned (run_names partials nodes)) (fresh own) (fresh other) → page_over depth partials own nodes ≡ page_over depth partials other nodes
+same_page : (depth : ℕ) (partials : Trees) (own other : Map Datum) (nodes : Nodes) → Agree (mentioned (run_names partials nodes)) (new_run_environment own) (new_run_environment other) → page_over depth partials own nodes ≡ page_over depth partials other nodes
 unfolding page_over
 same_page depth partials own other nodes h =
-    let r = agreeing_runs (setting_over partials) depth nodes (fresh own) (fresh other) h in
+    let r = agreeing_runs (setting_over partials) depth nodes (new_run_environment own) (new_run_environment other) h in
     λ i. record { text = r.text i; fault = fault_of (r.end i) }
 
 pub untouched : UntouchedPages

@@ -44,19 +44,20 @@ impl LimitedSite {
     ghost use Rattle.liquid_site.specs.LimitedViews.{limited_view, limits_of};
     ghost use Rattle.liquid_site.specs.Steps.{no_contents};
 
-    /// A site without pages, partials and data, of so many nested partials. It takes no memory.
+    /// A site without pages, partials and data, with this limit on nested partials. It takes no
+    /// memory.
     pub fn new(alloc: Global, language: Language, depth: u32, limits: Limits) -> LimitedSite
         ensures contents { (limited_view result).contents ≡ no_contents depth }
         ensures language { (limited_view result).language ≡ language }
         ensures rendered { (limited_view result).rendered ≡ 0 }
         ensures limits { limits_of result ≡ limits }
     {
-        LimitedSite::over(alloc, language, depth, Object::new(alloc), limits)
+        LimitedSite::with_data(alloc, language, depth, Object::new(alloc), limits)
     }
 
-    /// A site over this data, without pages and partials, of so many nested partials. It takes no
-    /// memory.
-    pub fn over(
+    /// A site over this data, without pages and partials, with this limit on nested partials. It
+    /// takes no memory.
+    pub fn with_data(
         alloc: Global,
         language: Language,
         depth: u32,
@@ -71,7 +72,7 @@ impl LimitedSite {
     {
         LimitedSite {
             limits,
-            parts: SiteParts::over(alloc, language, depth, data),
+            parts: SiteParts::with_data(alloc, language, depth, data),
         }
     }
 

@@ -64,7 +64,7 @@ impl<P: Drop> SiteParts<P> {
     ghost use Rattle.liquid_site.specs.inside.Keeping.{KeepsPages};
 
     /// The parts of a site over this data, without pages and partials. It takes no memory.
-    pub(crate) fn over(alloc: Global, language: Language, depth: u32, data: Object) -> Self
+    pub(crate) fn with_data(alloc: Global, language: Language, depth: u32, data: Object) -> Self
         ensures parts { site_parts_view result ≡ record {
           language = language;
           contents = record (no_contents depth) { «data» = held «data» };

@@ -39,25 +39,26 @@ impl Site {
     ghost use Rattle.liquid_site.specs.SiteViews.{contents_of, language_of, rendered_count};
     ghost use Rattle.liquid_site.specs.Steps.{no_contents};
 
-    /// A site without pages, partials and data, of so many nested partials. It takes no memory.
+    /// A site without pages, partials and data, with this limit on nested partials. It takes no
+    /// memory.
     pub fn new(alloc: Global, language: Language, depth: u32) -> Site
         ensures contents { contents_of result ≡ no_contents depth }
         ensures language { language_of result ≡ language }
         ensures rendered { rendered_count result ≡ 0 }
     {
-        Site::over(alloc, language, depth, Object::new(alloc))
+        Site::with_data(alloc, language, depth, Object::new(alloc))
     }
 
-    /// A site over this data, without pages and partials, of so many nested partials. It takes no
-    /// memory.
-    pub fn over(alloc: Global, language: Language, depth: u32, data: Object) -> Site
+    /// A site over this data, without pages and partials, with this limit on nested partials. It
+    /// takes no memory.
+    pub fn with_data(alloc: Global, language: Language, depth: u32, data: Object) -> Site
         ensures contents { contents_of result ≡
             record (no_contents depth) { «data» = held «data» } }
         ensures language { language_of result ≡ language }
         ensures rendered { rendered_count result ≡ 0 }
     {
         Site {
-            parts: SiteParts::over(alloc, language, depth, data),
+            parts: SiteParts::with_data(alloc, language, depth, data),
         }
     }
 

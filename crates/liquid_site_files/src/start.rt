@@ -20,5 +20,5 @@ pub fn site_of(alloc: Global, data: &str) -> Result<Site>
     ensures language { IfOk result (λ site. IsStandard (language_of site)) }
 {
     let data = data_from_json(alloc, data)?;
-    Ok(Site::over(alloc, language(alloc)?, DEFAULT_DEPTH, data))
+    Ok(Site::with_data(alloc, language(alloc)?, DEFAULT_DEPTH, data))
 }

@@ -25,7 +25,7 @@ accepted_call name (Some filter) xs = cond (registered_counts filter (length xs)
   arguments = xs;
 })) None
 
--- why a call isn't accepted: no filter is registered, or it doesn't take so many arguments
+-- why a call isn't accepted: no filter is registered, or it takes another number of arguments
 abbrev pub call_fault : Option RegisteredFilter → FaultKind
 call_fault None = UnknownFilter
 call_fault (Some filter) = FilterArguments

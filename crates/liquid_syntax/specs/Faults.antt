@@ -5,7 +5,7 @@ use Rattle.liquid_lexer.specs.declared.fault.FaultKind.{FaultKind}
 use Rattle.liquid_lexer.specs.declared.fault.ParseError.{ParseError}
 use Rattle.liquid_lexer.specs.declared.fault.ParseError.TheVariants as errors
 
--- a fault stands at the place with so many bytes of the source remaining
+-- a fault stands at the place `remaining` bytes before the end of the source
 abbrev pub FaultsAt : {X : Type 0} → ℕ → Result X ParseError → Type 0
 FaultsAt remaining (Ok x) = Unit {0}
 FaultsAt remaining (Err errors.Memory) = Unit {0}

@@ -79,7 +79,7 @@ pub(crate) fn end_last(node: &mut Node, end: usize)
     }
 }
 
-/// A further `when` of a `case`, of which it isn't known yet where its body ends.
+/// Adds a further `when` to a `case`. Where its body ends isn't known yet.
 pub(crate) fn add_arm(node: &mut Node, values: Vec<Expression>) -> Result<(), ParseError>
     ensures added { OnOk result (IsAdded (map expression_view values.items) (flat_of node.old)
         (flat_of node.new)) }

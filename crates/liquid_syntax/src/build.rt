@@ -165,8 +165,8 @@ impl Builder {
         Ok(())
     }
 
-    /// The end of a body that an `else` may end, and the start of the last. `left` is the number of
-    /// bytes of the source from the piece on.
+    /// The end of a body that an `else` may end, and the start of the last. The piece begins
+    /// `remaining` bytes before the end of the source.
     fn otherwise(&mut self, remaining: usize) -> Result<(), ParseError>
         requires { IsBuilt self.old }
         ensures stack { (ls : List Level) (cur : Nodes) → IsBuilding self.old ls cur →
@@ -332,7 +332,7 @@ impl Builder {
         Ok(())
     }
 
-    /// Adds the next piece, with `left` bytes of the source from it on.
+    /// Adds the next piece, which begins `remaining` bytes before the end of the source.
     pub fn add(&mut self, statement: Statement, remaining: usize) -> Result<(), ParseError>
         requires built { IsBuilt self.old }
         requires sound { IsSound statement }

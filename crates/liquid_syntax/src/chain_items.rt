@@ -160,7 +160,7 @@ pub fn expected(at: &str, items_remaining: usize, wanted: Expectation) -> ParseE
     ParseError::Fault(Fault {
         kind: FaultKind::Expected,
         remaining: at.len(),
-        wanted,
+        expected: wanted,
         items_remaining,
     })
 }

@@ -7,8 +7,8 @@ ghost use Rattle.liquid_language.specs.Controls.{end_word};
 use liquid_language::{Block, end_tag};
 use liquid_lexer::{Expectation, Fault, FaultKind, ParseError};
 
-/// The fault of an end, an `else` or an `elsif` where no body can end. `left` is the number of
-/// bytes of the source from it on.
+/// The fault of an end, an `else` or an `elsif` where no body can end. It begins `remaining` bytes
+/// before the end of the source.
 pub(crate) fn no_body(remaining: usize) -> Fault
     ensures kind { result.kind ≡ FaultKind.UnknownTag }
     ensures place { result.remaining ≡ remaining }
@@ -16,12 +16,13 @@ pub(crate) fn no_body(remaining: usize) -> Fault
     Fault {
         kind: FaultKind::UnknownTag,
         remaining,
-        wanted: Expectation::BlockStart,
+        expected: Expectation::BlockStart,
         items_remaining: 0,
     }
 }
 
-/// The fault of a block that nests too deep, with `left` bytes of the source from it on.
+/// The fault of a block that nests too deep and begins `remaining` bytes before the end of the
+/// source.
 pub(crate) fn too_nested(remaining: usize) -> ParseError
     ensures kind { IsOfKind FaultKind.TooNested result }
     ensures place { IsAt remaining result }
@@ -29,7 +30,7 @@ pub(crate) fn too_nested(remaining: usize) -> ParseError
     ParseError::Fault(Fault {
         kind: FaultKind::TooNested,
         remaining,
-        wanted: Expectation::FewerBlocks,
+        expected: Expectation::FewerBlocks,
         items_remaining: 0,
     })
 }
@@ -38,12 +39,12 @@ pub(crate) fn too_nested(remaining: usize) -> ParseError
 pub(crate) fn missing_end(block: Block) -> Fault
     ensures kind { result.kind ≡ FaultKind.MissingEnd }
     ensures place { result.remaining ≡ 0 }
-    ensures wanted { end_of result.wanted ≡ end_word block }
+    ensures wanted { end_of result.expected ≡ end_word block }
 {
     Fault {
         kind: FaultKind::MissingEnd,
         remaining: 0,
-        wanted: Expectation::End(end_tag(block)),
+        expected: Expectation::End(end_tag(block)),
         items_remaining: 0,
     }
 }

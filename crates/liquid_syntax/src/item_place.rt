@@ -18,11 +18,11 @@ pub enum PieceItem {
     Last(usize),
     /// The name of the filter at this index of the chain.
     Filter(usize),
-    /// Of the filter at this index the argument at the second one.
+    /// The argument at the second index, of the filter at the first one.
     Argument(usize, usize),
     /// The value at this index of a `cycle`.
     CycleValue(usize),
-    /// Of the `when` at this index of a `case` the value at the second one.
+    /// The value at the second index, of the `when` at the first one of a `case`.
     WhenValue(usize, usize),
     /// The value of the pair at this index, after its `:` or `=`, or after `with`.
     Pair(usize),
@@ -110,7 +110,8 @@ fn from_index<'s>(items: &Vec<PlacedItem<'s>>, index: Option<usize>) -> Option<&
     Some(items.get(index?)?.from)
 }
 
-/// The index so far after the bar before the filter at an index of the chain.
+/// The index of the item that is `items_after` items after the bar of the filter at an index of
+/// the chain.
 fn after_bar(items: &Vec<PlacedItem<'_>>, filter: usize, items_after: usize) -> Option<usize> {
     let mut left = filter;
     for (index, placed) in items.iter().enumerate() {
@@ -171,7 +172,7 @@ fn after_pair_mark(items: &Vec<PlacedItem<'_>>, pair: usize) -> Option<usize> {
     None
 }
 
-/// The index after the last such word that a `:` follows, and after that.
+/// The index after the last `word` with a `:` behind it, and after that `:`.
 fn after_part(items: &Vec<PlacedItem<'_>>, word: &str) -> Option<usize> {
     let mut found = None;
     let mut after_word = false;

@@ -28,7 +28,7 @@ pub struct BodyEnds {
 }
 
 impl BodyEnds {
-    /// The bodies of a node of which it isn't known yet where they end.
+    /// The ends of bodies while they aren't known yet.
     pub fn open() -> BodyEnds
         ensures first { result.first_end ≡ 0 }
         ensures last { result.last_end ≡ 0 }

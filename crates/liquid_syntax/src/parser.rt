@@ -22,7 +22,7 @@ use liquid_lexer::{
 };
 use std::alloc::{AllocError, Global};
 
-/// How many bytes a source has at most that a template keeps.
+/// The most bytes of a source that a template keeps.
 const MOST_KEPT: usize = 1_048_576;
 
 /// The template that a source is, in a language.
@@ -135,7 +135,7 @@ impl Reader<'_> {
         }
     }
 
-    /// Adds a text, with `left` bytes of the source from it on.
+    /// Adds the text of a piece that begins `remaining` bytes before the end of the source.
     fn text(
         &mut self,
         alloc: Global,
@@ -150,9 +150,9 @@ impl Reader<'_> {
         Ok(())
     }
 
-    /// An output or a tag and what follows it, read on by the body that is to stand there. The
-    /// answer is whether the closer strips what is left, and what that is. `at` is the source from
-    /// the piece on.
+    /// Adds an output or a tag, with the body after it where that is read as a whole. The answer
+    /// is whether the closer strips what follows it, and the source from there on. `at` is the
+    /// source from the piece on.
     fn piece<'t>(
         &mut self,
         alloc: Global,

@@ -112,8 +112,8 @@ impl Partials {
         &self.templates
     }
 
-    /// The names that the templates mention, given to a visitor. The answer is whether it ended the
-    /// telling.
+    /// Gives a visitor the names that the templates mention. The answer is whether the visitor
+    /// ended the visit.
     pub(crate) fn visit_names<V: NameVisitor>(&self, visitor: &mut V) -> bool
         ensures { V.tells visitor.old (partials_list_names (values_of self.now.templates.entries))
             result

@@ -25,8 +25,8 @@ impl Position {
         }
         let first = if lines == 0 { self.column } else { 1 };
         Position {
-            line: further(self.line, lines),
-            column: further(first, characters),
+            line: saturating_sum(self.line, lines),
+            column: saturating_sum(first, characters),
         }
     }
 }
@@ -47,15 +47,15 @@ pub(crate) fn rest_from<'s>(source: &'s str, place: Position) -> &'s str {
     characters.as_str()
 }
 
-/// So much more, up to the greatest value.
-fn further(from: u32, count: usize) -> u32 {
+/// The sum, capped at the greatest value.
+fn saturating_sum(from: u32, count: usize) -> u32 {
     from.saturating_add(u32::try_from(count).unwrap_or(u32::MAX))
 }
 
 /// The places of the nodes that are read so far. The source is gone through once, piece by piece.
 #[derive(Drop)]
 pub(crate) struct Positions<'s> {
-    /// For each node of the list, where the piece begins that it is.
+    /// For each node of the list, where its piece begins.
     pub(crate) nodes: Vec<Position>,
     /// The place that is reached, and the source from there on.
     reached: Position,
@@ -71,8 +71,8 @@ impl<'s> Positions<'s> {
         }
     }
 
-    /// A piece begins with `left` bytes of the source after it, and with it the list has `count`
-    /// nodes.
+    /// Marks a piece that begins `remaining` bytes before the end of the source, and with which
+    /// the list has `count` nodes.
     pub(crate) fn mark(&mut self, remaining: usize, count: usize) -> Result<(), AllocError> {
         let passed = self.rest.len().saturating_sub(remaining);
         if let Some((before, rest)) = self.rest.split_at_checked(passed) {

@@ -44,7 +44,7 @@ fn next_further(items: &mut VecDeque<Item<'_>>, separators: Separators) -> Optio
     next_value(items)
 }
 
-/// Whether the items are none but a `,`, or none at all.
+/// Whether the items are a single `,`, or none at all.
 pub(crate) fn is_last_comma(items: &VecDeque<Item<'_>>) -> bool
     ensures { result ≡ ends_values Separators.Commas (tokens_view items.now.items) }
 {

@@ -1,5 +1,5 @@
 //! The names that nodes mention, given to a visitor. Each function answers whether the visitor
-//! ended the telling.
+//! ended the visit.
 ghost use Rattle.std.specs.Prelude.{◌∷◌, ◌++◌, option_map, string_bytes};
 ghost use Rattle.liquid_core.specs.ExpressionView.{expression_view};
 ghost use Rattle.liquid_syntax.specs.Flats.{arm_values, bindings_view, window_view};

@@ -14,8 +14,8 @@ enum CasePart {
     Other,
 }
 
-/// The source from the `when` at an index on, of the `case` with which the source begins, where it
-/// has so many.
+/// The source from the `when` at `index` on, of the `case` with which the source begins; `None`
+/// where that `when` isn't found.
 pub(crate) fn from_when<'s>(
     alloc: Global,
     source: &'s str,
@@ -42,7 +42,8 @@ pub(crate) fn from_when<'s>(
     Ok(None)
 }
 
-/// What the piece is with which the text begins, and what follows it and its body that isn't read.
+/// What the piece at the start of the text is, and what follows it, after its body where that
+/// isn't read.
 fn past_piece(alloc: Global, text: &str) -> Result<Option<(CasePart, &str)>, AllocError> {
     let Some(inside) = past_byte(text, b'{') else {
         return Ok(None);
@@ -70,7 +71,7 @@ fn part_of(piece: &Piece<'_>) -> CasePart {
     }
 }
 
-/// The body after the piece that isn't read.
+/// Which body follows the piece, where that body isn't read.
 fn body_of(piece: &Piece<'_>) -> Option<Body> {
     match bare_name(piece) {
         Some("raw") => Some(Body::Raw),

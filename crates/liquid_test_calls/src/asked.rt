@@ -2,10 +2,10 @@
 //!
 //! Uses stand in a row's `with`, as a map from names. Of a value `null` asks nothing, `true`
 //! everything, and a map its members. A list has what is asked of each item that a loop goes over,
-//! and after it the members.
+//! after it the members, and after these the most items that are seen.
 use crate::faults::no_call;
 use liquid_completion::complete;
-use liquid_core::{Object, Result, Use, Uses, Value};
+use liquid_core::{ItemUse, Object, Result, Use, Uses, Value};
 use liquid_json::data_for;
 use liquid_test_refusals::WorkedRow;
 use std::alloc::Global;
@@ -76,10 +76,23 @@ fn looped_use(alloc: Global, parts: &Vec<Value>) -> Result<Use> {
         Some(value) => use_of(alloc, value)?,
         None => Use::Nothing,
     };
-    let items = Some(Box::new(alloc, item)?);
     let members = match parts.get(1) {
         Some(value) => uses_of(alloc, value)?,
         None => Uses::new(alloc),
     };
-    Ok(Use::Parts { members, items })
+    let items = ItemUse {
+        limit: limit_of(parts),
+        each: Box::new(alloc, item)?,
+    };
+    Ok(Use::Parts {
+        members,
+        items: Some(items),
+    })
+}
+
+fn limit_of(parts: &Vec<Value>) -> Option<usize> {
+    match parts.get(2) {
+        Some(Value::Integer(most)) if *most >= 0 => Some(*most as usize),
+        _ => None,
+    }
 }

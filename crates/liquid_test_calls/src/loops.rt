@@ -84,7 +84,7 @@ fn place(value: &Value) -> usize {
     }
 }
 
-/// The amounts that a `for` asks for, and its window over so many items as the row says.
+/// The amounts that a `for` asks for, and its window over as many items as the row's `on` says.
 fn window_call(
     alloc: Global,
     row: &WorkedRow,

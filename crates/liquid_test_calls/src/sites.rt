@@ -167,7 +167,7 @@ fn has_pages<S: AnySite>(site: &S, wanted: &Object) -> bool {
     }
 }
 
-/// Whether so many pages were rendered as is wanted.
+/// Whether the number of rendered pages is the wanted one.
 fn has_rendered<S: AnySite>(site: &S, wanted: &Object) -> bool {
     match look_up(wanted, "rendered") {
         Some(Value::Integer(count)) => u64::try_from(*count) == Ok(site.rendered()),

@@ -9,14 +9,14 @@ use liquid_syntax::{BlockKind, TagKind};
 use liquid_test_refusals::{Reporter, WorkedRow, items, text_of};
 use std::alloc::Global;
 
-/// Whether the standard language, as it is made, has a filter of the row's source that takes so
-/// many arguments.
+/// Whether the standard language, as it is made, has the filter that the row's `source` names, and
+/// that filter takes as many arguments as `on` says.
 pub(crate) fn has_filter(alloc: Global, row: &WorkedRow) -> Result<bool> {
     let language = language(alloc)?;
     Ok(accepts(&language, row.source.as_str(), number_or(&row.on, 0)))
 }
 
-/// Whether the language has a filter of the name that takes so many arguments.
+/// Whether the language has a filter of the name that takes `count` arguments.
 fn accepts(language: &Language, name: &str, count: usize) -> bool {
     match language.filters.get(name) {
         Some(filter) => filter.accepts(count),

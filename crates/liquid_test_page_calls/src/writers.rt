@@ -7,8 +7,8 @@ use std::alloc::Global;
 use std::io;
 use std::io::Write;
 
-/// Takes at most so many bytes at each write, and nothing once it holds as many as it has room
-/// for, and fails once no write is left.
+/// Takes at most `most` bytes at each write, nothing once it holds `room` bytes, and fails once no
+/// write is left.
 #[derive(Drop)]
 pub(crate) struct FailingWriter {
     pub(crate) bytes: Vec<u8>,

@@ -106,7 +106,7 @@ abbrev pub SliceIsOne : Type 0
 SliceIsOne = (d : Datum) (args : List Datum) → IsTheOne (SlicesInput d args) (slice_answer d args)
 
 -- ---- beginnings
--- the first grapheme clusters of s, so many, and then the end
+-- the first n grapheme clusters of s, and then the end
 abbrev pub KeepsClusters : ℕ → Text → Text → Text → Type 0
 KeepsClusters n end s t = (kept : List Text) × AreFirst n (graphemes true s) kept ×
     (t ≡ concat kept ++ end)
@@ -126,7 +126,7 @@ abbrev pub TruncateIsOne : Type 0
 TruncateIsOne = (d : Datum) (args : List Datum) →
     IsTheOne (TruncatesText d args) (truncate_answer d args)
 
--- the first words of ws, so many, with a space between each and the next, and then the end
+-- the first n words of ws, with a space between each and the next, and then the end
 abbrev pub KeepsWords : ℕ → Text → List Text → Text → Type 0
 KeepsWords n end ws t = (kept : List Text) × AreFirst n ws kept ×
     (t ≡ joined (codes " ") kept ++ end)

@@ -23,7 +23,7 @@ pub(crate) fn no_toml(alloc: Global, text: &str, refused: &toml::de::Error) -> E
     }
 }
 
-/// The place in the data with so many bytes before it.
+/// The place in the data after the first `start` bytes.
 fn in_data(text: &str, start: usize) -> Location {
     let Location { line, column, .. } = location(text, text.len().saturating_sub(start));
     Location {

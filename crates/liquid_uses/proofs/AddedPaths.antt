@@ -6,7 +6,7 @@ use Rattle.std.specs.BTreeMap.{is_at}
 use Rattle.std.specs.BTreeSet.{BTreeSet}
 use Rattle.std.specs.Cmp.Lexicographic.{slice_cmp}
 use Rattle.std.specs.List.{list_any}
-use Rattle.std.specs.Prelude.{Result, Box, OnOk}
+use Rattle.std.specs.Prelude.{Result, OnOk}
 use Rattle.liquid_core.specs.Environment.{Names}
 use Rattle.liquid_evaluation.specs.Names.{mentioned}
 use Rattle.liquid_model.specs.Texts.{Text}
@@ -14,6 +14,7 @@ use Rattle.liquid_model.specs.Uses as seen
 use Rattle.liquid_model.specs.Uses.{nothing, everything, parts, Fields, ItemUse, asks_whether, has_every}
 use Rattle.liquid_model.specs.UseViews.{use_view, members_view, turns_view}
 use Rattle.liquid_model.specs.declared.uses.Use.{Use}
+use Rattle.liquid_model.specs.declared.uses.ItemUse.{ItemUse as RustItems}
 use Rattle.liquid_syntax.specs.NameSets.{added, mentioned_in_set}
 use Rattle.liquid_syntax.specs.inside.NameVisitors.{added_both, or_false}
 use Rattle.liquid_uses.specs.Paths.{are_words, asks_members, chosen_paths, one_path, use_paths, member_paths, item_paths, paths_in}
@@ -67,19 +68,19 @@ module _ (path : Text) (u : seen.Use) (ms : Fields) (ts : ItemUse) (is : u ≡ p
 
 -- ---- of its items
 
-pub no_items_added : (path : Text) (h : Names) (is : Option (Box Use Global)) → is ≡ None → h ≡ added (item_paths path (turns_view is)) h
+pub no_items_added : (path : Text) (h : Names) (is : Option RustItems) → is ≡ None → h ≡ added (item_paths path (turns_view is)) h
 unfolding item_paths
 no_items_added path h is e = added_nothing h ∙ ap (λ x. added (item_paths path (turns_view x)) h) (sym e)
 
-module _ (path each : Text) (is : Option (Box Use Global)) (b : Box Use Global) (some : is ≡ Some b) (named : each ≡ path ++ codes "[]") where
-  pub items_asked : (u : Use) → u ≡ b.value → asks_whether (use_view u) ≡ true → use_paths each (use_view u) ≡ item_paths path (turns_view is)
+module _ (path each : Text) (is : Option RustItems) (b : RustItems) (some : is ≡ Some b) (named : each ≡ path ++ codes "[]") where
+  pub items_asked : (u : Use) → u ≡ b.each.value → asks_whether (use_view u) ≡ true → use_paths each (use_view u) ≡ item_paths path (turns_view is)
   unfolding item_paths
   items_asked u same e =
       sym (ap (λ w. cond w (use_paths each (use_view u)) ((each ++ codes "?") ∷ [])) e)
       ∙ (λ i. cond (asks_whether (use_view (same i))) (use_paths (named i) (use_view (same i))) ((named i ++ codes "?") ∷ []))
       ∙ sym (ap (λ x. item_paths path (turns_view x)) some)
 
-  pub items_counted : (u : Use) → u ≡ b.value → asks_whether (use_view u) ≡ false → one_path (each ++ codes "?") ≡ item_paths path (turns_view is)
+  pub items_counted : (u : Use) → u ≡ b.each.value → asks_whether (use_view u) ≡ false → one_path (each ++ codes "?") ≡ item_paths path (turns_view is)
   unfolding item_paths
   items_counted u same e =
       sym (ap (λ w. cond w (use_paths each (use_view u)) ((each ++ codes "?") ∷ [])) e)

@@ -2,8 +2,9 @@
 use Rattle.std.proofs.Common.{◌≡◌, ℕ, suc, ◌+◌, ◌<◌, ◌≤◌, length, drop, get_or, map, List, [], ◌∷◌, add-one, drop-cons, arith, Bool, true, false, cond, not, ◌&&◌, ◌||◌, refl, sym, ap, ◌∙◌}
 use Rattle.std.proofs.lemmas.List.{drop_all, nil_from_length}
 use Rattle.std.proofs.lemmas.Bool.Decides.{nat_tests}
+use Rattle.std.proofs.lemmas.Bool.{leb-true, le-leb}
 use Rattle.std.specs.Borrow.{Bor}
-use Rattle.std.specs.Prelude.{◌==◌, MatchOption, Option, Some, None}
+use Rattle.std.specs.Prelude.{◌==◌, max, MatchOption, Option, Some, None}
 use Rattle.liquid_model.specs.declared.uses.Use.{Use as RustUse}
 use mathlib.Core.Path.{subst}
 use Rattle.liquid_core.specs.Expression.{Expression, literal, no_steps, step}
@@ -12,7 +13,7 @@ use Rattle.liquid_evaluation.specs.Tree.{Chain}
 use Rattle.liquid_evaluation.specs.declared.chain.ChainFilter.{ChainFilter}
 use Rattle.liquid_model.specs.Data.{text}
 use Rattle.liquid_model.specs.Texts.{Text}
-use Rattle.liquid_model.specs.Uses.{Use, nothing, everything, parts, Fields, no_fields, field, ItemUse, uncounted, every, there, present, use_at, use_of_items, asks_items, asks_whether, includes, includes_fields, includes_items, joined_fields, join, join_turns, is_place, of_places, items_wanted, use_of_each, has_every}
+use Rattle.liquid_model.specs.Uses.{Use, nothing, everything, parts, Fields, no_fields, field, ItemUse, uncounted, every, up_to, there, present, use_at, use_of_items, asks_items, reaches, further, asks_whether, includes, includes_fields, includes_items, joined_fields, join, join_turns, is_place, of_places, items_wanted, use_of_each, has_every}
 use Rattle.liquid_model.specs.UseViews.{use_view}
 use Rattle.liquid_model.proofs.UseViews.{everything_includes}
 use Rattle.liquid_meaning.specs.FilterNeeds.{compact_needs, items_each, items_or_itself, known_needs, one_field, with_field}
@@ -71,6 +72,21 @@ fields_join no_fields ns u h k = k
 fields_join (field key v ms) ns u h k =
     true_both (includes (use_at key u) v) _ (true_left (includes (use_at key u) v) _ h) (fields_join ms ns u (true_right (includes (use_at key u) v) _ h) k)
 
+reaches_further : (r m n : Option ℕ) → reaches r m ≡ true → reaches r n ≡ true → reaches r (further m n) ≡ true
+reaches_further None m n h k = refl
+reaches_further (Some r) None n h k = h
+reaches_further (Some r) (Some m) None h k = k
+reaches_further (Some r) (Some m) (Some n) h k =
+    let below : m ≤ r = leb-true m r h in
+    let beside : n ≤ r = leb-true n r k in
+    le-leb (max m n) r (omega arith)
+
+asks_further : (m n : Option ℕ) (u : Use) → asks_items m u ≡ true → asks_items n u ≡ true → asks_items (further m n) u ≡ true
+asks_further m n nothing h k = h
+asks_further m n everything h k = refl
+asks_further m n (parts ms uncounted) h k = h
+asks_further m n (parts ms (up_to r v)) h k = reaches_further r m n h k
+
 mutual
   includes_join : (v w u : Use) → includes u v ≡ true → includes u w ≡ true → includes u (join v w) ≡ true
   includes_join nothing w u h k = k
@@ -87,23 +103,28 @@ mutual
 
   turns_join : (ts us : ItemUse) (u : Use) → includes_items u ts ≡ true → includes_items u us ≡ true → includes_items u (join_turns ts us) ≡ true
   turns_join uncounted us u h k = k
-  turns_join (every v) uncounted u h k = h
-  turns_join (every v) (every w) u h k =
-      true_both (asks_items u) _ (true_left (asks_items u) _ h)
-      (includes_join v w (use_of_items u) (true_right (asks_items u) _ h) (true_right (asks_items u) _ k))
+  turns_join (up_to m v) uncounted u h k = h
+  turns_join (up_to m v) (up_to n w) u h k =
+      true_both (asks_items (further m n) u) _ (asks_further m n u (true_left (asks_items m u) _ h) (true_left (asks_items n u) _ k))
+      (includes_join v w (use_of_items u) (true_right (asks_items m u) _ h) (true_right (asks_items n u) _ k))
 
 -- the items of a list, or the members of the map itself
 includes_itself : (v u : Use) → is_plain v ≡ true → asks_whether v ≡ true → includes u v ≡ true → includes u (items_each v) ≡ true → includes u (items_or_itself v) ≡ true
 includes_itself nothing u plain asks h k = absurd cc
 includes_itself everything u plain asks h k = h
 includes_itself (parts ms uncounted) u plain asks h k = fields_then_turns u ms (every (parts ms uncounted)) h k
-includes_itself (parts ms (every w)) u plain asks h k = absurd cc
+includes_itself (parts ms (up_to n w)) u plain asks h k = absurd cc
 
 includes_default : (w u : Use) → includes u (items_each nothing) ≡ true → includes u w ≡ true → includes u (present (join (items_each nothing) w)) ≡ true
 includes_default nothing u h k = h
 includes_default everything u h k = k
 includes_default (parts ms uncounted) u h k = fields_then_turns u ms (every nothing) k h
-includes_default (parts ms (every v)) u h k = k
+includes_default (parts ms (up_to n v)) u h k =
+    let f = true_right (asks_whether u) _ k in
+    let t = true_right (includes_fields u ms) _ f in
+    true_both (asks_whether u) _ (true_left (asks_whether u) _ k)
+    (true_both (includes_fields u ms) _ (true_left (includes_fields u ms) _ f)
+    (true_both (asks_items None u) _ (true_left (asks_items None u) _ (true_right (asks_whether u) _ h)) (true_right (asks_items n u) _ t)))
 
 -- ---- plain uses
 
@@ -124,7 +145,7 @@ plain_fields_join (field key v ms) ns h k = true_both (not (is_place key)) _ (tr
 
 plain_turns_join : (ts us : ItemUse) → not (has_every ts) ≡ true → not (has_every us) ≡ true → not (has_every (join_turns ts us)) ≡ true
 plain_turns_join uncounted us h k = k
-plain_turns_join (every v) us h k = absurd cc
+plain_turns_join (up_to n v) us h k = absurd cc
 
 plain_join : (v w : Use) → is_plain v ≡ true → is_plain w ≡ true → is_plain (join v w) ≡ true
 plain_join nothing w h k = k
@@ -163,7 +184,7 @@ wanted_itself : (u : Use) → is_plain u ≡ true → asks_whether u ≡ true �
 wanted_itself nothing plain asks = absurd cc
 wanted_itself everything plain asks = refl
 wanted_itself (parts ms uncounted) plain asks = ap (join (parts ms uncounted)) (no_places ms plain)
-wanted_itself (parts ms (every w)) plain asks = absurd cc
+wanted_itself (parts ms (up_to n w)) plain asks = absurd cc
 
 pub wanted_present : (u : Use) → items_wanted (present u) ≡ items_wanted u
 wanted_present nothing = refl
@@ -174,7 +195,7 @@ pub wanted_default : (w : Use) → items_wanted (present (join (items_each nothi
 wanted_default nothing = refl
 wanted_default everything = refl
 wanted_default (parts ms uncounted) = refl
-wanted_default (parts ms (every v)) = refl
+wanted_default (parts ms (up_to n v)) = refl
 
 pub asks_with : (key : Text) (v : Use) → asks_whether (with_field key everything v) ≡ true
 asks_with key nothing = refl

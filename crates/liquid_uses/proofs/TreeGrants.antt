@@ -21,7 +21,7 @@ use Rattle.liquid_syntax.specs.declared.template.Template.{Template}
 use Rattle.liquid_syntax.proofs.Totals.{IsTotal, Makes, leaf_makes, one_makes, two_makes, of_arms, case_makes, list_total, tree_total}
 use Rattle.liquid_model.specs.Uses.{there}
 use Rattle.liquid_meaning.specs.FilterNeeds.{known_needs}
-use Rattle.liquid_meaning.specs.Reading.{Uses, is_flat, grants, grants_node, grants_nodes, grants_optional, grants_partials, grants_source, grants_values, grants_whens, grants_window}
+use Rattle.liquid_meaning.specs.Reading.{Uses, is_flat, grants, grants_node, grants_nodes, grants_optional, grants_partials, grants_source, seen_limit, grants_values, grants_whens, grants_window}
 use Rattle.liquid_uses.specs.inside.OwnGrants.{arms_granted, each_grants, for_grants, held_grants, list_grants, own_grants, pairs_grants, row_grants, slots_grant}
 
 and_assoc : (a b c : Bool) → ((a && b) && c) ≡ (a && (b && c))
@@ -86,14 +86,14 @@ module _ (U : Uses) where
   unfolding grants_node for_grants
   for_is f b c =
       let flat = is_flat (U (codes "forloop")) in
-      let source = grants_source U (string_bytes f.variable) (source_view f.source) in
+      let source = grants_source U (string_bytes f.variable) (seen_limit (window_view f.window)) (source_view f.source) in
       let window = grants_window U (window_view f.window) in
       ap (λ r. flat && r) (sym (and_assoc source window (of_nodes b && of_nodes c))) ∙ sym (and_assoc flat (source && window) (of_nodes b && of_nodes c))
 
   rows_are : (r : rows.TableRow) (b : tree.Nodes) → of_node (tree.tablerow (string_bytes r.variable) (source_view r.source) (window_view r.window) (option_map expression_view r.cols) b) ≡ (row_grants U r && of_nodes b)
   unfolding grants_node row_grants
   rows_are r b =
-      let source = grants_source U (string_bytes r.variable) (source_view r.source) in
+      let source = grants_source U (string_bytes r.variable) (seen_limit (window_view r.window)) (source_view r.source) in
       let columns = grants_optional U (option_map expression_view r.cols) in
       let window = grants_window U (window_view r.window) in
       ap (λ x. source && x) (sym (and_assoc columns window (of_nodes b))) ∙ sym (and_assoc source (columns && window) (of_nodes b))

@@ -11,7 +11,7 @@ use Rattle.std.specs.Char.{is_ascii_alphanumeric}
 use Rattle.std.specs.List.{list_all}
 use Rattle.liquid_model.specs.Texts.{Text}
 use Rattle.liquid_model.specs.Uses.{Use, nothing, everything, parts, Fields, no_fields, field}
-use Rattle.liquid_model.specs.Uses.{ItemUse, uncounted, every, asks_whether, has_every}
+use Rattle.liquid_model.specs.Uses.{ItemUse, uncounted, up_to, asks_whether, has_every}
 
 -- a letter or a digit, `_`, `-`, or a byte of a character outside of ASCII
 abbrev pub is_word_byte : ℕ → Bool
@@ -55,7 +55,7 @@ unfoldable mutual
 
   pub item_paths : Text → ItemUse → List Text
   item_paths path uncounted = []
-  item_paths path (every u) = cond (asks_whether u) (use_paths (path ++ codes "[]") u)
+  item_paths path (up_to n u) = cond (asks_whether u) (use_paths (path ++ codes "[]") u)
       (seen_path (path ++ codes "[]"))
 
 -- the paths of what is asked of each name

@@ -4,6 +4,7 @@
 use crate::comparisons::sees_kind_alone;
 use crate::demands::{Demands, Wanted};
 use crate::needs::use_before;
+use crate::windows::seen_limit;
 use liquid_core::{Expression, Use};
 use liquid_syntax::{
     Arm, Atom, Binding, ComparisonOperator, Condition, Each, FilterChain, For, Node,
@@ -124,9 +125,14 @@ fn ask_values(
     Ok(is_enough)
 }
 
-fn ask_source(demands: &mut Demands<'_>, name: &str, source: &RangeExpression) -> Asked {
+fn ask_source(
+    demands: &mut Demands<'_>,
+    name: &str,
+    limit: Option<usize>,
+    source: &RangeExpression,
+) -> Asked {
     match source {
-        RangeExpression::Array(value) => demands.ask(value, Wanted::EachAsNamed(name)),
+        RangeExpression::Array(value) => demands.ask(value, Wanted::EachAsNamed(limit, name)),
         RangeExpression::Counted(first, last) => {
             demands.ask(first, Wanted::Whole)?;
             demands.ask(last, Wanted::Whole)
@@ -140,19 +146,21 @@ fn ask_window(demands: &mut Demands<'_>, window: &WindowExpression) -> Asked {
 }
 
 fn ask_for(demands: &mut Demands<'_>, head: &For) -> Asked {
-    ask_source(demands, head.variable.as_str(), &head.source)?;
+    let limit = seen_limit(&head.window);
+    ask_source(demands, head.variable.as_str(), limit, &head.source)?;
     ask_window(demands, &head.window)
 }
 
 fn ask_row(demands: &mut Demands<'_>, head: &TableRow) -> Asked {
-    ask_source(demands, head.variable.as_str(), &head.source)?;
+    let limit = seen_limit(&head.window);
+    ask_source(demands, head.variable.as_str(), limit, &head.source)?;
     ask_optional(demands, &head.cols)?;
     ask_window(demands, &head.window)
 }
 
 fn ask_each(demands: &mut Demands<'_>, name: &Expression, each: &Each, pairs: &[Binding]) -> Asked {
     demands.ask(name, Wanted::Whole)?;
-    ask_source(demands, each.variable.as_str(), &each.source)?;
+    ask_source(demands, each.variable.as_str(), None, &each.source)?;
     ask_pairs(demands, pairs)
 }
 

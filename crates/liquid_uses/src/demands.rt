@@ -2,7 +2,7 @@
 //! names. Nothing here has a contract: what comes of it is tested by `covers`.
 
 use crate::merge::{copied, joined, part_count};
-use liquid_core::{Expression, Use, Uses, Value, Variable, member_of};
+use liquid_core::{Expression, ItemUse, Use, Uses, Value, Variable, member_of};
 use std::alloc::{AllocError, Global};
 use std::collections::BTreeMap;
 
@@ -18,8 +18,9 @@ pub(crate) enum Wanted<'n> {
     Present,
     /// What is asked of the value of that name, and whether there is one.
     AsNamed(&'n str),
-    /// How many items there are, and of each what is asked of the value of that name.
-    EachAsNamed(&'n str),
+    /// Of each item up to a limit what is asked of the value of that name, and without a limit how
+    /// many items there are.
+    EachAsNamed(Option<usize>, &'n str),
 }
 
 /// What was asked for so far.
@@ -81,14 +82,17 @@ impl Demands<'_> {
                 Some(Use::Nothing) => Ok(present(self.alloc)),
                 Some(asked) => self.handed_on(asked),
             },
-            Wanted::EachAsNamed(name) => {
+            Wanted::EachAsNamed(limit, name) => {
                 let item = match member_of(self.before, name) {
                     None => Use::Nothing,
                     Some(asked) => self.handed_on(asked)?,
                 };
                 Ok(Use::Parts {
                     members: BTreeMap::new(self.alloc),
-                    items: Some(Box::new(self.alloc, item)?),
+                    items: Some(ItemUse {
+                        limit,
+                        each: Box::new(self.alloc, item)?,
+                    }),
                 })
             }
         }

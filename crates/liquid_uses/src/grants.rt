@@ -7,7 +7,7 @@ ghost use Rattle.liquid_evaluation.specs.ConditionView.{atom_view, atoms_view, c
 ghost use Rattle.liquid_evaluation.specs.SourceView.{source_view};
 ghost use Rattle.liquid_syntax.specs.Flats.{arm_values, bindings_view, window_view};
 ghost use Rattle.liquid_model.specs.Uses as seen;
-ghost use Rattle.liquid_model.specs.Uses.{everything, no_fields, there, parts, every, present};
+ghost use Rattle.liquid_model.specs.Uses.{everything, no_fields, there, parts, present, up_to};
 ghost use Rattle.liquid_model.specs.UseViews.{uses_view};
 ghost use Rattle.liquid_meaning.specs.FilterNeeds.{known_needs};
 ghost use Rattle.liquid_meaning.specs.Reading.{all_of, bound_use, grants, grants_all, grants_atom};
@@ -24,7 +24,7 @@ use liquid_evaluation::ChainFilter;
 use liquid_syntax::{Atom, Binding, Condition, FilterChain, RangeExpression, WindowExpression};
 
 /// Everything is asked of the expression.
-pub(crate) fn whole(uses: &Uses, expression: &Expression) -> bool
+pub(crate) fn grants_whole_value(uses: &Uses, expression: &Expression) -> bool
     ensures { result ≡ true → grants (uses_view uses.now) (expression_view expression.now)
         everything ≡ true }
 {
@@ -51,12 +51,13 @@ pub(crate) fn as_named(uses: &Uses, expression: &Expression, name: &str) -> bool
     }
 }
 
-/// How many items there are, and of each what is asked of the value of that name.
-fn each_as_named(uses: &Uses, expression: &Expression, name: &str) -> bool
+/// Of each item up to a limit what is asked of the value of that name, and without a limit how many
+/// items there are.
+fn each_as_named(uses: &Uses, expression: &Expression, limit: Option<usize>, name: &str) -> bool
     ensures { result ≡ true → grants (uses_view uses.now) (expression_view expression.now) (parts
-        no_fields (every (uses_view uses.now name.now))) ≡ true }
+        no_fields (up_to limit (uses_view uses.now name.now))) ≡ true }
 {
-    reached(expression, uses).includes_each(member_of(uses, name))
+    reached(expression, uses).includes_each(limit, member_of(uses, name))
 }
 
 /// Everything is asked of each of them.
@@ -65,7 +66,7 @@ pub(crate) fn all_whole(uses: &Uses, expressions: &[Expression]) -> bool
         expressions.now) ≡ true }
 {
     for expression in expressions {
-        if !whole(uses, expression) {
+        if !grants_whole_value(uses, expression) {
             return false;
         }
     }
@@ -79,7 +80,7 @@ pub(crate) fn optional_whole(uses: &Uses, expression: &Option<Expression>) -> bo
         expression.now) ≡ true }
 {
     match expression {
-        Some(expression) => whole(uses, expression),
+        Some(expression) => grants_whole_value(uses, expression),
         None => true,
     }
 }
@@ -109,7 +110,7 @@ fn chain_place<'u>(uses: &'u Uses, chain: &FilterChain) -> ChainPlace<'u>
 }
 
 /// A chain whose value is written.
-pub(crate) fn written(uses: &Uses, chain: &FilterChain) -> bool
+pub(crate) fn grants_output(uses: &Uses, chain: &FilterChain) -> bool
     ensures { result ≡ true → grants_chain known_needs (uses_view uses.now) everything
         (chain_view chain.now) ≡ true }
 {
@@ -160,15 +161,21 @@ pub(crate) fn condition_granted(uses: &Uses, condition: &Condition) -> bool
     true
 }
 
-/// What a loop with that variable goes over.
+/// What a loop with that variable goes over, up to a limit.
 #[tactic(auto, unfolding(liquid_meaning::specs::Reading::grants_source))]
-pub(crate) fn source_granted(uses: &Uses, name: &str, source: &RangeExpression) -> bool
-    ensures { result ≡ true → grants_source (uses_view uses.now) name.now (source_view
+pub(crate) fn source_granted(
+    uses: &Uses,
+    name: &str,
+    limit: Option<usize>,
+    source: &RangeExpression,
+) -> bool
+    ensures { result ≡ true → grants_source (uses_view uses.now) name.now limit (source_view
         source.now) ≡ true }
 {
     match source {
-        RangeExpression::Array(value) => each_as_named(uses, value, name),
-        RangeExpression::Counted(first, last) => whole(uses, first) && whole(uses, last),
+        RangeExpression::Array(value) => each_as_named(uses, value, limit, name),
+        RangeExpression::Counted(first, last) => grants_whole_value(uses, first)
+            && grants_whole_value(uses, last),
     }
 }
 
@@ -198,7 +205,7 @@ pub(crate) fn bindings_whole(uses: &Uses, pairs: &[Binding]) -> bool
         pairs.now) ≡ true }
 {
     for pair in pairs {
-        if !whole(uses, &pair.value) {
+        if !grants_whole_value(uses, &pair.value) {
             return false;
         }
     }

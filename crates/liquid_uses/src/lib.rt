@@ -17,6 +17,7 @@ mod properties;
 mod rounds;
 mod uses;
 mod whole_names;
+mod windows;
 
 pub use covering::covers;
 pub use paths::paths_of;

@@ -1,6 +1,6 @@
 //! Uses put together. Nothing here has a contract: what comes of it is tested by `covers`.
 
-use liquid_core::{Use, Uses};
+use liquid_core::{ItemUse, Use, Uses};
 use std::alloc::{AllocError, Global};
 use std::collections::BTreeMap;
 
@@ -16,7 +16,10 @@ pub(crate) fn copied(alloc: Global, asked: &Use) -> Result<Use, AllocError> {
         Use::Parts { members, items } => {
             let members = copied_members(alloc, members)?;
             let items = match items {
-                Some(item) => Some(Box::new(alloc, copied(alloc, item)?)?),
+                Some(item) => Some(ItemUse {
+                    limit: item.limit,
+                    each: Box::new(alloc, copied(alloc, &item.each)?)?,
+                }),
                 None => None,
             };
             Ok(Use::Parts { members, items })
@@ -73,18 +76,34 @@ fn joined_members(alloc: Global, more: Uses, held: Uses) -> Result<Uses, AllocEr
 #[cycle(join)]
 fn joined_items(
     alloc: Global,
-    more: Option<Box<Use>>,
-    held: Option<Box<Use>>,
-) -> Result<Option<Box<Use>>, AllocError> {
+    more: Option<ItemUse>,
+    held: Option<ItemUse>,
+) -> Result<Option<ItemUse>, AllocError> {
     match more {
         None => Ok(held),
         Some(asked) => match held {
             None => Ok(Some(asked)),
             Some(before) => {
-                let both = joined(alloc, Box::into_inner(asked), Box::into_inner(before))?;
-                Ok(Some(Box::new(alloc, both)?))
+                let limit = further(asked.limit, before.limit);
+                let each = joined(
+                    alloc,
+                    Box::into_inner(asked.each),
+                    Box::into_inner(before.each),
+                )?;
+                Ok(Some(ItemUse {
+                    limit,
+                    each: Box::new(alloc, each)?,
+                }))
             }
         },
+    }
+}
+
+/// The larger of two limits.
+fn further(one: Option<usize>, other: Option<usize>) -> Option<usize> {
+    match (one, other) {
+        (Some(one), Some(other)) => Some(one.max(other)),
+        _ => None,
     }
 }
 
@@ -97,7 +116,7 @@ pub(crate) fn part_count(asked: &Use, above: usize) -> usize {
         Use::Nothing | Use::Everything => own,
         Use::Parts { members, items } => {
             let inner = match items {
-                Some(item) => part_count(item, above),
+                Some(item) => part_count(&item.each, above),
                 None => 0,
             };
             member_count(members, above)

@@ -5,7 +5,7 @@ use crate::demands::Demands;
 use crate::merge::joined;
 use crate::place_pairs::{is_place, is_plain};
 use crate::properties::property_name;
-use liquid_core::{Expression, Use, Uses};
+use liquid_core::{Expression, ItemUse, Use, Uses};
 use liquid_evaluation::{ChainFilter, StoredFilter};
 use liquid_filters::FilterKind;
 use std::alloc::{AllocError, Global};
@@ -26,7 +26,7 @@ pub(crate) fn use_before(demands: &mut Demands<'_>, filters: &[ChainFilter], las
     let mut asked = last;
     let mut is_ordered = false;
     for filter in filters.iter().rev() {
-        asked = before(demands, filter, asked, is_ordered)?;
+        asked = input_need(demands, filter, asked, is_ordered)?;
         is_ordered = is_ordered || is_order(&filter.filter);
     }
     Ok(asked)
@@ -47,7 +47,12 @@ fn is_order(filter: &StoredFilter) -> bool {
 ///
 /// `is_ordered` says that a filter after this one takes a map as the list of itself: what one item
 /// of the list is asked is then asked of two values, and not kept apart any more.
-fn before(demands: &mut Demands<'_>, filter: &ChainFilter, asked: Use, is_ordered: bool) -> Needed {
+fn input_need(
+    demands: &mut Demands<'_>,
+    filter: &ChainFilter,
+    asked: Use,
+    is_ordered: bool,
+) -> Needed {
     match &filter.filter {
         StoredFilter::Kind(kind) => {
             before_kind(demands, *kind, &filter.arguments, asked, is_ordered)
@@ -68,13 +73,13 @@ fn before_kind(
         FilterKind::Size(_) => of_each(alloc, Use::Nothing),
         FilterKind::First(_) if !is_ordered => of_member(alloc, "first", asked),
         FilterKind::Last(_) if !is_ordered => of_member(alloc, "last", asked),
-        FilterKind::Reverse(_) | FilterKind::Concat(_) => of_each(alloc, wanted(alloc, asked)?),
-        FilterKind::Map(_) => before_map(alloc, arguments, wanted(alloc, asked)?),
+        FilterKind::Reverse(_) | FilterKind::Concat(_) => of_each(alloc, item_need(alloc, asked)?),
+        FilterKind::Map(_) => before_map(alloc, arguments, item_need(alloc, asked)?),
         FilterKind::Where(_) | FilterKind::Sort(_) | FilterKind::SortNatural(_) => {
-            let item = wanted(alloc, asked)?;
+            let item = item_need(alloc, asked)?;
             before_order(demands, arguments, item)
         }
-        FilterKind::Compact(_) => before_compact(alloc, arguments, wanted(alloc, asked)?),
+        FilterKind::Compact(_) => before_compact(alloc, arguments, item_need(alloc, asked)?),
         FilterKind::Default(_) => joined(alloc, of_each(alloc, Use::Nothing)?, asked),
         _ => Ok(Use::Everything),
     }
@@ -114,20 +119,20 @@ fn before_order(demands: &mut Demands<'_>, arguments: &[Expression], item: Use) 
     match demands.handed_on(&each)? {
         Use::Parts { members, items: _ } => Ok(Use::Parts {
             members,
-            items: Some(Box::new(alloc, each)?),
+            items: Some(every(alloc, each)?),
         }),
         _ => Ok(Use::Everything),
     }
 }
 
 /// All that this asks of an item of a list.
-fn wanted(alloc: Global, asked: Use) -> Needed {
+fn item_need(alloc: Global, asked: Use) -> Needed {
     match asked {
         Use::Nothing => Ok(Use::Nothing),
         Use::Everything => Ok(Use::Everything),
         Use::Parts { members, items } => {
             let mut item = match items {
-                Some(each) => Box::into_inner(each),
+                Some(item) => Box::into_inner(item.each),
                 None => Use::Nothing,
             };
             for (key, asked) in members {
@@ -155,7 +160,14 @@ fn present(alloc: Global, asked: Use) -> Use {
 fn of_each(alloc: Global, asked: Use) -> Needed {
     Ok(Use::Parts {
         members: BTreeMap::new(alloc),
-        items: Some(Box::new(alloc, asked)?),
+        items: Some(every(alloc, asked)?),
+    })
+}
+
+fn every(alloc: Global, asked: Use) -> Result<ItemUse, AllocError> {
+    Ok(ItemUse {
+        limit: None,
+        each: Box::new(alloc, asked)?,
     })
 }
 

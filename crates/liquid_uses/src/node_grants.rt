@@ -10,9 +10,10 @@ ghost use Rattle.liquid_uses.specs.inside.OwnGrants.{own_grants, pairs_grants, r
 
 use crate::comparisons::arms_granted;
 use crate::grants::{
-    all_whole, assigned, bindings_granted, bindings_whole, condition_granted, optional_whole,
-    present, source_granted, whole, window_granted, written,
+    all_whole, assigned, bindings_granted, bindings_whole, condition_granted, grants_output,
+    grants_whole_value, optional_whole, present, source_granted, window_granted,
 };
+use crate::windows::seen_limit;
 use liquid_core::{Expression, Use, Uses, member_of};
 use liquid_syntax::{Binding, Each, For, Node, TableRow};
 
@@ -35,7 +36,7 @@ fn node_granted(uses: &Uses, node: &Node) -> bool
     match node {
         Node::Text(_) | Node::Raw(_) | Node::Comment => true,
         Node::Break | Node::Continue | Node::IfChanged(_) | Node::Capture(_, _) => true,
-        Node::Output(chain) => written(uses, chain),
+        Node::Output(chain) => grants_output(uses, chain),
         Node::Assign(name, chain) => assigned(uses, name.as_str(), chain),
         Node::If(condition, _) => condition_granted(uses, condition),
         Node::Unless(condition, _) => condition_granted(uses, condition),
@@ -83,7 +84,12 @@ fn for_granted(uses: &Uses, head: &For) -> bool
     ensures { result ≡ true → for_grants (uses_view uses.now) head.now ≡ true }
 {
     is_whole_or_unasked(uses, "forloop")
-        && source_granted(uses, head.variable.as_str(), &head.source)
+        && source_granted(
+            uses,
+            head.variable.as_str(),
+            seen_limit(&head.window),
+            &head.source,
+        )
         && window_granted(uses, &head.window)
 }
 
@@ -91,8 +97,12 @@ fn for_granted(uses: &Uses, head: &For) -> bool
 fn row_granted(uses: &Uses, head: &TableRow) -> bool
     ensures { result ≡ true → row_grants (uses_view uses.now) head.now ≡ true }
 {
-    source_granted(uses, head.variable.as_str(), &head.source)
-        && optional_whole(uses, &head.cols)
+    source_granted(
+        uses,
+        head.variable.as_str(),
+        seen_limit(&head.window),
+        &head.source,
+    ) && optional_whole(uses, &head.cols)
         && window_granted(uses, &head.window)
 }
 
@@ -102,7 +112,7 @@ fn pairs_granted(uses: &Uses, name: &Expression, pairs: &[Binding]) -> bool
     ensures { result ≡ true → pairs_grants (uses_view uses.now) (expression_view name.now)
         (bindings_view pairs.now) ≡ true }
 {
-    whole(uses, name) && bindings_granted(uses, pairs)
+    grants_whole_value(uses, name) && bindings_granted(uses, pairs)
 }
 
 /// The name of a partial, the `for` of a `render`, and pairs.
@@ -111,7 +121,7 @@ fn each_granted(uses: &Uses, name: &Expression, each: &Each, pairs: &[Binding]) 
     ensures { result ≡ true → each_grants (uses_view uses.now) (expression_view name.now)
         (each_view each.now) (bindings_view pairs.now) ≡ true }
 {
-    whole(uses, name)
-        && source_granted(uses, each.variable.as_str(), &each.source)
+    grants_whole_value(uses, name)
+        && source_granted(uses, each.variable.as_str(), None, &each.source)
         && bindings_granted(uses, pairs)
 }

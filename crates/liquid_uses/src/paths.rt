@@ -11,7 +11,7 @@ ghost use Rattle.liquid_syntax.specs.NameSets.{added, mentioned_in_set};
 ghost use Rattle.liquid_uses.specs.Paths as spec;
 ghost use Rattle.liquid_uses.specs.Paths.{item_paths, member_paths, paths_in, use_paths};
 
-use liquid_core::{Use, Uses};
+use liquid_core::{ItemUse, Use, Uses};
 use std::alloc::{AllocError, Global};
 use std::collections::BTreeSet;
 use std::result::Result;
@@ -87,7 +87,7 @@ fn add_member_paths(
 /// Adds the paths of what is asked of each item of the value at a path.
 #[cycle(add)]
 fn add_item_paths(
-    items: &Option<Box<Use>>,
+    items: &Option<ItemUse>,
     alloc: Global,
     path: &str,
     paths: &mut BTreeSet<String>,
@@ -99,8 +99,8 @@ fn add_item_paths(
         None => Ok(()),
         Some(asked) => {
             let each = joined_path(alloc, path, "[", "]")?;
-            if asks_whether(asked) {
-                add_paths(asked, alloc, each.as_str(), paths)
+            if asks_whether(&asked.each) {
+                add_paths(&asked.each, alloc, each.as_str(), paths)
             } else {
                 add_path(alloc, each.as_str(), "?", paths)
             }
@@ -133,7 +133,7 @@ fn joined_path(alloc: Global, path: &str, mark: &str, key: &str) -> Result<Strin
 }
 
 /// Whether something is asked of the items or of a member.
-fn asks_parts(members: &Uses, items: &Option<Box<Use>>) -> bool
+fn asks_parts(members: &Uses, items: &Option<ItemUse>) -> bool
     ensures { result ≡ (seen.has_every (turns_view items.now)
         || spec.asks_members (members_view members.now.entries)) }
 {

@@ -11,7 +11,7 @@ ghost use Rattle.liquid_uses.specs.inside.Chains.{are_unplaced_fields, takes};
 ghost use Rattle.liquid_uses.specs.inside.Placing.{option_use};
 
 use crate::places::Place;
-use liquid_core::{Use, Uses, whole_of};
+use liquid_core::{ItemUse, Use, Uses, whole_of};
 
 /// Two places. What is asked of the pair is asked of both: a value that is a list or a map counts
 /// as the list's items, or as the map itself.
@@ -131,12 +131,12 @@ impl<'u> Pair<'u> {
         }
     }
 
-    fn takes_each(self, items: &Option<Box<Use>>) -> bool
+    fn takes_each(self, items: &Option<ItemUse>) -> bool
         ensures { result ≡ true → takes self.entry (use_of_each (turns_view items.now)) ≡ true }
     {
         match items {
             None => self.is_open(),
-            Some(asked) => self.takes(asked),
+            Some(asked) => self.takes(&asked.each),
         }
     }
 
@@ -286,7 +286,7 @@ pub(crate) fn is_plain(asked: &Use) -> bool
     }
 }
 
-fn are_plain(members: &Uses, items: &Option<Box<Use>>) -> bool
+fn are_plain(members: &Uses, items: &Option<ItemUse>) -> bool
     ensures { result ≡ spec.is_plain (parts (members_view members.now.entries) (turns_view
         items.now)) }
 {

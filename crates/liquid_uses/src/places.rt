@@ -7,7 +7,7 @@ ghost use Rattle.liquid_meaning.specs.FilterNeeds.{items_each, one_field};
 ghost use Rattle.liquid_meaning.specs.Reading.{Uses, grants};
 ghost use Rattle.liquid_core.specs.ExpressionView.{expression_view, steps_view, variable_view};
 ghost use Rattle.liquid_model.specs.Uses.{everything, includes, no_fields, nothing, there, parts};
-ghost use Rattle.liquid_model.specs.Uses.{every, present};
+ghost use Rattle.liquid_model.specs.Uses.{present, up_to};
 ghost use Rattle.liquid_model.specs.UseViews.{uses_view, use_view};
 ghost use Rattle.liquid_uses.specs.inside.Placing.{gives, option_use, use_place, whole_if};
 ghost use Rattle.liquid_uses.specs.inside.Placing.{IsReached, IsReachedAlong, Leads};
@@ -82,14 +82,15 @@ impl<'u> Place<'u> {
         }
     }
 
-    /// Whether the number of items is asked, and of each item all that this use asks.
-    pub(crate) fn includes_each(self, other: Option<&Use>) -> bool
-        ensures { result ≡ true → gives self.entry (parts no_fields (every (option_use
+    /// Whether of each item up to a limit all is asked that this use asks, and without a limit the
+    /// number of items too.
+    pub(crate) fn includes_each(self, limit: Option<usize>, other: Option<&Use>) -> bool
+        ensures { result ≡ true → gives self.entry (parts no_fields (up_to limit (option_use
             other.entry))) ≡ true }
     {
         match self {
             Place::Whole => true,
-            Place::Asked(asked) => asks_each(asked, other),
+            Place::Asked(asked) => asks_each(asked, limit, other),
             Place::Unnamed | Place::Refused => false,
         }
     }
@@ -116,7 +117,7 @@ impl<'u> Place<'u> {
         }
     }
 
-    /// What is asked of each item.
+    /// What is asked of each item. It is refused where not every item is asked.
     pub(crate) fn each(self) -> Place<'u>
         ensures { (u : _) → gives result u ≡ true → gives self.entry (items_each u) ≡ true }
     {
@@ -151,25 +152,32 @@ fn member_at<'u>(asked: &'u Use, key: &str) -> Place<'u>
     }
 }
 
-/// Whether the number of items is asked, and of each item all that the other use asks.
-fn asks_each(asked: &Use, other: Option<&Use>) -> bool
-    ensures { result ≡ true → includes (use_view asked.now) (parts no_fields (every (option_use
-        other.entry))) ≡ true }
+/// Whether of each item up to a limit all is asked that the other use asks.
+fn asks_each(asked: &Use, limit: Option<usize>, other: Option<&Use>) -> bool
+    ensures { result ≡ true → includes (use_view asked.now) (parts no_fields (up_to limit
+        (option_use other.entry))) ≡ true }
 {
     match asked {
         Use::Nothing => false,
         Use::Everything => true,
         Use::Parts { members: _, items } => match items {
             None => false,
-            Some(item) => match other {
-                None => true,
-                Some(other) => item.includes(other),
-            },
+            Some(found) => { found.reaches(limit) && includes_found(&found.each, other) }
         },
     }
 }
 
-/// What a use asks of each item.
+/// Whether all is asked that the other use asks.
+fn includes_found(asked: &Use, other: Option<&Use>) -> bool
+    ensures { result ≡ includes (use_view asked.now) (option_use other.entry) }
+{
+    match other {
+        None => true,
+        Some(other) => asked.includes(other),
+    }
+}
+
+/// What a use asks of each item, where it asks every item.
 fn each_of<'u>(asked: &'u Use) -> Place<'u>
     ensures { (u : _) → gives result u ≡ true → includes (use_view asked.now) (items_each u)
         ≡ true }
@@ -179,7 +187,10 @@ fn each_of<'u>(asked: &'u Use) -> Place<'u>
         Use::Everything => Place::Whole,
         Use::Parts { members: _, items } => match items {
             None => Place::Refused,
-            Some(item) => Place::Asked(item),
+            Some(found) => match found.limit {
+                None => Place::Asked(&found.each),
+                Some(_) => Place::Refused,
+            },
         },
     }
 }

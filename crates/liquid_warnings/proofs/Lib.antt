@@ -1,1 +1,3 @@
+pub mod AddedRemarks
+pub mod FileWarnings
 pub mod SeenLiterals

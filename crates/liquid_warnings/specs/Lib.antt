@@ -5,4 +5,6 @@ pub mod Messages
 pub mod Nodes
 pub mod Paths
 pub mod Remarks
+pub mod Sorts
+pub mod Warnings
 pub mod inside

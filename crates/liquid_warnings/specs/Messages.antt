@@ -19,6 +19,15 @@ abbrev pub recursive_message : Text → Text
 recursive_message name = codes "the partial `" ++ (quotation name
     ++ codes "` runs itself from here; a run ends where partials are 32 deep")
 
+abbrev pub else_if_message : Text
+else_if_message = codes "what stands after `else` isn't read; for a condition write `elsif`"
+
+abbrev pub unescaped_message : Text
+unescaped_message = codes "a quote in this value ends the attribute; write `| escape`"
+
+abbrev pub unused_partial_message : Text
+unused_partial_message = codes "none of the templates runs this partial"
+
 abbrev pub clock_message : Text → Text
 clock_message word = codes "`'" ++ (word ++ (codes "' | date` gives `" ++ (word
     ++ codes "`, since there is no clock; give the time as data")))

@@ -1,8 +1,9 @@
 -- Paths in the data, as messages show them.
---     data_path_text path count      a path with so many of its steps, as `shop.products[].title`
+--     data_path_text path count      a path with its first `count` steps, as
+--                                    `shop.products[].title`
 --     list_before steps      how many steps lead to the innermost list whose items they go over
 --     lack_words path list      what lacks a path: the data, or an item of that list
---     lacking_text path list count      what it lacks, up to so many steps
+--     lacking_text path list count      what it lacks, up to step number `count` of the path
 --     meant_text path list count key      the same with another key in place of the last
 --     is_needed want      what is wanted has to be there
 use Rattle.std.specs.Prelude.{ℕ, suc, ◌-◌, List, [], ◌∷◌, ◌++◌, codes, drop, take, string_bytes}
@@ -26,7 +27,7 @@ steps_text (step ∷ steps) = step_text step ++ steps_text steps
 abbrev pub data_path_text : DataPath → ℕ → Text
 data_path_text path count = string_bytes path.name ++ steps_text (take count path.steps.items)
 
--- after so many steps, of which the last to each item stands at this place
+-- of the steps after the first n, of which the last one to each item stands at the place `found`
 abbrev pub list_from : ℕ → Option ℕ → List Step → Option ℕ
 list_from n found [] = found
 list_from n found (Key key ∷ steps) = list_from (suc n) found steps
@@ -53,7 +54,7 @@ abbrev pub lack_words : DataPath → Option ℕ → Text
 lack_words path None = codes "the data has no"
 lack_words path (Some place) = item_words (data_path_text path place)
 
--- the steps after the one to each item of the list, up to so many of the path's
+-- of the first `count` steps of the path, those after the one to each item of the list
 abbrev pub steps_past : DataPath → ℕ → ℕ → List Step
 steps_past path place count = drop (suc place) (take count path.steps.items)
 

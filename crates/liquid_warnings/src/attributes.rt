@@ -1,19 +1,42 @@
 //! Outputs in attributes that aren't escaped.
-ghost use Rattle.std.specs.Prelude.{◌≡◌, IfErr};
+ghost use Rattle.std.specs.Prelude.{◌≡◌, All, IfErr, OnOk};
+ghost use Rattle.liquid_warnings.specs.Sorts.{IsUnescaped, OnlyWhere};
+ghost use Rattle.liquid_warnings.specs.inside.Added.{AddsRemarks};
 
 use crate::remark::Remark;
+use crate::warnings::Given;
 use liquid_check::unescaped_attributes;
 use liquid_core::{ErrorKind, Result};
 use liquid_language::Language;
 use std::alloc::Global;
 
-/// `UnescapedAttribute`: an output stands in the value of an attribute, and nothing escapes it.
+/// `UnescapedAttribute`: an output stands in the value of an attribute, and nothing escapes it. It
+/// is looked for only where that is asked for.
 pub(crate) fn add_unescaped(
+    alloc: Global,
+    given: Given<'_>,
+    source: &str,
+    remarks: &mut Vec<Remark>,
+) -> Result<()>
+    ensures added { OnOk result (AddsRemarks
+        (OnlyWhere given.entry.attributes (All IsUnescaped)) remarks.old.items remarks.new.items) }
+    ensures memory { IfErr result (λ e. e.kind ≡ ErrorKind.Memory) }
+{
+    if given.attributes {
+        add_all_unescaped(alloc, given.language, source, remarks)
+    } else {
+        Ok(())
+    }
+}
+
+fn add_all_unescaped(
     alloc: Global,
     language: &Language,
     source: &str,
     remarks: &mut Vec<Remark>,
 ) -> Result<()>
+    ensures added { OnOk result
+        (AddsRemarks (All IsUnescaped) remarks.old.items remarks.new.items) }
     ensures memory { IfErr result (λ e. e.kind ≡ ErrorKind.Memory) }
 {
     let message = "a quote in this value ends the attribute; write `| escape`";

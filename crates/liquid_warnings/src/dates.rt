@@ -1,4 +1,4 @@
-//! Dates that are none.
+//! Words that are printed by `date` but are no dates.
 ghost use Rattle.std.specs.Prelude.{◌≡◌, IfOk, option_map, string_bytes};
 ghost use Rattle.liquid_warnings.specs.Messages.{clock_message};
 ghost use Rattle.liquid_warnings.specs.Nodes.{clock_word, dated_word, is_dated, no_clock};

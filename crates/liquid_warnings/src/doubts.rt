@@ -1,7 +1,10 @@
-//! What the data has other than templates ask for it.
-ghost use Rattle.std.specs.Prelude.{◌≡◌, IfErr, IfOk, string_bytes};
+//! Where the data isn't as templates ask for it.
+ghost use Rattle.std.specs.Prelude.{◌≡◌, All, IfErr, IfOk, IfSome, OnOk, string_bytes};
 ghost use Rattle.liquid_warnings.specs.Messages.{in_data, no_date, past_end};
 ghost use Rattle.liquid_warnings.specs.Paths.{is_needed};
+ghost use Rattle.liquid_warnings.specs.Remarks.{remark_view};
+ghost use Rattle.liquid_warnings.specs.Sorts.{IsDoubt, IsPastEnd, IsUndated, IsUnlisted};
+ghost use Rattle.liquid_warnings.specs.inside.Added.{AddsRemarks};
 
 use crate::loops::no_list_of;
 use crate::messages::{lack_message, most_similar_key, name_of};
@@ -9,16 +12,18 @@ use crate::names::add_name;
 use crate::path_texts::{
     first_steps, key_before, lack_words, lacking_text, list_before, meant_text, path_text,
 };
-use crate::remark::Remark;
+use crate::remark::{Remark, push_found};
 use crate::warnings::is_full;
-use liquid_check::{Asked, asked_paths};
-use liquid_core::{ErrorKind, Object, Quoted, Result};
+use liquid_check::{UsedPath, asked_paths};
+use liquid_core::{ErrorKind, Object, Quoted, Result, Value};
 use liquid_data_paths::{DataPath, Doubt, Lack, Want, doubt_of};
-use liquid_syntax::Template;
+use liquid_syntax::{Position, Template};
 use std::alloc::{AllocError, Global};
 use std::collections::BTreeSet;
 
 type Said = std::result::Result<String, AllocError>;
+
+type Found = std::result::Result<Remark, AllocError>;
 
 /// Adds the warnings about what a template asks of the data, each once, where it is asked first.
 /// The names are those that a tag of any template sets.
@@ -29,41 +34,55 @@ pub(crate) fn add_doubts(
     names: &BTreeSet<String>,
     remarks: &mut Vec<Remark>,
 ) -> Result<()>
+    ensures added { OnOk result
+        (AddsRemarks (All IsDoubt) remarks.old.items remarks.new.items) }
     ensures memory { IfErr result (λ e. e.kind ≡ ErrorKind.Memory) }
 {
     let mut seen = BTreeSet::new(alloc);
     for asked in asked_paths(alloc, template, names)? {
         if is_full(remarks) {
-            break;
+            return Ok(());
         }
-        if let Some(doubt) = doubt_of(alloc, data, &asked.path, asked.want)? {
-            add_once(alloc, remark_of(alloc, &asked, doubt)?, &mut seen, remarks)?;
-        }
+        let doubt = doubt_of(alloc, data, &asked.path, asked.want)?;
+        let found = found_remark(alloc, &asked, doubt)?;
+        push_found(remarks, unless_seen(alloc, found, &mut seen)?)?;
     }
     Ok(())
 }
 
-/// Adds a warning, unless one of this message is there.
-fn add_once(
+/// A warning, unless one of this message is there.
+fn unless_seen(
     alloc: Global,
     remark: Option<Remark>,
     seen: &mut BTreeSet<String>,
-    remarks: &mut Vec<Remark>,
-) -> Result<()>
-    ensures memory { IfErr result (λ e. e.kind ≡ ErrorKind.Memory) }
+) -> std::result::Result<Option<Remark>, AllocError>
+    ensures { IfOk result (λ r. IfSome r (λ s. Some s ≡ remark)) }
 {
-    if let Some(remark) = remark {
-        if !seen.contains(remark.message.as_str()) {
-            add_name(alloc, seen, remark.message.as_str())?;
-            remarks.push(remark)?;
-        }
+    let Some(remark) = remark else {
+        return Ok(None);
+    };
+    if seen.contains(remark.message.as_str()) {
+        return Ok(None);
     }
-    Ok(())
+    add_name(alloc, seen, remark.message.as_str())?;
+    Ok(Some(remark))
 }
 
-/// What is said of a doubt. Of a name that isn't there `UnknownName` is said, and of what has to be
-/// there nowhere, nothing, unless a similar key is.
-fn remark_of(alloc: Global, asked: &Asked, doubt: Doubt<'_>) -> Result<Option<Remark>>
+/// What is said of a doubt, where there is one.
+fn found_remark(alloc: Global, asked: &UsedPath, doubt: Option<Doubt<'_>>) -> Result<Option<Remark>>
+    ensures doubts { IfOk result (λ r. IfSome r (λ w. IsDoubt (remark_view w))) }
+    ensures memory { IfErr result (λ e. e.kind ≡ ErrorKind.Memory) }
+{
+    match doubt {
+        Some(doubt) => remark_of(alloc, asked, doubt),
+        None => Ok(None),
+    }
+}
+
+/// What is said of a doubt. A name that isn't there is left to `UnknownName`. Of a key that
+/// needn't be there, nothing is said unless a similar key is there.
+fn remark_of(alloc: Global, asked: &UsedPath, doubt: Doubt<'_>) -> Result<Option<Remark>>
+    ensures doubts { IfOk result (λ r. IfSome r (λ w. IsDoubt (remark_view w))) }
     ensures memory { IfErr result (λ e. e.kind ≡ ErrorKind.Memory) }
 {
     if let Doubt::Lacks(lack) = doubt {
@@ -74,15 +93,32 @@ fn remark_of(alloc: Global, asked: &Asked, doubt: Doubt<'_>) -> Result<Option<Re
     let at = asked.position;
     match doubt {
         Doubt::Lacks(_) => Ok(None),
-        Doubt::NoList(value) => {
-            let path = in_data(alloc, path)?;
-            Ok(Some(no_list_of(alloc, at, value, path.as_str())?))
-        }
-        Doubt::PastEnd(count) => {
-            Ok(Some(Remark::warning(at, "PastEnd", past_end(alloc, path, count)?)))
-        }
-        Doubt::NoDate(text) => Ok(Some(Remark::warning(at, "NoDate", no_date(alloc, path, text)?))),
+        Doubt::NoList(value) => Ok(Some(no_list_in(alloc, at, value, path)?)),
+        Doubt::PastEnd(count) => Ok(Some(past_end_in(alloc, at, path, count)?)),
+        Doubt::NoDate(text) => Ok(Some(no_date_in(alloc, at, path, text)?)),
     }
+}
+
+/// `NoList`: a loop goes over what is no list and no map in the data.
+fn no_list_in(alloc: Global, at: Position, value: &Value, path: &str) -> Found
+    ensures { IfOk result (λ r. IsUnlisted (remark_view r)) }
+{
+    let path = in_data(alloc, path)?;
+    Ok(no_list_of(alloc, at, value, path.as_str())?)
+}
+
+/// `PastEnd`: a `limit` goes past the items of a list.
+fn past_end_in(alloc: Global, at: Position, path: &str, count: usize) -> Found
+    ensures { IfOk result (λ r. IsPastEnd (remark_view r)) }
+{
+    Ok(Remark::warning(at, "PastEnd", past_end(alloc, path, count)?))
+}
+
+/// `NoDate`: what is to be a date is a text that isn't read as one.
+fn no_date_in(alloc: Global, at: Position, path: &str, text: &str) -> Found
+    ensures { IfOk result (λ r. IsUndated (remark_view r)) }
+{
+    Ok(Remark::warning(at, "NoDate", no_date(alloc, path, text)?))
 }
 
 fn in_data(alloc: Global, path: &str) -> Said
@@ -112,9 +148,11 @@ fn no_date(alloc: Global, path: &str, text: &str) -> Said
 /// `UnknownPath`: a map on the way hasn't the key.
 fn unknown_path(
     alloc: Global,
-    asked: &Asked,
+    asked: &UsedPath,
     lack: Lack<'_>,
-) -> std::result::Result<Option<Remark>, AllocError> {
+) -> std::result::Result<Option<Remark>, AllocError>
+    ensures { IfOk result (λ r. IfSome r (λ w. IsDoubt (remark_view w))) }
+{
     let count = asked.path.steps.len().saturating_sub(lack.left);
     let Some(key) = key_before(&asked.path, count) else {
         return Ok(None);
@@ -134,7 +172,8 @@ fn is_needed(want: Want) -> bool
     !matches!(want, Want::Perhaps | Want::Date)
 }
 
-/// The message for a path whose last of so many steps leads to nothing, with a key similar to it.
+/// The message for a path whose step number `count` leads to nothing, with a key similar to that
+/// step, where there is one.
 fn path_message(alloc: Global, path: &DataPath, count: usize, similar: Option<&str>) -> Said {
     let list = list_before(first_steps(path, count));
     let words = lack_words(alloc, path, list)?;

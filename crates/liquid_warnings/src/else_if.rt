@@ -1,5 +1,7 @@
 //! An `else` with a condition.
-ghost use Rattle.std.specs.Prelude.{◌≡◌, IfErr};
+ghost use Rattle.std.specs.Prelude.{◌≡◌, All, IfErr, OnOk};
+ghost use Rattle.liquid_warnings.specs.Sorts.{IsElseIf};
+ghost use Rattle.liquid_warnings.specs.inside.Added.{AddsRemarks};
 
 use crate::remark::Remark;
 use liquid_check::else_items;
@@ -14,6 +16,8 @@ pub(crate) fn add_else_if(
     source: &str,
     remarks: &mut Vec<Remark>,
 ) -> Result<()>
+    ensures added { OnOk result
+        (AddsRemarks (All IsElseIf) remarks.old.items remarks.new.items) }
     ensures memory { IfErr result (λ e. e.kind ≡ ErrorKind.Memory) }
 {
     let message = "what stands after `else` isn't read; for a condition write `elsif`";

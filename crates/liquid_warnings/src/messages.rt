@@ -6,7 +6,7 @@ use liquid_core::{Object, Quoted, SimilarName, more_similar};
 use std::alloc::{AllocError, Global};
 use std::collections::{BTreeMap, BTreeSet};
 
-/// Among how many names a similar one is looked for, which takes a while for each.
+/// The most names that are compared with one to find a similar one, since each takes a while.
 const MOST_NAMES: usize = 1000;
 
 /// What is said of a name that nothing has: these words, the name, and the similar one if there is

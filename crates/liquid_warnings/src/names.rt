@@ -1,7 +1,8 @@
 //! The names that templates read and set.
-ghost use Rattle.std.specs.Prelude.{◌≡◌, IfOk, codes, string_bytes};
+ghost use Rattle.std.specs.Prelude.{◌≡◌, IfOk, IfSome, codes, string_bytes};
 ghost use Rattle.liquid_warnings.specs.Messages.{unused_message};
 ghost use Rattle.liquid_warnings.specs.Remarks.{remark_view, warning};
+ghost use Rattle.liquid_warnings.specs.Sorts.{IsUnknownName, IsUnusedName};
 ghost use Rattle.liquid_warnings.specs.inside.Tellings.{trivial_telling};
 
 use crate::messages::{lack_message, most_similar_key, most_similar_of_set, name_of};
@@ -68,7 +69,9 @@ pub(crate) fn unknown_name(
     set: &BTreeSet<String>,
     name: &str,
     position: Position,
-) -> Result<Option<Remark>, AllocError> {
+) -> Result<Option<Remark>, AllocError>
+    ensures { IfOk result (λ r. IfSome r (λ w. IsUnknownName (remark_view w))) }
+{
     if data.get(name).is_some() || set.contains(name) {
         return Ok(None);
     }
@@ -78,12 +81,23 @@ pub(crate) fn unknown_name(
     Ok(Some(Remark::warning(position, "UnknownName", message)))
 }
 
-/// `UnusedVariable`: an `assign` or a `capture` sets a name that nothing reads.
-pub(crate) fn unused_variable(
+/// The warning about a name that an `assign` or a `capture` sets, unless it is read.
+pub(crate) fn unused_name(
     alloc: Global,
     name: &str,
     position: Position,
-) -> Result<Remark, AllocError>
+    is_read: bool,
+) -> Result<Option<Remark>, AllocError>
+    ensures { IfOk result (λ r. IfSome r (λ w. IsUnusedName (remark_view w))) }
+{
+    if is_read {
+        return Ok(None);
+    }
+    Ok(Some(unused_variable(alloc, name, position)?))
+}
+
+/// `UnusedVariable`: an `assign` or a `capture` sets a name that nothing reads.
+fn unused_variable(alloc: Global, name: &str, position: Position) -> Result<Remark, AllocError>
     ensures { IfOk result (λ r. remark_view r
         ≡ warning position (codes "UnusedVariable") (unused_message name.now)) }
 {
@@ -132,7 +146,7 @@ fn add_place(
 }
 
 /// Gives a visitor the names that a node reads, and not those of its bodies. The answer is whether
-/// the visitor ended that.
+/// the visitor ended the visit.
 fn read_node<V: NameVisitor>(node: &Node, visitor: &mut V) -> bool {
     match node {
         Node::Output(chain) | Node::Assign(_, chain) => visit_chain(chain, visitor),

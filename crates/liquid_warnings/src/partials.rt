@@ -1,7 +1,8 @@
 //! Partials that aren't there, that nothing runs, and that run themselves.
-ghost use Rattle.std.specs.Prelude.{◌≡◌, IfOk, codes, string_bytes};
+ghost use Rattle.std.specs.Prelude.{◌≡◌, IfOk, IfSome, codes, string_bytes};
 ghost use Rattle.liquid_warnings.specs.Messages.{recursive_message};
 ghost use Rattle.liquid_warnings.specs.Remarks.{remark_view, warning_at};
+ghost use Rattle.liquid_warnings.specs.Sorts.{IsMissingPartial, IsRecursive};
 
 use crate::calls::{Call, PartialFiles};
 use crate::messages::{lack_message, most_similar_partial, name_of};
@@ -15,13 +16,26 @@ pub(crate) fn missing_partial(
     alloc: Global,
     partials: &PartialFiles,
     call: &Call<'_>,
-) -> Result<Option<Remark>, AllocError> {
-    let (Some(name), None) = (call.name, call.file) else {
-        return Ok(None);
-    };
+) -> Result<Option<Remark>, AllocError>
+    ensures { IfOk result (λ r. IfSome r (λ w. IsMissingPartial (remark_view w))) }
+{
+    match (call.name, call.file) {
+        (Some(name), None) => Ok(Some(missing_name(alloc, partials, name, call.position)?)),
+        _ => Ok(None),
+    }
+}
+
+fn missing_name(
+    alloc: Global,
+    partials: &PartialFiles,
+    name: &str,
+    position: Position,
+) -> Result<Remark, AllocError>
+    ensures { IfOk result (λ r. IsMissingPartial (remark_view r)) }
+{
     let similar = name_of(most_similar_partial(alloc, partials, name)?);
     let message = lack_message(alloc, "no partial is named", name, similar)?;
-    Ok(Some(Remark::warning(call.position, "MissingPartial", message)))
+    Ok(Remark::warning(position, "MissingPartial", message))
 }
 
 /// `UnusedPartial`: no template runs the partial.
@@ -34,8 +48,23 @@ pub(crate) fn unused_partial(alloc: Global) -> Result<Remark, AllocError>
     Ok(Remark::warning(start, "UnusedPartial", message))
 }
 
+/// The warning about a tag that runs a partial in which it stands, where there is one.
+pub(crate) fn recursive_call(
+    alloc: Global,
+    call: Option<&Call<'_>>,
+) -> Result<Option<Remark>, AllocError>
+    ensures { IfOk result (λ r. IfSome r (λ w. IsRecursive (remark_view w))) }
+{
+    match call {
+        Some(call) => Ok(Some(recursive_partial(alloc, call)?)),
+        None => Ok(None),
+    }
+}
+
 /// `RecursivePartial`: a tag runs a partial in which it stands, itself or by way of others.
-pub(crate) fn recursive_partial(alloc: Global, call: &Call<'_>) -> Result<Remark, AllocError> {
+fn recursive_partial(alloc: Global, call: &Call<'_>) -> Result<Remark, AllocError>
+    ensures { IfOk result (λ r. IsRecursive (remark_view r)) }
+{
     let message = recursive_message(alloc, call.name.unwrap_or(""))?;
     Ok(Remark::warning(call.position, "RecursivePartial", message))
 }

@@ -12,7 +12,7 @@ use std::alloc::{AllocError, Global};
 
 type Said = Result<String, AllocError>;
 
-/// A path with so many of its steps, as in `shop.products[].title`.
+/// A path with its first `count` steps, as in `shop.products[].title`.
 pub(crate) fn path_text(alloc: Global, path: &DataPath, count: usize) -> Said
     ensures { IfOk result (λ text. string_bytes text ≡ data_path_text path.now count) }
 {
@@ -21,7 +21,7 @@ pub(crate) fn path_text(alloc: Global, path: &DataPath, count: usize) -> Said
     Ok(text)
 }
 
-/// The first of a path's steps, so many.
+/// The first `count` steps of a path, or all of them where it has fewer.
 pub(crate) fn first_steps(path: &DataPath, count: usize) -> &[Step]
     ensures { result.now ≡ take count path.now.steps.items }
 {
@@ -54,7 +54,7 @@ fn push_step(text: &mut String, step: &Step) -> Result<(), AllocError>
     }
 }
 
-/// The key that is the last of so many steps.
+/// The last of the first `count` steps, where it is a key.
 pub(crate) fn key_before(path: &DataPath, count: usize) -> Option<&str> {
     match first_steps(path, count).last() {
         Some(Step::Key(key)) => Some(key.as_str()),
@@ -93,7 +93,7 @@ fn item_words(alloc: Global, list: &str) -> Said
     format!(in alloc; "an item of `{list}` has no")
 }
 
-/// What it lacks: the path from there up to so many steps.
+/// What it lacks: the path from there up to its step number `count`.
 pub(crate) fn lacking_text(
     alloc: Global,
     path: &DataPath,
@@ -108,7 +108,8 @@ pub(crate) fn lacking_text(
     }
 }
 
-/// The steps of a path after the one to each item of a list, up to so many of the path's.
+/// Of the first `count` steps of a path, those after the one at `place`, which leads to each item
+/// of a list.
 fn steps_past(path: &DataPath, place: usize, count: usize) -> &[Step]
     ensures { result.now ≡ steps_past path.now place count }
 {

@@ -18,13 +18,16 @@ struct Visit {
     followed: usize,
 }
 
-/// The calls that lead back to a file on the way to them: each by its file and its place there.
-/// Every circle of calls has one. Each call is followed once.
+/// The calls of each file that lead back to a file on the way to them, by their places there. Every
+/// circle of calls has one. Each call is followed once.
 pub(crate) fn calls_back(
     alloc: Global,
     calls: &[Vec<Call<'_>>],
-) -> Result<Vec<(usize, usize)>, AllocError> {
+) -> Result<Vec<Vec<usize>>, AllocError> {
     let mut found = Vec::new(alloc);
+    for _ in 0..calls.len() {
+        found.push(Vec::new(alloc))?;
+    }
     let mut stages = Vec::new(alloc);
     stages.resize(calls.len(), Stage::Unseen)?;
     for first in 0..calls.len() {
@@ -39,7 +42,7 @@ fn follow(
     calls: &[Vec<Call<'_>>],
     first: usize,
     stages: &mut Vec<Stage>,
-    found: &mut Vec<(usize, usize)>,
+    found: &mut Vec<Vec<usize>>,
 ) -> Result<(), AllocError> {
     let mut way = Vec::new(alloc);
     enter(first, stages, &mut way)?;
@@ -58,10 +61,18 @@ fn follow(
         visit.followed = followed.saturating_add(1);
         if let Some(next) = call.file {
             if stages.get(next) == Some(&Stage::OnTheWay) {
-                found.push((file, followed))?;
+                note(file, followed, found)?;
             }
             enter(next, stages, &mut way)?;
         }
+    }
+    Ok(())
+}
+
+/// Notes a call of a file.
+fn note(file: usize, call: usize, found: &mut Vec<Vec<usize>>) -> Result<(), AllocError> {
+    if let Some(calls) = found.get_mut(file) {
+        calls.push(call)?;
     }
     Ok(())
 }

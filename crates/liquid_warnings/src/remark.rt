@@ -1,7 +1,8 @@
 //! What is said of a template.
-ghost use Rattle.std.specs.Prelude.{◌≡◌, IfOk, option_map, string_bytes};
+ghost use Rattle.std.specs.Prelude.{◌≡◌, ◌++◌, IfOk, OnOk, option_map, string_bytes};
 ghost use Rattle.liquid_warnings.specs.Findings.{fault_said, message_said, fault_place};
-ghost use Rattle.liquid_warnings.specs.Remarks.{remark_view, warning, warning_at};
+ghost use Rattle.liquid_warnings.specs.Remarks.{all_said, remark_view, warning, warning_at};
+ghost use Rattle.liquid_warnings.specs.inside.Added.{maybe_said};
 
 use liquid_check::Finding;
 use liquid_core::{Error, Location};
@@ -65,6 +66,20 @@ impl Remark {
             is_warning: false,
             message: String::from_str(alloc, message_of(fault))?,
         })
+    }
+}
+
+/// Adds a remark, where there is one.
+pub(crate) fn push_found(remarks: &mut Vec<Remark>, found: Option<Remark>) -> Result<(), AllocError>
+    ensures { OnOk result
+        (all_said remarks.new.items ≡ all_said remarks.old.items ++ maybe_said found) }
+{
+    match found {
+        Some(remark) => {
+            remarks.push(remark)?;
+            Ok(())
+        }
+        None => Ok(()),
     }
 }
 

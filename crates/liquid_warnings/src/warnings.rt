@@ -1,8 +1,11 @@
 //! What no parser refuses, and people fall over all the same.
-ghost use Rattle.std.specs.Prelude.{◌≡◌, IfErr, length, nat_le};
+ghost use Rattle.std.specs.Prelude.{◌≡◌, [], ◌∷◌, ◌++◌, IfErr, IfOk, OnOk, length, nat_le};
+ghost use Rattle.std.specs.Prelude.{option_map, take};
+ghost use Rattle.liquid_warnings.specs.Remarks.{all_said, remark_view};
+ghost use Rattle.liquid_warnings.specs.Warnings.{AreWarned, AreOfSource, IsWarned, lists_of};
+ghost use Rattle.liquid_warnings.specs.Warnings.{nodes_said, said_at, template_said, with_said};
 
 use crate::attributes::add_unescaped;
-use crate::calls::PartialFiles;
 use crate::dates::no_clock;
 use crate::else_if::add_else_if;
 use crate::loops::no_list;
@@ -12,12 +15,11 @@ use liquid_core::{ErrorKind, Object, Result};
 use liquid_language::Language;
 use liquid_syntax::{Node, Position, Template};
 use std::alloc::{AllocError, Global};
-use std::collections::BTreeMap;
 
 /// The warnings of each file, in the order of the files.
 pub type Warnings = Vec<Vec<Remark>>;
 
-/// How many warnings of a file are looked for.
+/// The most warnings of a file that are looked for.
 pub const MOST_WARNINGS: usize = 100;
 
 /// A file of those that are looked at together.
@@ -37,114 +39,161 @@ pub struct Given<'c> {
     /// The data that the templates are for, where there is some.
     pub data: Option<&'c Object>,
     pub language: &'c Language,
-    /// The names of the partials, each with the place of its file. The later of one name counts.
+    /// The names of the partials, each with the place of its file. Of two with one name the later
+    /// counts.
     pub partials: &'c [(String, usize)],
     /// Whether outputs in attributes are looked at.
     pub attributes: bool,
 }
 
-/// The warnings of all files. Those about partials come only where partials are given, and those
-/// about what the data lacks, or has otherwise, only where data is.
+/// The warnings of all files: a list for each, in their order. It has the first hundred of these:
+/// what stands in the source, each single tag and output that has a warning in the order of the
+/// source, and what is known by all files together. Those about partials come only where partials
+/// are given, and those about what the data lacks, or has otherwise, only where data is.
 ///
 /// The answer is `Memory` where a growth was refused, and no other kind.
 pub fn warnings_of(alloc: Global, files: &[CheckedFile<'_>], given: Given<'_>) -> Result<Warnings>
+    ensures warned { IfOk result (λ ws. AreWarned given.entry files.now (lists_of ws.items)) }
     ensures memory { IfErr result (λ e. e.kind ≡ ErrorKind.Memory) }
 {
-    let partials = files_by_name(alloc, given.partials)?;
-    let whole = Whole::of(alloc, &partials, files)?;
-    let mut warnings = own_warnings(alloc, files, given, &whole)?;
-    if !partials.is_empty() {
-        whole.add_missing(alloc, &partials, &mut warnings)?;
-        whole.add_unused(alloc, files, &mut warnings)?;
-        whole.add_recursive(alloc, &mut warnings)?;
-    }
-    Ok(warnings)
-}
-
-/// The files of the partials by their names. The later of one name counts.
-fn files_by_name(
-    alloc: Global,
-    partials: &[(String, usize)],
-) -> std::result::Result<PartialFiles, AllocError> {
-    let mut names = BTreeMap::new(alloc);
-    for (name, place) in partials {
-        drop(names.insert(String::from_str(alloc, name.as_str())?, *place)?);
-    }
-    Ok(names)
-}
-
-/// The warnings of each file but for those about its partials.
-fn own_warnings(
-    alloc: Global,
-    files: &[CheckedFile<'_>],
-    given: Given<'_>,
-    whole: &Whole<'_>,
-) -> Result<Warnings>
-    ensures memory { IfErr result (λ e. e.kind ≡ ErrorKind.Memory) }
-{
+    let whole = Whole::of(alloc, given.partials, files)?;
     let mut warnings = Vec::new(alloc);
-    for (place, file) in files.iter().enumerate() {
-        let mut remarks = Vec::new(alloc);
-        add_source_warnings(alloc, file, given, &mut remarks)?;
-        if let Some(template) = file.template {
-            whole.add_template_warnings(alloc, place, template, given.data, &mut remarks)?;
-        }
-        warnings.push(remarks)?;
+    for file in files {
+        let remarks = file_warnings(alloc, &whole, warnings.len(), file, given)?;
+        add_list(&mut warnings, remarks)?;
     }
     Ok(warnings)
 }
 
-/// Adds the warnings about what stands in a source.
-fn add_source_warnings(
+/// Adds the list of one more file.
+fn add_list(warnings: &mut Warnings, remarks: Vec<Remark>) -> std::result::Result<(), AllocError>
+    ensures { OnOk result (lists_of warnings.new.items
+        ≡ lists_of warnings.old.items ++ remarks.items ∷ []) }
+{
+    warnings.push(remarks)?;
+    Ok(())
+}
+
+/// The warnings of the file at this place.
+fn file_warnings(
     alloc: Global,
+    whole: &Whole<'_>,
+    place: usize,
     file: &CheckedFile<'_>,
     given: Given<'_>,
-    remarks: &mut Vec<Remark>,
-) -> Result<()>
+) -> Result<Vec<Remark>>
+    ensures warned { IfOk result (λ rs. IsWarned given.entry file.now rs.items) }
     ensures memory { IfErr result (λ e. e.kind ≡ ErrorKind.Memory) }
 {
-    let Some(source) = file.text else {
-        return Ok(());
-    };
-    add_else_if(alloc, given.language, source, remarks)?;
-    if given.attributes {
-        add_unescaped(alloc, given.language, source, remarks)?;
-    }
-    Ok(())
+    let of_source = source_warnings(alloc, file, given)?;
+    let of_nodes = node_warnings_of(alloc, file.template)?;
+    let others = whole.warnings(alloc, place, file, given)?;
+    Ok(first_of(of_source, of_nodes, others)?)
 }
 
-/// Adds the warnings of single tags and outputs.
-pub(crate) fn add_node_warnings(
+/// The first hundred of the warnings of a source, of nodes, and of others.
+fn first_of(
+    of_source: Vec<Remark>,
+    of_nodes: Vec<Remark>,
+    others: Vec<Remark>,
+) -> std::result::Result<Vec<Remark>, AllocError>
+    ensures { IfOk result (λ rs. rs.items
+        ≡ take 100 ((of_source.items ++ of_nodes.items) ++ others.items)) }
+{
+    let mut remarks = of_source;
+    let mut of_nodes = of_nodes;
+    let mut others = others;
+    remarks.append(&mut of_nodes)?;
+    remarks.append(&mut others)?;
+    remarks.truncate(MOST_WARNINGS);
+    Ok(remarks)
+}
+
+/// The warnings about what stands in the source of a file.
+fn source_warnings(alloc: Global, file: &CheckedFile<'_>, given: Given<'_>) -> Result<Vec<Remark>>
+    ensures source { IfOk result (λ rs. AreOfSource given.entry.attributes (all_said rs.items)) }
+    ensures memory { IfErr result (λ e. e.kind ≡ ErrorKind.Memory) }
+{
+    match file.text {
+        Some(source) => warnings_in(alloc, source, given),
+        None => Ok(Vec::new(alloc)),
+    }
+}
+
+fn warnings_in(alloc: Global, source: &str, given: Given<'_>) -> Result<Vec<Remark>>
+    ensures source { IfOk result (λ rs. AreOfSource given.entry.attributes (all_said rs.items)) }
+    ensures memory { IfErr result (λ e. e.kind ≡ ErrorKind.Memory) }
+{
+    let mut remarks = Vec::new(alloc);
+    add_else_if(alloc, given.language, source, &mut remarks)?;
+    add_unescaped(alloc, given, source, &mut remarks)?;
+    Ok(remarks)
+}
+
+/// The warnings of the single tags and outputs of a template, where there is one.
+fn node_warnings_of(
     alloc: Global,
-    template: &Template,
-    remarks: &mut Vec<Remark>,
-) -> std::result::Result<(), AllocError> {
-    for (node, position) in template.nodes().iter().zip(template.positions()) {
-        if is_full(remarks) {
-            break;
-        }
-        add_node_warning(alloc, node, *position, remarks)?;
+    template: Option<&Template>,
+) -> std::result::Result<Vec<Remark>, AllocError>
+    ensures { IfOk result (λ rs. all_said rs.items
+        ≡ template_said (option_map (λ t. t.now) template.entry)) }
+{
+    match template {
+        Some(template) => node_warnings(alloc, template.nodes(), template.positions()),
+        None => Ok(Vec::new(alloc)),
     }
-    Ok(())
 }
 
-/// Adds the warning of a tag or an output, where it has one.
+/// The warnings of nodes that begin at these positions, in their order.
+fn node_warnings(
+    alloc: Global,
+    nodes: &[Node],
+    positions: &[Position],
+) -> std::result::Result<Vec<Remark>, AllocError>
+    ensures { IfOk result (λ rs. all_said rs.items ≡ nodes_said 0 nodes.now positions.now) }
+{
+    let mut remarks = Vec::new(alloc);
+    for (place, node) in nodes.iter().enumerate() {
+        add_node_warning(alloc, node, positions.get(place), &mut remarks)?;
+    }
+    Ok(remarks)
+}
+
+/// Adds the warning of a node that begins at a position, where it has one.
 fn add_node_warning(
     alloc: Global,
     node: &Node,
-    position: Position,
+    position: Option<&Position>,
     remarks: &mut Vec<Remark>,
-) -> std::result::Result<(), AllocError> {
-    if let Some(remark) = no_clock(alloc, node, position)? {
-        remarks.push(remark)?;
-    }
-    if let Some(remark) = no_list(alloc, node, position)? {
+) -> std::result::Result<(), AllocError>
+    ensures { OnOk result (all_said remarks.new.items ≡ all_said remarks.old.items
+        ++ with_said (said_at (option_map (λ p. p.now) position.entry) node.now) []) }
+{
+    if let Some(remark) = node_warning(alloc, node, position)? {
         remarks.push(remark)?;
     }
     Ok(())
 }
 
-/// Whether no more warnings of a file are looked for.
+/// The warning of a tag or an output that begins at a position, where it has one.
+fn node_warning(
+    alloc: Global,
+    node: &Node,
+    position: Option<&Position>,
+) -> std::result::Result<Option<Remark>, AllocError>
+    ensures { IfOk result (λ r. option_map remark_view r
+        ≡ said_at (option_map (λ p. p.now) position.entry) node.now) }
+{
+    let Some(position) = position else {
+        return Ok(None);
+    };
+    match no_clock(alloc, node, *position)? {
+        Some(remark) => Ok(Some(remark)),
+        None => no_list(alloc, node, *position),
+    }
+}
+
+/// Whether no more warnings of this sort are looked for in a file.
 pub(crate) fn is_full(remarks: &[Remark]) -> bool
     ensures { result ≡ nat_le 100 (length remarks.now) }
 {

@@ -1,22 +1,35 @@
 //! What is known of all templates together.
-ghost use Rattle.std.specs.Prelude.{◌≡◌, IfErr};
+ghost use Rattle.std.specs.Prelude.{◌≡◌, All, IfErr, IfOk, IfSome, OnOk, is_some};
+ghost use Rattle.liquid_warnings.specs.Remarks.{all_said, remark_view};
+ghost use Rattle.liquid_warnings.specs.Sorts.{IsDoubt, IsMissingPartial, IsRecursive};
+ghost use Rattle.liquid_warnings.specs.Sorts.{IsUnknownName, IsUnusedName, IsUnusedPartial};
+ghost use Rattle.liquid_warnings.specs.Sorts.{OnlyWhere};
+ghost use Rattle.liquid_warnings.specs.Warnings.{AreOfNames, AreOfPartials, AreOfWhole};
+ghost use Rattle.liquid_warnings.specs.Warnings.{has_partials};
+ghost use Rattle.liquid_warnings.specs.inside.Added.{AddsRemarks};
 
 use crate::calls::{Call, PartialFiles, calls_of};
 use crate::doubts::add_doubts;
-use crate::names::{NamesOf, Places, add_name, names_of, unknown_name, unused_variable};
-use crate::partials::{missing_partial, recursive_partial, unused_partial};
+use crate::names::{NamesOf, Places, add_name, names_of, unknown_name, unused_name};
+use crate::partials::{missing_partial, recursive_call, unused_partial};
 use crate::recursion::calls_back;
-use crate::remark::Remark;
-use crate::warnings::{CheckedFile, Warnings, add_node_warnings, is_full};
+use crate::remark::{Remark, push_found};
+use crate::warnings::{CheckedFile, Given, is_full};
 use liquid_core::{ErrorKind, Object};
 use liquid_syntax::Template;
 use std::alloc::{AllocError, Global};
-use std::collections::BTreeSet;
+use std::collections::{BTreeMap, BTreeSet};
 
 /// What is known of all templates together.
 pub(crate) struct Whole<'t> {
-    /// The tags of each file that run partials.
+    /// The files of the partials by their names.
+    partials: PartialFiles,
+    /// The tags of each file that run partials, and which of them lead back to a partial that is
+    /// being run.
     calls: Vec<Vec<Call<'t>>>,
+    back: Vec<Vec<usize>>,
+    /// Whether a tag runs the file, of each; none where a tag may run any of them.
+    used: Option<Vec<bool>>,
     /// The names of each file that has a template.
     names: Vec<Option<NamesOf>>,
     /// The names that any of them reads, and those that any of them sets.
@@ -27,7 +40,10 @@ pub(crate) struct Whole<'t> {
 impl Drop for Whole<'_> {
     fn drop(self) {
         let Whole {
+            partials: _,
             calls: _,
+            back: _,
+            used: _,
             names: _,
             read: _,
             set: _,
@@ -36,23 +52,30 @@ impl Drop for Whole<'_> {
 }
 
 impl<'t> Whole<'t> {
+    /// What is known of these files. The partials are names, each with the place of its file, of
+    /// which the later of one name counts.
     pub(crate) fn of(
         alloc: Global,
-        partials: &PartialFiles,
+        partials: &[(String, usize)],
         files: &[CheckedFile<'t>],
     ) -> Result<Whole<'t>, AllocError> {
         let mut whole = Whole {
+            partials: files_by_name(alloc, partials)?,
             calls: Vec::new(alloc),
+            back: Vec::new(alloc),
+            used: None,
             names: Vec::new(alloc),
             read: BTreeSet::new(alloc),
             set: BTreeSet::new(alloc),
         };
         for file in files {
             match file.template {
-                Some(template) => whole.add(alloc, partials, template)?,
+                Some(template) => whole.add(alloc, template)?,
                 None => whole.add_none(alloc)?,
             }
         }
+        whole.back = calls_back(alloc, &whole.calls)?;
+        whole.used = used_files(alloc, &whole.calls)?;
         Ok(whole)
     }
 
@@ -64,13 +87,9 @@ impl<'t> Whole<'t> {
     }
 
     /// Adds the template of a file.
-    fn add(
-        &mut self,
-        alloc: Global,
-        partials: &PartialFiles,
-        template: &'t Template,
-    ) -> Result<(), AllocError> {
-        self.calls.push(calls_of(alloc, partials, template)?)?;
+    fn add(&mut self, alloc: Global, template: &'t Template) -> Result<(), AllocError> {
+        let calls = calls_of(alloc, &self.partials, template)?;
+        self.calls.push(calls)?;
         self.add_names(alloc, names_of(alloc, template)?)
     }
 
@@ -101,23 +120,23 @@ impl<'t> Whole<'t> {
         }
     }
 
-    /// Adds the warnings about what the template of a file says.
-    pub(crate) fn add_template_warnings(
+    /// The warnings that need all files: those about the names of a file, about what it asks of
+    /// the data, and about partials.
+    pub(crate) fn warnings(
         &self,
         alloc: Global,
         place: usize,
-        template: &Template,
-        data: Option<&Object>,
-        remarks: &mut Vec<Remark>,
-    ) -> liquid_core::Result<()>
+        file: &CheckedFile<'_>,
+        given: Given<'_>,
+    ) -> liquid_core::Result<Vec<Remark>>
+        ensures whole { IfOk result (λ rs. AreOfWhole given.entry (all_said rs.items)) }
         ensures memory { IfErr result (λ e. e.kind ≡ ErrorKind.Memory) }
     {
-        add_node_warnings(alloc, template, remarks)?;
-        self.add_name_warnings(alloc, place, data, remarks)?;
-        match data {
-            Some(data) => add_doubts(alloc, template, data, &self.set, remarks),
-            None => Ok(()),
-        }
+        let mut remarks = Vec::new(alloc);
+        self.add_name_warnings(alloc, place, given.data, &mut remarks)?;
+        self.add_data_warnings(alloc, file.template, given.data, &mut remarks)?;
+        self.add_partial_warnings(alloc, place, file, given, &mut remarks)?;
+        Ok(remarks)
     }
 
     /// Adds the warnings about the names of a file.
@@ -127,18 +146,16 @@ impl<'t> Whole<'t> {
         place: usize,
         data: Option<&Object>,
         remarks: &mut Vec<Remark>,
-    ) -> Result<(), AllocError> {
+    ) -> Result<(), AllocError>
+        ensures { OnOk result (AddsRemarks
+            (AreOfNames (is_some data.entry)) remarks.old.items remarks.new.items) }
+    {
         let Some(Some(names)) = self.names.get(place) else {
             return Ok(());
         };
-        if let Some(data) = data {
-            self.add_unknown(alloc, &names.read, data, remarks)?;
-        }
-        // a partial that isn't known may read anything
-        if self.runs_unknown(place) {
-            return Ok(());
-        }
-        self.add_unused_names(alloc, &names.stored, remarks)
+        self.add_unknown(alloc, &names.read, data, remarks)?;
+        self.add_unused_names(alloc, place, &names.stored, remarks)?;
+        Ok(())
     }
 
     /// Adds a warning for each name that neither the data nor a tag has.
@@ -146,113 +163,222 @@ impl<'t> Whole<'t> {
         &self,
         alloc: Global,
         read: &Places,
+        data: Option<&Object>,
+        remarks: &mut Vec<Remark>,
+    ) -> Result<(), AllocError>
+        ensures { OnOk result (AddsRemarks
+            (OnlyWhere (is_some data.entry) (All IsUnknownName))
+            remarks.old.items remarks.new.items) }
+    {
+        match data {
+            Some(data) => self.add_unknown_in(alloc, read, data, remarks),
+            None => Ok(()),
+        }
+    }
+
+    fn add_unknown_in(
+        &self,
+        alloc: Global,
+        read: &Places,
         data: &Object,
         remarks: &mut Vec<Remark>,
-    ) -> Result<(), AllocError> {
+    ) -> Result<(), AllocError>
+        ensures { OnOk result
+            (AddsRemarks (All IsUnknownName) remarks.old.items remarks.new.items) }
+    {
         for (name, position) in read {
             if is_full(remarks) {
-                break;
+                return Ok(());
             }
-            let name = name.as_str();
-            if let Some(remark) = unknown_name(alloc, data, &self.set, name, *position)? {
-                remarks.push(remark)?;
-            }
+            let unknown = unknown_name(alloc, data, &self.set, name.as_str(), *position)?;
+            push_found(remarks, unknown)?;
         }
         Ok(())
     }
 
-    /// Adds a warning for each name that is set and that no template reads.
+    /// Adds a warning for each name that a file sets and that no template reads, unless it runs a
+    /// partial that isn't known, which may read anything.
     fn add_unused_names(
         &self,
         alloc: Global,
+        place: usize,
         stored: &Places,
         remarks: &mut Vec<Remark>,
-    ) -> Result<(), AllocError> {
+    ) -> Result<(), AllocError>
+        ensures { OnOk result
+            (AddsRemarks (All IsUnusedName) remarks.old.items remarks.new.items) }
+    {
+        if self.runs_unknown(place) {
+            return Ok(());
+        }
         for (name, position) in stored {
-            if !is_full(remarks) && !self.read.contains(name.as_str()) {
-                remarks.push(unused_variable(alloc, name.as_str(), *position)?)?;
+            if is_full(remarks) {
+                return Ok(());
             }
+            let is_read = self.read.contains(name.as_str());
+            push_found(
+                remarks,
+                unused_name(alloc, name.as_str(), *position, is_read)?,
+            )?;
         }
         Ok(())
     }
 
-    /// Adds a warning for each tag that runs a partial which isn't there.
-    pub(crate) fn add_missing(
+    /// Adds the warnings about what a template asks of the data, where there are both.
+    fn add_data_warnings(
         &self,
         alloc: Global,
-        partials: &PartialFiles,
-        warnings: &mut Warnings,
-    ) -> Result<(), AllocError> {
-        for (calls, remarks) in self.calls.iter().zip(warnings.iter_mut()) {
-            add_missing_of(alloc, partials, calls, remarks)?;
+        template: Option<&Template>,
+        data: Option<&Object>,
+        remarks: &mut Vec<Remark>,
+    ) -> liquid_core::Result<()>
+        ensures added { OnOk result (AddsRemarks
+            (OnlyWhere (is_some data.entry) (All IsDoubt)) remarks.old.items remarks.new.items) }
+        ensures memory { IfErr result (λ e. e.kind ≡ ErrorKind.Memory) }
+    {
+        match (template, data) {
+            (Some(template), Some(data)) => add_doubts(alloc, template, data, &self.set, remarks),
+            _ => Ok(()),
         }
+    }
+
+    /// Adds the warnings about the partials that a file runs, and about the file as a partial,
+    /// where there are partials.
+    fn add_partial_warnings(
+        &self,
+        alloc: Global,
+        place: usize,
+        file: &CheckedFile<'_>,
+        given: Given<'_>,
+        remarks: &mut Vec<Remark>,
+    ) -> Result<(), AllocError>
+        ensures { OnOk result (AddsRemarks
+            (OnlyWhere (has_partials given.entry.partials.now) AreOfPartials)
+            remarks.old.items remarks.new.items) }
+    {
+        if has_partials(given.partials) {
+            self.add_all_partial_warnings(alloc, place, file, remarks)
+        } else {
+            Ok(())
+        }
+    }
+
+    fn add_all_partial_warnings(
+        &self,
+        alloc: Global,
+        place: usize,
+        file: &CheckedFile<'_>,
+        remarks: &mut Vec<Remark>,
+    ) -> Result<(), AllocError>
+        ensures { OnOk result (AddsRemarks AreOfPartials remarks.old.items remarks.new.items) }
+    {
+        self.add_missing(alloc, place, remarks)?;
+        push_found(remarks, self.unused_file(alloc, place, file)?)?;
+        self.add_recursive(alloc, place, remarks)?;
         Ok(())
     }
 
-    /// Adds a warning for each partial that no tag runs, unless a tag may run any of them.
-    pub(crate) fn add_unused(
+    /// Adds a warning for each tag of a file that runs a partial which isn't there.
+    fn add_missing(
         &self,
         alloc: Global,
-        files: &[CheckedFile<'_>],
-        warnings: &mut Warnings,
-    ) -> Result<(), AllocError> {
-        let Some(used) = self.used_files(alloc, files.len())? else {
+        place: usize,
+        remarks: &mut Vec<Remark>,
+    ) -> Result<(), AllocError>
+        ensures { OnOk result
+            (AddsRemarks (All IsMissingPartial) remarks.old.items remarks.new.items) }
+    {
+        let Some(calls) = self.calls.get(place) else {
             return Ok(());
         };
-        for (place, file) in files.iter().enumerate() {
-            if file.text.is_none() || file.is_page || used.get(place) != Some(&false) {
-                continue;
+        for call in calls {
+            if is_full(remarks) {
+                return Ok(());
             }
-            if let Some(remarks) = warnings.get_mut(place) {
-                remarks.push(unused_partial(alloc)?)?;
-            }
+            push_found(remarks, missing_partial(alloc, &self.partials, call)?)?;
         }
         Ok(())
     }
 
-    /// Whether a tag runs the file, for each of so many; none where a tag may run any of them.
-    fn used_files(&self, alloc: Global, count: usize) -> Result<Option<Vec<bool>>, AllocError> {
-        let mut used = Vec::new(alloc);
-        used.resize(count, false)?;
-        for calls in &self.calls {
-            if !mark_used(calls, &mut used) {
-                return Ok(None);
-            }
-        }
-        Ok(Some(used))
-    }
-
-    /// Adds a warning for each tag that leads back to a partial which is being run.
-    pub(crate) fn add_recursive(
+    /// The warning about a file that is a partial which no tag runs.
+    fn unused_file(
         &self,
         alloc: Global,
-        warnings: &mut Warnings,
-    ) -> Result<(), AllocError> {
-        for (place, number) in calls_back(alloc, &self.calls)? {
-            if let Some(call) = self.call_at(place, number) {
-                add_recursive_at(alloc, call, warnings.get_mut(place))?;
+        place: usize,
+        file: &CheckedFile<'_>,
+    ) -> Result<Option<Remark>, AllocError>
+        ensures { IfOk result (λ r. IfSome r (λ w. IsUnusedPartial (remark_view w))) }
+    {
+        if self.is_unused(place, file) {
+            Ok(Some(unused_partial(alloc)?))
+        } else {
+            Ok(None)
+        }
+    }
+
+    /// Whether a file is a partial that no tag runs; none is where a tag may run any of them.
+    fn is_unused(&self, place: usize, file: &CheckedFile<'_>) -> bool {
+        match &self.used {
+            Some(used) => file.text.is_some() && !file.is_page && used.get(place) == Some(&false),
+            None => false,
+        }
+    }
+
+    /// Adds a warning for each tag of a file that leads back to a partial which is being run.
+    fn add_recursive(
+        &self,
+        alloc: Global,
+        place: usize,
+        remarks: &mut Vec<Remark>,
+    ) -> Result<(), AllocError>
+        ensures { OnOk result
+            (AddsRemarks (All IsRecursive) remarks.old.items remarks.new.items) }
+    {
+        let Some(back) = self.back.get(place) else {
+            return Ok(());
+        };
+        for number in back {
+            if is_full(remarks) {
+                return Ok(());
             }
+            push_found(
+                remarks,
+                recursive_call(alloc, self.call_at(place, *number))?,
+            )?;
         }
         Ok(())
     }
 }
 
-/// Adds a warning for each tag of a file that runs a partial which isn't there.
-fn add_missing_of(
-    alloc: Global,
-    partials: &PartialFiles,
-    calls: &[Call<'_>],
-    remarks: &mut Vec<Remark>,
-) -> Result<(), AllocError> {
-    for call in calls {
-        if is_full(remarks) {
-            break;
-        }
-        if let Some(remark) = missing_partial(alloc, partials, call)? {
-            remarks.push(remark)?;
+/// Whether there are partials.
+fn has_partials(partials: &[(String, usize)]) -> bool
+    ensures { result ≡ has_partials partials.now }
+{
+    match partials {
+        [_, ..] => true,
+        [] => false,
+    }
+}
+
+/// The files of the partials by their names. Of two with one name the later counts.
+fn files_by_name(alloc: Global, partials: &[(String, usize)]) -> Result<PartialFiles, AllocError> {
+    let mut names = BTreeMap::new(alloc);
+    for (name, place) in partials {
+        drop(names.insert(String::from_str(alloc, name.as_str())?, *place)?);
+    }
+    Ok(names)
+}
+
+/// Whether a tag runs the file, for each; none where a tag may run any of them.
+fn used_files(alloc: Global, calls: &[Vec<Call<'_>>]) -> Result<Option<Vec<bool>>, AllocError> {
+    let mut used = Vec::new(alloc);
+    used.resize(calls.len(), false)?;
+    for of_file in calls {
+        if !mark_used(of_file, &mut used) {
+            return Ok(None);
         }
     }
-    Ok(())
+    Ok(Some(used))
 }
 
 /// Marks the files that tags run. Whether the name of each is known.
@@ -268,18 +394,4 @@ fn mark_used(calls: &[Call<'_>], used: &mut [bool]) -> bool {
         }
     }
     true
-}
-
-/// Adds the warning of a tag to those of its file.
-fn add_recursive_at(
-    alloc: Global,
-    call: &Call<'_>,
-    remarks: Option<&mut Vec<Remark>>,
-) -> Result<(), AllocError> {
-    if let Some(remarks) = remarks {
-        if !is_full(remarks) {
-            remarks.push(recursive_partial(alloc, call)?)?;
-        }
-    }
-    Ok(())
 }

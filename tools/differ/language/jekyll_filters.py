@@ -187,15 +187,19 @@ def atom_holds(atom, environment):
     return not (atom.operator == "contains" and left is None) and compared(atom.operator, left, right)
 
 
-def sort(value, path=None, nils="first"):
+# an argument that isn't written; a written nil is one like any other
+NOT_GIVEN = object()
+
+
+def sort(value, path=NOT_GIVEN, nils="first"):
     found = [] if value is None else value if isinstance(value, list) else [value]
     if not found:
         raise Fault("InvalidInput")
-    if path is not None and not all(isinstance(item, dict) for item in found):
+    if path is not NOT_GIVEN and not all(isinstance(item, dict) for item in found):
         raise Fault("InvalidInput")
     if text_of(nils) not in ("first", "last"):
         raise Fault("InvalidInput")
-    key = (lambda item: item) if path is None else read_path(text_of(path))
+    key = (lambda item: item) if path is NOT_GIVEN else read_path(text_of(path))
     keys = list(map(key, found))
     first = text_of(nils) == "first"
     pairs = sorted(zip(keys, found), key=lambda pair: ((pair[0] is None) != first, order_key(pair[0])))

@@ -1,7 +1,7 @@
 //! Looking up a name or a path in the layers of a state.
 ghost use Rattle.std.specs.Prelude.{◌≡◌, ◌∷◌, [], map, IsTrue, IsOk, IfErr};
 ghost use Rattle.std.specs.Prelude.{IfOk, IfSome, Option, None, option_map};
-ghost use Rattle.liquid_core.specs.Said.{Says};
+ghost use Rattle.liquid_core.specs.DirectValues.{DirectlyIs};
 ghost use Rattle.std.specs.Option.{ok_or};
 ghost use Rattle.liquid_model.specs.Answer.{IsValueOrMemory, Answers, TakesNoMemory};
 ghost use Rattle.liquid_model.specs.Cow.{cow_view};
@@ -15,7 +15,7 @@ ghost use Rattle.liquid_model.specs.View.{view};
 ghost use Rattle.liquid_core.specs.Resolved.{resolved_view, IsAmong, IsHeld};
 ghost use Rattle.liquid_core.specs.declared.state.State.{State};
 ghost use Rattle.liquid_core.specs.States.{environment_of, data_held};
-ghost use Rattle.liquid_core.specs.States.{held_beside, loops_of, FindsLoop, IsPlain};
+ghost use Rattle.liquid_core.specs.States.{value_below_loops, loops_of, FindsLoop, IsPlain};
 ghost use Rattle.liquid_model.specs.declared.error.ErrorKind.TheVariants.{UnknownVariable};
 
 use super::{Data, State};
@@ -28,7 +28,7 @@ impl<'d> State<'d> {
     /// hold no value of their own: while one is under way, a name that it or a scope over it binds
     /// is not looked for there.
     pub fn look_up<'a>(&'a self, name: &str) -> Option<&'a Value>
-        ensures value { option_map (λ v. view v.now) result ≡ held_beside self.now name.now }
+        ensures value { option_map (λ v. view v.now) result ≡ value_below_loops self.now name.now }
         ensures plain { IsPlain self.now → option_map (λ v. view v.now) result ≡
             lookup (environment_of self.now) name.now }
         ensures beside { (environment_of self.now).local name.now ≡ None →
@@ -40,7 +40,7 @@ impl<'d> State<'d> {
 
     #[tactic(auto, using(crate::proofs::States::beside_at, crate::proofs::States::held_at))]
     fn beside_loops<'a>(&'a self, name: &str) -> Option<&'a Value>
-        ensures { option_map (λ v. view v.now) result ≡ held_beside self.now name.now }
+        ensures { option_map (λ v. view v.now) result ≡ value_below_loops self.now name.now }
     {
         if let Some(value) = last_held(&self.scopes, name) {
             return Some(value);
@@ -73,9 +73,9 @@ impl<'d> State<'d> {
         self.data.find(name)
     }
 
-    /// `resolve` of what a value holds, and of numbers.
+    /// As `resolve`, for what a value holds, and for numbers.
     pub(crate) fn direct_value<'a>(&'a self, name: &str) -> DirectValue<'a>
-        ensures { Says result (lookup (environment_of self.now) name.now) None }
+        ensures { DirectlyIs result (lookup (environment_of self.now) name.now) None }
     {
         let scopes = Scopes {
             outer: self.scopes.as_slice(),
@@ -91,8 +91,8 @@ impl<'d> State<'d> {
     }
 
     /// What a path leads to: the text of its first step is a name, and the further steps lead on
-    /// from that name's value. An empty path leads nowhere. It refuses for `Memory` alone, and
-    /// takes memory only for the text of a first step that is no text itself, and where it finds
+    /// from that name's value. An empty path leads nowhere. The only fault is `Memory`. Memory is
+    /// taken only for the text of a first step that is no text itself, and where the path leads to
     /// the whole object of a loop.
     pub fn try_get<'a>(&'a self, alloc: Global, path: &[Value]) -> Result<Option<ValueCow<'a>>>
         ensures value { IsValueOrMemory (λ r. option_map cow_view r) result
@@ -128,7 +128,7 @@ impl<'d> State<'d> {
         }
     }
 
-    /// What the name is that this value's text is.
+    /// What the text of this value leads to, as a name.
     fn named_by<'a>(&'a self, alloc: Global, name: &Value) -> Result<Option<Resolved<'a, 'd>>>
         ensures value { IsValueOrMemory (λ r. option_map resolved_view r) result
             (lookup (environment_of self.now) (text_of (view name.now))) }
@@ -213,7 +213,7 @@ fn unknown(alloc: Global, path: &[Value]) -> Error
     }
 }
 
-/// Of a path that begins with this name.
+/// The fault of a path that begins with this name and leads to no value.
 fn unknown_from(alloc: Global, name: &Value) -> Error
     ensures kind_or_memory { IsKindOrMemory UnknownVariable result.kind }
     ensures message { HasMessageUnlessMemory (nowhere_message (view name.now ∷ [])) result }

@@ -17,7 +17,7 @@ use liquid_core::{Error, ErrorKind, Filter, Result, Value};
 use liquid_filter_base::{invalid_input, text_of, whole_argument};
 use std::alloc::Global;
 
-/// `date_in_tz`: the input printed by a pattern of strftime, at an offset of so many hours.
+/// `date_in_tz`: the input printed by a pattern of strftime, at an offset that is given in hours.
 #[derive(Clone, Copy, Drop)]
 pub struct DateInTz;
 

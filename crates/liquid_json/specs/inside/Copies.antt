@@ -7,7 +7,7 @@ use Rattle.std.specs.Prelude.{◌≡◌, Bool, true, false, ◌&&◌, ◌||◌, 
 use Rattle.liquid_model.specs.Data.{Datum}
 use Rattle.liquid_model.specs.Texts.{Text, same_text}
 use Rattle.liquid_model.specs.Uses.{Use, Fields, no_fields, field}
-use Rattle.liquid_model.specs.Uses.{ItemUse, uncounted, every, Alike, is_place}
+use Rattle.liquid_model.specs.Uses.{ItemUse, uncounted, up_to, Alike, is_place}
 use Rattle.liquid_json.specs.PlainUses.{is_plain_use}
 
 abbrev pub finds_by_place : Text → Bool
@@ -33,5 +33,5 @@ AskMore (field k u more) (field l v others) = (k ≡ l) × (AsksMore u v × AskM
 
 abbrev pub ItemsAskMore : ItemUse → ItemUse → Type 0
 ItemsAskMore turns uncounted = Unit {0}
-ItemsAskMore uncounted (every v) = ⊥
-ItemsAskMore (every u) (every v) = AsksMore u v
+ItemsAskMore uncounted (up_to n v) = ⊥
+ItemsAskMore (up_to m u) (up_to n v) = (m ≡ n) × AsksMore u v

@@ -1,9 +1,9 @@
 -- What is built of the values that tokens have at their front.
-use Rattle.std.specs.Prelude.{◌≡◌, ℕ, List, length, Some}
+use Rattle.std.specs.Prelude.{◌≡◌, ℕ, List, length, Option, Some}
 use Rattle.json.specs.Token.{Token}
 use Rattle.liquid_model.specs.Data.{Datum, Items, Pairs, no_pairs}
 use Rattle.liquid_model.specs.Lists.{list_of}
-use Rattle.liquid_model.specs.Uses.{Use, Fields, uncounted, Alike, Pairwise}
+use Rattle.liquid_model.specs.Uses.{Use, Fields, uncounted, Alike, Pairwise, PairwiseUpTo}
 use Rattle.liquid_model.specs.Projected.{pairs_wanted}
 use Rattle.liquid_model.specs.Skipping.{AlikeKeys}
 use Rattle.liquid_json.specs.inside.Tokens.{datum_at, list_items_at, pairs_at}
@@ -17,6 +17,12 @@ abbrev pub ArePlanned : Use → ℕ → List Token → Items → List Token → 
 ArePlanned u depth ts ds rest = (cs : Items) × (list_items_at depth (length ts) ts ≡
     Some (cs, rest)) ×
     Pairwise (λ c d. Alike u (Some c) (Some d)) (list_of cs) (list_of ds)
+
+-- the same of the first n items, or of all
+abbrev pub AreFirstItems : Option ℕ → Use → ℕ → List Token → Items → List Token → Type 0
+AreFirstItems n u depth ts ds rest = (cs : Items) × (list_items_at depth (length ts) ts ≡
+    Some (cs, rest)) ×
+    PairwiseUpTo n (λ c d. Alike u (Some c) (Some d)) (list_of cs) (list_of ds)
 
 abbrev pub PairsPlanned : Fields → ℕ → List Token → Pairs → List Token → Type 0
 PairsPlanned members depth ts ps rest = (qs : Pairs) ×

@@ -47,13 +47,13 @@ fn is_control(name: &str) -> bool {
 pub fn missing_end<'s>(fault: &Fault, outline: &Outline<'s>, name: &'s str) -> Phrasing<'s> {
     if !outline.at.is_empty() {
         let words = "`{% … %}` has no `{% ¤ %}`";
-        return Phrasing::quoting(outline.at, words, name, words_of(fault.wanted).words);
+        return Phrasing::quoting(outline.at, words, name, words_of(fault.expected).words);
     }
     match outline.open.last() {
         Some(opener) => block_without_end(opener),
         None => {
             let words = "the source ends where `{% ¤ %}` is wanted";
-            Phrasing::quoting("", words, words_of(fault.wanted).words, "")
+            Phrasing::quoting("", words, words_of(fault.expected).words, "")
         }
     }
 }

@@ -44,14 +44,14 @@ fn unknown_name<'s>(
     filters: &'s FilterRegistry,
     call: &WrittenFilter<'s>,
 ) -> Result<Phrasing<'s>, AllocError> {
-    match meant_elsewhere(filters, call.name, call.from) {
+    match foreign_filter_hint(filters, call.name, call.from) {
         Some(phrasing) => Ok(phrasing),
         None => similar_filter(alloc, filters, call),
     }
 }
 
 /// Of a filter of another language, at the source from its name on.
-pub fn meant_elsewhere<'s>(
+pub fn foreign_filter_hint<'s>(
     filters: &FilterRegistry,
     name: &'s str,
     from: &'s str,
@@ -116,7 +116,7 @@ pub fn miscounted<'s>(
 /// Of a filter that takes a least and a greatest number of arguments, and other ones are given, or
 /// without a `:`.
 fn miscount<'s>(call: &WrittenFilter<'s>, (least, most): (usize, usize)) -> Phrasing<'s> {
-    let count = taken(call);
+    let count = argument_count(call);
     let bound = if count > most { most } else { least };
     let noun = if bound == 1 { "argument" } else { "arguments" };
     let words = words_of_bounds(least, most, count);
@@ -127,8 +127,8 @@ fn miscount<'s>(call: &WrittenFilter<'s>, (least, most): (usize, usize)) -> Phra
     }
 }
 
-/// The words for how many arguments a filter takes that takes so many at least and at most, but not
-/// this count.
+/// The words for how many arguments a filter takes: at least `least` and at most `most`, but not
+/// `count`.
 fn words_of_bounds(least: usize, most: usize, count: usize) -> &'static str {
     if most == 0 {
         "`…` takes no argument"
@@ -162,7 +162,7 @@ fn words_of_given(call: &WrittenFilter<'_>) -> &'static str {
 }
 
 /// How many arguments a filter is given: none without a `:`.
-fn taken(call: &WrittenFilter<'_>) -> usize {
+fn argument_count(call: &WrittenFilter<'_>) -> usize {
     if call.has_colon { call.arguments } else { 0 }
 }
 
@@ -195,14 +195,14 @@ fn unregistered<'s>(
     None
 }
 
-/// The first call of a filter that doesn't accept so many arguments.
+/// The first call whose filter doesn't accept its number of arguments, and that filter.
 fn refused<'s>(
     filters: &FilterRegistry,
     calls: &[WrittenFilter<'s>],
 ) -> Option<(WrittenFilter<'s>, RegisteredFilter)> {
     for call in calls {
         if let Some(filter) = filters.get(call.name) {
-            if !filter.accepts(taken(call)) {
+            if !filter.accepts(argument_count(call)) {
                 return Some((*call, filter));
             }
         }

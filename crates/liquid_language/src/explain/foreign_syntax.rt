@@ -34,8 +34,8 @@ pub enum PieceContext {
 pub struct ErrorSite<'s> {
     pub kind: Delimiter,
     pub context: PieceContext,
-    /// What is wanted at it.
-    pub wanted: Expectation,
+    /// What was expected here.
+    pub expected: Expectation,
     /// The item before it, or `^` where there is none.
     pub before: &'s str,
     /// The item at it, as far as one can be read.

@@ -176,7 +176,7 @@ fn site_of<'s>(fault: &Fault, from: &'s str, piece: &PlacedPiece<'s>) -> ErrorSi
     ErrorSite {
         kind: piece.kind,
         context: context_of(piece),
-        wanted: fault.wanted,
+        expected: fault.expected,
         before: spelling_before(&piece.items, count),
         found: closer_of(from, piece.kind),
         rest: from,
@@ -196,7 +196,7 @@ fn in_value<'s>(
         return Some(at_end(site, at));
     }
     let front = front_before(piece.rest, site.rest);
-    if let Expectation::LiteralWithoutStep = site.wanted {
+    if let Expectation::LiteralWithoutStep = site.expected {
         return Some(step_of_literal(site.rest, front));
     }
     if site.rest.starts_with("]") && front.trim_end().ends_with("[") {
@@ -211,7 +211,7 @@ fn in_value<'s>(
 
 /// What the message says of a fault in brackets, after what was read of the value.
 fn in_brackets<'s>(site: &ErrorSite<'s>, front: &str) -> Option<Phrasing<'s>> {
-    if matches!(site.wanted, Expectation::ClosingBracket) && site.rest.starts_with(":") {
+    if matches!(site.expected, Expectation::ClosingBracket) && site.rest.starts_with(":") {
         let words = "a part of a list is taken by a filter, as `a | slice: 0, 2`";
         return Some(Phrasing::plain(site.rest, words));
     }
@@ -262,7 +262,7 @@ fn found_there<'s>(site: &ErrorSite<'s>) -> Phrasing<'s> {
             "found `…`; a name has the letters a to z, digits, `_` and `-`, and others as in `a['é']`";
         return Phrasing::quoting(site.rest, words, found, "");
     }
-    let is_value = matches!(site.wanted, Expectation::Value);
+    let is_value = matches!(site.expected, Expectation::Value);
     if is_value && site.found.is_empty() && site.count > 0 {
         return Phrasing::quoting(site.rest, "found `…`, which means nothing here", found, "");
     }
@@ -270,7 +270,7 @@ fn found_there<'s>(site: &ErrorSite<'s>) -> Phrasing<'s> {
         let words = "found `…`; a name begins with a letter or `_`";
         return Phrasing::quoting(site.rest, words, found, "");
     }
-    if let Expectation::WholeNumber = site.wanted {
+    if let Expectation::WholeNumber = site.expected {
         let words = "found `…` where a whole number is wanted, which has digits alone";
         return Phrasing::quoting(site.rest, words, found, "");
     }

@@ -34,7 +34,7 @@ fn site_of<'s>(fault: &Fault, piece: &PlacedPiece<'s>) -> ErrorSite<'s> {
     ErrorSite {
         kind: piece.kind,
         context: context_of(piece),
-        wanted: fault.wanted,
+        expected: fault.expected,
         before: spelling_before(&piece.items, count),
         found,
         rest,
@@ -45,7 +45,7 @@ fn site_of<'s>(fault: &Fault, piece: &PlacedPiece<'s>) -> ErrorSite<'s> {
 
 /// `found X where W is wanted`
 pub fn not_wanted<'s>(site: &ErrorSite<'s>, found: &'s str) -> Phrasing<'s> {
-    let wanted = words_of(site.wanted);
+    let wanted = words_of(site.expected);
     let words = match site.kind {
         _ if !wanted.ends_in_closer => "found `…` where ¤ is wanted",
         Delimiter::Output => "found `…` where ¤`}}` is wanted",
@@ -63,7 +63,7 @@ fn meant<'s>(
     if let Some(phrasing) = decimal_comma(site, items) {
         return Some(phrasing);
     }
-    match site.wanted {
+    match site.expected {
         Expectation::FilterOrCloser => after_value(language, site, items),
         Expectation::FilterName => in_place_of_filter(language, site, items),
         Expectation::FurtherPair => in_place_of_pair(site),
@@ -133,7 +133,7 @@ fn in_place_of_filter<'s>(
     Some(Phrasing::quoting(site.rest, words, filter, step))
 }
 
-/// What is meant by what stands where a filter or the closer is wanted.
+/// The intended meaning of what stands where a filter or the closer is expected.
 fn after_value<'s>(
     language: &Language,
     site: &ErrorSite<'s>,

@@ -54,8 +54,8 @@ fn is_last(opener: &Opener<'_>) -> bool {
     }
 }
 
-/// What stands around the place with so many bytes of the source remaining: the pieces before it
-/// are read from the start, and can be.
+/// What stands around the place `remaining` bytes before the end of the source. The pieces before
+/// it are read from the start of the source on, and each of them can be read.
 pub fn outline_at<'s>(
     alloc: Global,
     source: &'s str,
@@ -165,7 +165,7 @@ fn block_of(kind: BlockKind) -> Option<Block> {
     }
 }
 
-/// The source from the place on with so many bytes remaining.
+/// The last `remaining` bytes of the source.
 fn rest_of(source: &str, remaining: usize) -> &str {
     source
         .get(source.len().saturating_sub(remaining)..)

@@ -1,6 +1,6 @@
 //! Parentheses that hold no range: calls, lists and conditions of other languages.
 use super::characters::{is_digit, is_letter};
-use super::filters::{meant_elsewhere, meant_here};
+use super::filters::{foreign_filter_hint, meant_here};
 use super::foreign_syntax::{ErrorSite, PieceContext};
 use super::misplaced_items::{front_before, spelling_before};
 use super::phrasing::Phrasing;
@@ -38,7 +38,7 @@ pub fn in_parentheses<'s>(
 /// Of a filter with parentheses after its name.
 fn called_filter<'s>(language: &Language, site: &ErrorSite<'s>, opening: &'s str) -> Phrasing<'s> {
     if language.filters.get(site.before).is_none() {
-        if let Some(phrasing) = meant_elsewhere(&language.filters, site.before, opening) {
+        if let Some(phrasing) = foreign_filter_hint(&language.filters, site.before, opening) {
             return phrasing;
         }
     }

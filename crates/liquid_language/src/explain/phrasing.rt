@@ -49,7 +49,7 @@ impl<'s> Phrasing<'s> {
         }
     }
 
-    /// The text before which so many stand.
+    /// The text that comes after the first `count` texts.
     fn text(&self, count: usize) -> &'s str {
         match count {
             0 => self.first,

@@ -1,7 +1,7 @@
-//! What is wanted where a source has a fault, in words.
+//! What was expected where a source has a fault, in words.
 use liquid_lexer::Expectation;
 
-/// What is wanted, in words.
+/// What was expected, in words.
 #[derive(Clone, Copy)]
 pub struct WantedWords {
     /// All of it, or what stands before the closer of the piece.
@@ -10,7 +10,7 @@ pub struct WantedWords {
     pub ends_in_closer: bool,
 }
 
-/// What is wanted, in words.
+/// What was expected, in words.
 pub fn words_of(wanted: Expectation) -> WantedWords {
     match front_of(wanted) {
         Some(words) => WantedWords {

@@ -20,7 +20,7 @@ abbrev pub number_fault : Option ℤ → List ℕ → FaultKind
 number_fault None after = NumberLiteral
 number_fault (Some n) after = if is_fraction after then FloatLiteral else BadItem
 
--- so many bytes at the front are a sign and digits
+-- the fault of bytes that begin with a sign and digits, which take n bytes; 0 where there are none
 abbrev pub fault_after : ℕ → List ℕ → FaultKind
 fault_after zero bs = BadItem
 fault_after (suc n) bs = number_fault (whole_text (take (suc n) bs)) (drop (suc n) bs)

@@ -18,7 +18,7 @@ setting_of named context = record {
   partials = partials_of context.partials.now;
 }
 
--- what a node means, and a list of nodes, with so many nested partials left
+-- what a node means, and a list of nodes, where `depth` more partials may be nested
 abbrev pub node_meant : Setting → ℕ → tree.Node → Run Nothing
 node_meant setting depth n = node_meaning setting (deeper_meaning setting depth) n
 
@@ -45,10 +45,10 @@ in_buffer text environment = record {
   environment = environment;
 }
 
--- a run into a buffer that holds this text, beside a writer
+-- a run into a buffer that holds this text, with a writer beside it
 module _ {W : Type 0} (contents : W → Option (List ℕ)) (failure_count : W → ℕ) where
-  abbrev pub beside : W → Text → Environment → Configuration
-  beside writer text environment = record {
+  abbrev pub with_writer : W → Text → Environment → Configuration
+  with_writer writer text environment = record {
     sink = record {
       buffer = Some text;
       contents = contents writer;

@@ -20,7 +20,7 @@ use Rattle.liquid_core.specs.Places.{place_of}
 use Rattle.liquid_core.specs.LoopFrames.{frame_item_at, frame_map_at}
 use Rattle.liquid_core.specs.declared.frame.Columns.{Columns}
 use Rattle.liquid_core.specs.declared.frame.LoopFrame.{LoopFrame}
-use Rattle.liquid_evaluation.specs.Evaluation.{source_items, amount, asked_for}
+use Rattle.liquid_evaluation.specs.Evaluation.{source_items, amount, selected_items}
 use Rattle.liquid_evaluation.specs.Tree.{Source, Window}
 use Rattle.liquid_meaning.specs.Effects.{variable_or_nil}
 use Rattle.liquid_meaning.specs.Loops.{columns_of}
@@ -40,7 +40,7 @@ turn_items t = each_from (frame_item_at t) 0 t.count
 -- ---- for
 
 abbrev pub items_asked : Source → Window → Environment → Result (List Datum) ErrorKind
-items_asked source window e = source_items source e >>= (λ all. asked_for window all e)
+items_asked source window e = source_items source e >>= (λ all. selected_items window all e)
 
 -- none where no loop begins
 abbrev pub loop_values : Option LoopFrame → List Datum
@@ -69,7 +69,7 @@ abbrev pub cells_asked : Source → Window → Option Expression → Environment
     Result (Option (List Datum × ℕ)) ErrorKind
 cells_asked source window columns e =
     source_items source e >>=
-    (λ all. amount columns e >>= (λ asked. asked_for window all e >>=
+    (λ all. amount columns e >>= (λ asked. selected_items window all e >>=
     (λ items. in_columns items (columns_of (length items) asked))))
 
 abbrev pub cells_of : Option (LoopFrame × Columns) → Option (List Datum × ℕ)

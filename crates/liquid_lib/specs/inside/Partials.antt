@@ -26,7 +26,8 @@ use Rattle.liquid_syntax.specs.Templates.{template_nodes, most_of}
 use Rattle.liquid_syntax.specs.declared.template.Template.{Template}
 use Rattle.liquid_lib.specs.declared.context.RunContext.{RunContext}
 use Rattle.liquid_lib.specs.declared.isolated_scope.EachItem.{EachItem}
-use Rattle.liquid_meaning.specs.Meaning.{found, include_scope, partial_name_text, pairs_scope}
+use Rattle.liquid_meaning.specs.Meaning.{found_partial, include_scope}
+use Rattle.liquid_meaning.specs.Meaning.{partial_name_text, pairs_scope}
 
 -- the pairs, evaluated in order, and what is made of them
 abbrev pub bound_as : {S : Type 0} → (List (Text × Datum) → S) → Bindings → Environment →
@@ -47,12 +48,12 @@ bound_object bindings e = bound_values bindings e >>= (λ pairs. Ok (put_each pa
 
 -- the partial of that name
 abbrev pub partial_of : List (Text × Nodes) → Text → Result Nodes ErrorKind
-partial_of partials name = found (listed partials name)
+partial_of partials name = found_partial (listed partials name)
 
 -- the partial of that name, or of that name with `.liquid`
 abbrev pub render_partial : List (Text × Nodes) → Text → Result Nodes ErrorKind
 render_partial partials name =
-    found (listed partials name else listed partials (name ++ codes ".liquid"))
+    found_partial (listed partials name else listed partials (name ++ codes ".liquid"))
 
 -- ---- what a partial is entered with
 

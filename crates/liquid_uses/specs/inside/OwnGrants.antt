@@ -29,7 +29,7 @@ use Rattle.liquid_meaning.specs.FilterNeeds.{known_needs}
 use Rattle.liquid_meaning.specs.Reading.{Uses, all_of, bound_use, is_flat, grants, grants_all}
 use Rattle.liquid_meaning.specs.Reading.{grants_bindings, grants_chain, grants_condition}
 use Rattle.liquid_meaning.specs.Reading.{grants_optional, grants_source, grants_values}
-use Rattle.liquid_meaning.specs.Reading.{grants_window}
+use Rattle.liquid_meaning.specs.Reading.{grants_window, seen_limit}
 
 -- the values of the `when` parts of a `case`, beside its target
 unfoldable pub arms_granted : Uses → Expression → List (List Expression) → Bool
@@ -38,12 +38,14 @@ arms_granted U target (values ∷ arms) = grants_values U target values && arms_
 
 unfoldable pub for_grants : Uses → loops.For → Bool
 for_grants U f = is_flat (U (codes "forloop"))
-    && (grants_source U (string_bytes f.variable) (source_view f.source)
+    && (grants_source U (string_bytes f.variable) (seen_limit (window_view f.window))
+    (source_view f.source)
     && grants_window U (window_view f.window))
 
 unfoldable pub row_grants : Uses → rows.TableRow → Bool
 row_grants U r =
-    grants_source U (string_bytes r.variable) (source_view r.source)
+    grants_source U (string_bytes r.variable) (seen_limit (window_view r.window))
+    (source_view r.source)
     && (grants_optional U (option_map expression_view r.cols)
     && grants_window U (window_view r.window))
 
@@ -54,7 +56,7 @@ pairs_grants U x bindings = grants U x everything && grants_bindings U (bound_us
 -- the name of a partial, the `for` of a `render`, and pairs
 unfoldable pub each_grants : Uses → Expression → Source × Text → Bindings → Bool
 each_grants U x each bindings = grants U x everything
-    && (grants_source U each.1 each.0 && grants_bindings U (bound_use U) bindings)
+    && (grants_source U each.1 None each.0 && grants_bindings U (bound_use U) bindings)
 
 -- one clause for each kind of node
 abbrev pub own_grants : Uses → Node → Bool

@@ -2,9 +2,9 @@ use Rattle.std.proofs.Common.{◌≡◌, ◌+◌, ◌∷◌, get_or, drop, sym, 
 use Rattle.std.proofs.lemmas.List.{drop_more, drop_all}
 use Rattle.liquid_model.specs.View.{view}
 use Rattle.liquid_core.specs.ExpressionView.{steps_view}
-use Rattle.liquid_core.specs.Led.{led}
+use Rattle.liquid_core.specs.AlongSteps.{value_along_steps}
 use Rattle.liquid_core.proofs.ExpressionViews.{no_more}
-use Rattle.liquid_core.proofs.Said.{along_step}
+use Rattle.liquid_core.proofs.DirectValues.{along_step}
 use Rattle.liquid_core.proofs.expression.direct_along.Goals as goal
 
 pub returns : goal.returns
@@ -12,7 +12,7 @@ returns c e =
     let xs = c.deref-index-items.result.now in
     no_more (view c.loop-index.found.now) _ e (drop_all c.loop-index.index-index xs (omega arith))
     ∙ c.loop-index.invariant e
-    ∙ ap (λ l. led (view c.args.value.now) (steps_view l) e) c.deref-index-items.ensures.value
+    ∙ ap (λ l. value_along_steps (view c.args.value.now) (steps_view l) e) c.deref-index-items.ensures.value
 
 pub loop-index-preserved : goal.loop-index-preserved
 loop-index-preserved c e =

@@ -1,5 +1,5 @@
 use Rattle.std.proofs.Common.{subst, sym, ap, ◌∙◌}
-use Rattle.liquid_core.proofs.Said.{by_literal}
+use Rattle.liquid_core.proofs.DirectValues.{by_literal}
 use Rattle.liquid_core.proofs.expression.direct_step.Goals as goal
 
 pub returns-in-Literal : goal.returns-in-Literal

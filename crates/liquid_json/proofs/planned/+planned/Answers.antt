@@ -1,4 +1,4 @@
-use Rattle.std.proofs.Common.{true, ◌≡◌, ◌-◌, ◌<◌, ◌∷◌, length, Some, None, option_map, string_bytes, w64, refl, sym, ap, ◌∙◌, arith, rules}
+use Rattle.std.proofs.Common.{true, ◌≡◌, ◌-◌, ◌<◌, ◌≤◌, ◌∷◌, length, take, Some, None, option_map, string_bytes, w64, refl, sym, ap, ◌∙◌, arith, rules}
 use mathlib.Core.Path.{subst}
 use mir.Val.{to_z, of_z}
 use Rattle.json.specs.Token.{Token}
@@ -11,12 +11,14 @@ use Rattle.liquid_model.specs.View.{view, items_view, pairs_view}
 use Rattle.liquid_model.specs.declared.value.Value.{Text, Integer, Bool, Nil, Array, Object, the_lemmas}
 use Rattle.liquid_model.specs.Find.{value_at}
 use Rattle.liquid_model.specs.Skipping.{AlikeKeys}
-use Rattle.liquid_json.specs.inside.Planned.{IsPlanned}
+use Rattle.liquid_json.specs.inside.Planned.{IsPlanned, AreFirstItems}
 use Rattle.liquid_model.proofs.UseViews.{view-Parts}
 use Rattle.liquid_model.proofs.Views.{view-Array, view-Object, pairs_view-insert_entry}
-use Rattle.liquid_model.specs.Uses.{parts, uncounted, every, Alike}
+use Rattle.liquid_model.specs.Uses.{parts, uncounted, up_to, Alike}
 use Rattle.liquid_model.specs.Projected.{pairs_wanted}
 use Rattle.liquid_model.proofs.Alike.{alike_equal, AlikeLists}
+use Rattle.liquid_model.proofs.AlikeLists.{list_lengths}
+use Rattle.liquid_json.proofs.FirstItems.{first_none, first_kept, first_skipped, none_left, first_are}
 use Rattle.liquid_model.proofs.Skipping.{put_in_both, put_in_one}
 use Rattle.liquid_model.specs.UseViews.{use_view, members_view, turns_view}
 use Rattle.liquid_json.specs.PlainUses.{is_plain_use}
@@ -73,21 +75,34 @@ read_parts-returns-in_ok-skip_items-in-None-items-clause-ok t c =
           (subst (λ d. Alike (parts M uncounted) (Some (array found.0)) (Some d)) (sym (view-Array c.new.result ∙ ap (λ vs. array (items_view vs)) c.new.ensures.items)) (list_skipped M found.0 c.requires.plain_members)),
     )
 
-pub read_parts-returns-in_ok-planned_items-in-Some-items-clause-ok : goal.read_parts-returns-in_ok-planned_items-in-Some-items-clause-ok
-read_parts-returns-in_ok-planned_items-in-Some-items-clause-ok t c =
+pub read_parts-returns-in_ok-asked_items-in-Some-items-clause-ok : goal.read_parts-returns-in_ok-asked_items-in-Some-items-clause-ok
+read_parts-returns-in_ok-asked_items-in-Some-items-clause-ok t c =
     let first : c.args.reader.now ≡ token_of c.in_ok-token.token ∷ c.next.new.self = grind arith in
     let opened = ap (converted datum_of) (ap (value c.args.depth) (first ∙ ap (λ k. token_of k ∷ c.next.new.self) c.in-BeginArray.is) ∙ value-begin_array c.args.depth c.next.new.self (omega arith)) ∙ converted-array (items (value (c.args.depth - 1)) (length c.next.new.self) c.next.new.self) in
     let M = members_view c.args.members.now.entries in
-    let same : c.deref.result.now ≡ c.in-Some-items.asked.value = search rules in
-    let u = use_view c.deref.result.now in
-    let built = c.in_ok-planned_items-in-Some-items in
+    let w = c.in-Some-items.asked in
+    let built = c.in_ok-asked_items-in-Some-items in
     let found = built.ensures.ok in (
       array found.0,
       opened ∙ ap (parse_map array) found.1,
-      subst (λ u. Alike (parts M u) (Some (array found.0)) (Some (view (Array built.field-0)))) (sym (ap turns_view c.in-Some-items.is ∙ ap (λ x. every (use_view x)) (sym same)))
-          (subst (λ d. Alike (parts M (every u)) (Some (array found.0)) (Some d)) (sym (view-Array built.field-0))
-          (list_read M u found.0 (items_view built.field-0.items) c.requires.plain_members found.2)),
+      subst (λ u. Alike (parts M u) (Some (array found.0)) (Some (view (Array built.field-0)))) (sym (ap turns_view c.in-Some-items.is))
+          (subst (λ d. Alike (parts M (up_to w.limit (use_view w.each.value))) (Some (array found.0)) (Some d)) (sym (view-Array built.field-0))
+          (list_read M w.limit (use_view w.each.value) found.0 (items_view built.field-0.items) c.requires.plain_members found.2)),
     )
+
+pub asked_items-returns-in_ok-all-in-None-clause-ok : goal.asked_items-returns-in_ok-all-in-None-clause-ok
+asked_items-returns-in_ok-all-in-None-clause-ok t c =
+    let same : c.deref.result.now ≡ c.args.asked.now.each.value = search rules in
+    let done = c.in_ok-all-in-None in
+    subst (λ n. AreFirstItems n (use_view c.args.asked.now.each.value) c.args.depth c.args.reader.now (items_view done.all.items) c.planned_items.new.reader) (sym c.in-None.is)
+    (subst (λ u. AreFirstItems None (use_view u) c.args.depth c.args.reader.now (items_view done.all.items) c.planned_items.new.reader) same done.ensures.ok)
+
+pub asked_items-returns-in_ok-first-in-Some-clause-ok : goal.asked_items-returns-in_ok-first-in-Some-clause-ok
+asked_items-returns-in_ok-first-in-Some-clause-ok t c =
+    let same : c.deref-in-Some.result.now ≡ c.args.asked.now.each.value = search rules in
+    let done = c.in_ok-first-in-Some in
+    subst (λ n. AreFirstItems n (use_view c.args.asked.now.each.value) c.args.depth c.args.reader.now (items_view done.first.items) c.first_items.new.reader) (sym c.in-Some.is)
+    (subst (λ u. AreFirstItems (Some c.in-Some.limit) (use_view u) c.args.depth c.args.reader.now (items_view done.first.items) c.first_items.new.reader) same done.ensures.ok)
 
 pub read_parts-returns-in_ok-planned_pairs-in-None-items-2-clause-ok : goal.read_parts-returns-in_ok-planned_pairs-in-None-items-2-clause-ok
 read_parts-returns-in_ok-planned_pairs-in-None-items-2-clause-ok t c =
@@ -144,6 +159,69 @@ planned_items-returns-clause-ok t c =
     let r = c.take_end_array.new.self in
     let all = l.invariant.2 no_items no_items r (items_over p n l.reader r l.invariant.1 (grind arith)) tt in
     (all.0, all.1, subst (λ xs. AlikeLists (use_view c.args.asked.now) (list_of all.0) (list_of xs)) (after_none l.found.items) all.2)
+
+pub first_items-items-init : goal.first_items-items-init
+first_items-items-init t c = (
+  length c.args.reader.now,
+  omega arith,
+  (λ cs ds r e a. (cs, e, first_none (use_view c.args.asked.now) _ c.new-found.ensures.items c.args.limit cs ds a, refl)),
+  omega arith,
+)
+
+pub first_items-items-preserved-in-Continue-branch-2 : goal.first_items-items-preserved-in-Continue-branch-2
+first_items-items-preserved-in-Continue-branch-2 t c =
+    let p = value c.args.depth in
+    let l = c.items in
+    let n = l.invariant.0 in
+    let going : (after_end_array l.reader ≡ None) × (c.take_end_array.new.self ≡ l.reader) = grind arith in
+    let done = c.in_ok-item.ensures in
+    let v = c.in_ok-item.item in
+    let r = c.read_planned.new.reader in
+    let less : length r < length l.reader = rw (← going.1) done.shorter in
+    let turn = item_read p n l.reader r done.ok.0 (omega (arith, l.invariant.1)) going.0 (rw (← going.1) done.ok.1) in
+    let few : length l.found.items < c.args.limit = omega arith in
+    let some : 0 < l.room = omega arith in (
+      n - 1,
+      omega (arith, l.invariant.1),
+      (λ cs ds s e a.
+          let kept = first_kept (use_view c.args.asked.now) l.found.items v c.args.limit done.ok.0 cs ds few (subst (λ vs. AlikeLists (use_view c.args.asked.now) (take (c.args.limit - length vs) (list_of cs)) (list_of ds)) c.in_ok-push.ensures.items a) done.ok.2 in
+          let before = l.invariant.2 (item done.ok.0 cs) (item (view v) ds) s (turn ∙ ap (parse_map (item done.ok.0)) e) kept in
+          (before.0, before.1, subst (λ xs. AlikeLists (use_view c.args.asked.now) (take c.args.limit (list_of before.0)) (list_of xs)) (after_next l.found.items v ds ∙ ap (λ vs. after vs ds) (sym c.in_ok-push.ensures.items)) before.2, omega (arith, before.3))),
+      omega (arith, l.invariant.3),
+    )
+
+pub first_items-items-preserved : goal.first_items-items-preserved
+first_items-items-preserved t c =
+    let p = value c.args.depth in
+    let l = c.items in
+    let n = l.invariant.0 in
+    let going : (after_end_array l.reader ≡ None) × (c.take_end_array.new.self ≡ l.reader) = grind arith in
+    let done = c.in_ok-skipped.ensures in
+    let r = c.skipped.new.reader in
+    let less : length r < length l.reader = rw (← going.1) done.shorter in
+    let turn = item_read p n l.reader r done.ok.0 (omega (arith, l.invariant.1)) going.0 (rw (← going.1) done.ok.1) in
+    let full : c.args.limit ≤ length l.found.items = omega arith in
+    let some : 0 < l.room = omega arith in (
+      n - 1,
+      omega (arith, l.invariant.1),
+      (λ cs ds s e a.
+          let before = l.invariant.2 (item done.ok.0 cs) ds s (turn ∙ ap (parse_map (item done.ok.0)) e) (first_skipped (use_view c.args.asked.now) (length l.found.items) c.args.limit done.ok.0 cs ds full a) in
+          (before.0, before.1, before.2, omega (arith, before.3))),
+      omega (arith, l.invariant.3),
+    )
+
+pub first_items-returns-clause-ok : goal.first_items-returns-clause-ok
+first_items-returns-clause-ok t c =
+    let p = value c.args.depth in
+    let l = c.items in
+    let n = l.invariant.0 in
+    let r = c.take_end_array.new.self in
+    let all = l.invariant.2 no_items no_items r (items_over p n l.reader r l.invariant.1 (grind arith)) (none_left (use_view c.args.asked.now) (c.args.limit - length l.found.items)) in (
+      all.0,
+      all.1,
+      first_are (use_view c.args.asked.now) c.args.limit (list_of all.0) (list_of (items_view l.found.items)) (subst (λ k. k ≤ 9223372036854775807) (sym (list_lengths all.0)) (omega (arith, all.3)))
+          (subst (λ xs. AlikeLists (use_view c.args.asked.now) (take c.args.limit (list_of all.0)) (list_of xs)) (after_none l.found.items) all.2),
+    )
 
 pub planned_pairs-pairs-init : goal.planned_pairs-pairs-init
 planned_pairs-pairs-init t c = (length c.args.reader.now, omega arith, (no_pairs, refl, (λ key. alike_equal (pairs_wanted (members_view c.args.members.now.entries) uncounted key) None _ (ap (λ es. value_at key (pairs_view es)) (sym c.new-found.ensures.empty)))), omega arith)

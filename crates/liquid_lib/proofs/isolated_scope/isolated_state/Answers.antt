@@ -7,4 +7,4 @@ use Rattle.liquid_lib.proofs.isolated_scope.isolated_state.Goals as goal
 
 pub returns : goal.returns
 returns c =
-    own_environment (held c.args.names) (held c.new.result) (layers_of c.push_scope.new.self) (c.in_default.ensures.pushed ∙ ap (with_scope_pushed (held c.args.names)) c.alone-own.ensures.layers) (held_none c.new.result c.new.ensures.empty)
+    own_environment (held c.args.names) (held c.new.result) (layers_of c.push_scope.new.self) (c.in_default.ensures.pushed ∙ ap (with_scope_pushed (held c.args.names)) c.isolated-own.ensures.layers) (held_none c.new.result c.new.ensures.empty)

@@ -10,4 +10,4 @@ use Rattle.liquid_lib.proofs.isolated_scope.state_with_borrowed.Goals as goal
 pub returns : goal.returns
 returns c =
     let names = insert empty c.args.name.now (view c.args.value.now) in
-    own_environment names (held c.new.result) (layers_of c.push_borrowed.new.self) (c.in_default.ensures.pushed ∙ ap (with_scope_pushed names) c.alone-own.ensures.layers) (held_none c.new.result c.new.ensures.empty)
+    own_environment names (held c.new.result) (layers_of c.push_borrowed.new.self) (c.in_default.ensures.pushed ∙ ap (with_scope_pushed names) c.isolated-own.ensures.layers) (held_none c.new.result c.new.ensures.empty)

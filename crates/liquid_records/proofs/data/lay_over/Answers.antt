@@ -1,17 +1,16 @@
-use Rattle.std.proofs.Common.{◌≡◌, [], ◌∷◌, ◌++◌, string_bytes, refl, sym, ap, subst, ◌∙◌, append_assoc, rules}
+use Rattle.std.proofs.Common.{◌≡◌, [], ◌∷◌, ◌++◌, sym, ap, subst, ◌∙◌, append_assoc, rules}
 use Rattle.std.specs.List.Sorted.{IsStrictlySortedBy}
 use Rattle.std.specs.Map.{keys_of}
 use Rattle.std.specs.String.{string_cmp}
-use Rattle.liquid_model.specs.View.{view}
 use Rattle.liquid_model.proofs.Views.{Entry, put_last}
 use Rattle.liquid_core.specs.Held.{held}
 use Rattle.liquid_core.proofs.DataChanges.{none_set}
-use Rattle.liquid_records.specs.inside.Covered.{covered_view, uncovered}
-use Rattle.liquid_records.proofs.Over.{one_over, one_covered}
+use Rattle.liquid_records.specs.inside.Covered.{AreThere, covered_view}
+use Rattle.liquid_records.proofs.Over.{one_over, same_back, same_there}
 use Rattle.liquid_records.proofs.data.lay_over.Goals as goal
 
 pub loop-name-init : goal.loop-name-init
-loop-name-init c = ([], search rules, sym (none_set (held c.args.«data»)), search rules)
+loop-name-init c = ([], search rules, sym (none_set (held c.args.«data».now)), search rules, subst (λ es. AreThere (covered_view es) (held c.args.«data».now)) (sym c.new-covered.ensures.items) tt)
 
 pub loop-name-preserved : goal.loop-name-preserved
 loop-name-preserved c =
@@ -24,8 +23,15 @@ loop-name-preserved c =
     let last = put_last done e left (subst (λ es. IsStrictlySortedBy string_cmp (keys_of es)) all sorted) in (
       done ++ e ∷ [],
       all ∙ sym (append_assoc done (e ∷ []) left),
-      one_over (held c.args.«data») (held l.over) (held c.exchange.new.«data») done e last l.invariant.2 c.in_ok-before.ensures.put,
-      ap (λ cs. uncovered (covered_view cs) (held c.exchange.new.«data»)) c.in_ok-push.ensures.items
-          ∙ one_covered (held c.args.«data») (held l.over) (held c.exchange.new.«data») l.covered.items c.in_ok-kept.kept c.in_ok-before.before (string_bytes c.in-Some.name) (view c.in-Some.value)
-          (c.in_ok-kept.ensures.ok ∙ c.as_str.ensures.value) c.in_ok-before.ensures.before c.in_ok-before.ensures.put l.invariant.3,
+      one_over (held c.args.«data».now) (held l.«data») (held c.cover.new.«data») done e last l.invariant.2 c.in-Ok.ensures.put,
+      c.in-Ok.ensures.back ∙ l.invariant.3,
+      c.in-Ok.ensures.there l.invariant.4,
     )
+
+pub take_off-requires : goal.take_off-requires
+take_off-requires c = same_there (held c.loop-name.«data») (held c.cover.new.«data») c.loop-name.covered.items c.cover.new.covered.items c.in-Err.ensures.same c.in-Err.ensures.untouched c.loop-name.invariant.4
+
+pub returns-in-Err-clause-untouched : goal.returns-in-Err-clause-untouched
+returns-in-Err-clause-untouched c =
+    c.take_off.ensures ∙ same_back (held c.loop-name.«data») (held c.cover.new.«data») c.loop-name.covered.items c.cover.new.covered.items c.in-Err.ensures.same c.in-Err.ensures.untouched
+    ∙ c.loop-name.invariant.3

@@ -2,7 +2,7 @@
 ghost use Rattle.std.specs.Prelude.{◌&&◌, ◌≡◌, ◌≤◌, IfSome, length, map, nat_le, IsTrue};
 ghost use Rattle.liquid_model.specs.Answer.{IsValueOrMemory, Answers};
 ghost use Rattle.liquid_model.specs.View.{view};
-ghost use Rattle.liquid_filter_base.specs.Stands.{Stands};
+ghost use Rattle.liquid_filter_base.specs.Satisfies.{Satisfies};
 ghost use Rattle.liquid_text_filters.specs.Places.{start};
 ghost use Rattle.liquid_text_filters.specs.Slice.{items_part, part, slice_answer, text_part};
 ghost use Rattle.liquid_text_filters.specs.Laws.{SlicesInput};
@@ -33,7 +33,7 @@ impl Filter for Slice {
     fn evaluate(&self, alloc: Global, input: &Value, args: &[Value]) -> Result<Value>
         requires { IsTrue (nat_le 1 (length args.now) && nat_le (length args.now) 2) }
         ensures answer { Answers view result (slice_answer (view input.now) (map view args.now)) }
-        ensures relation { Stands (SlicesInput (view input.now) (map view args.now)) result }
+        ensures relation { Satisfies (SlicesInput (view input.now) (map view args.now)) result }
     {
         slice_answer(alloc, input, args)
     }
@@ -68,7 +68,8 @@ fn part(alloc: Global, input: &Value, offset: i64, count: usize) -> Result<Value
     }
 }
 
-/// The first place of a part of so many places, or none where the offset stays below 0.
+/// Where a part begins among `places` places: at `offset`, which counts from the end where it is
+/// negative, and at the end at most. `None` where that is before the first place.
 fn start(places: usize, offset: i64) -> Option<usize>
     ensures place { result ≡ start places offset }
     ensures within { IfSome result (λ from. from ≤ places) }

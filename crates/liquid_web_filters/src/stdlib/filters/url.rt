@@ -5,7 +5,7 @@ ghost use Rattle.liquid_model.specs.Answer.{Answers, IsValueOrMemory};
 ghost use Rattle.liquid_web_filters.specs.Urls.{plus_to_space, text_of_bytes, unescaped};
 ghost use Rattle.liquid_web_filters.specs.Urls.{url_decode_answer, url_encode_answer, url_escaped};
 ghost use Rattle.liquid_model.specs.View.{view};
-ghost use Rattle.liquid_filter_base.specs.Stands.{Stands};
+ghost use Rattle.liquid_filter_base.specs.Satisfies.{Satisfies};
 ghost use Rattle.liquid_web_filters.specs.UrlLaws.{EncodesUrl, UrlDecodes};
 
 use liquid_core::{Error, ErrorKind, Filter, Result, Value};
@@ -36,7 +36,7 @@ impl Filter for UrlEncode {
         requires { IsTrue (nat_eq (length args.now) 0) }
         ensures answer { Answers view result (url_encode_answer (view input.now)
             (map view args.now)) }
-        ensures relation { Stands (EncodesUrl (view input.now)) result }
+        ensures relation { Satisfies (EncodesUrl (view input.now)) result }
     {
         url_encode_answer(alloc, input, args)
     }
@@ -74,7 +74,7 @@ impl Filter for UrlDecode {
         requires { IsTrue (nat_eq (length args.now) 0) }
         ensures answer { Answers view result (url_decode_answer (view input.now)
             (map view args.now)) }
-        ensures relation { Stands (UrlDecodes (view input.now)) result }
+        ensures relation { Satisfies (UrlDecodes (view input.now)) result }
     {
         url_decode_answer(alloc, input, args)
     }

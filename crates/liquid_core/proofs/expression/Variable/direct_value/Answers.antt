@@ -1,10 +1,10 @@
 use Rattle.std.proofs.Common.{rules, arith, ◌≡◌, Some, None, length, refl, ap, ◌∙◌}
-use Rattle.liquid_core.proofs.Said.{empty_of, says_as}
+use Rattle.liquid_core.proofs.DirectValues.{empty_of, directly_as}
 use Rattle.liquid_model.specs.Data.{number}
 use Rattle.liquid_model.specs.View.{view}
 use Rattle.liquid_core.specs.Expressions.{value_of}
 use Rattle.liquid_core.specs.ExpressionView.{variable_view, steps_view}
-use Rattle.liquid_core.specs.Led.{led}
+use Rattle.liquid_core.specs.AlongSteps.{value_along_steps}
 use Rattle.liquid_core.specs.LoopFrames.{frame_object}
 use Rattle.liquid_core.specs.States.{environment_of}
 use Rattle.liquid_core.proofs.ExpressionViews.{value_from, no_more}
@@ -31,6 +31,6 @@ returns-in-Loop c =
     let there = c.in-Loop.ensures in
     let d = frame_object c.in-Loop.frame.now there.0 in
     let items : c.as_slice.result.now ≡ w.indexes.items = c.as_slice.ensures.value in
-    says_as c.direct_part.result (led d (steps_view c.as_slice.result.now) e) (value_of (variable_view w) e) None
-    (ap (λ l. led d (steps_view l) e) items ∙ value_from w e c.as_str.result.now w.indexes.items (Some d) (search rules) refl there.1)
+    directly_as c.direct_part.result (value_along_steps d (steps_view c.as_slice.result.now) e) (value_of (variable_view w) e) None
+    (ap (λ l. value_along_steps d (steps_view l) e) items ∙ value_from w e c.as_str.result.now w.indexes.items (Some d) (search rules) refl there.1)
     (c.direct_part.ensures e there.0)

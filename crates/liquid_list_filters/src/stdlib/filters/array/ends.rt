@@ -4,7 +4,7 @@ ghost use Rattle.std.specs.Prelude.{string_bytes, IsTrue, length};
 ghost use Rattle.std.specs.Str.{chars};
 ghost use Rattle.liquid_model.specs.Answer.{Answers, IsValueOrMemory};
 ghost use Rattle.liquid_model.specs.View.{view, items_view};
-ghost use Rattle.liquid_filter_base.specs.Stands.{Stands};
+ghost use Rattle.liquid_filter_base.specs.Satisfies.{Satisfies};
 ghost use Rattle.liquid_list_filters.specs.Laws.{OfEnds};
 ghost use Rattle.liquid_list_filters.specs.Places.{EndsWith, StartsWith};
 ghost use Rattle.liquid_list_filters.specs.Ends.{first_answer, last_answer, first_item, last_item};
@@ -32,7 +32,7 @@ impl Filter for First {
     fn evaluate(&self, alloc: Global, input: &Value, args: &[Value]) -> Result<Value>
         requires { IsTrue (nat_eq (length args.now) 0) }
         ensures answer { Answers view result (first_answer (view input.now) (map view args.now)) }
-        ensures relation { Stands (OfEnds StartsWith StartsWith (view input.now)) result }
+        ensures relation { Satisfies (OfEnds StartsWith StartsWith (view input.now)) result }
     {
         first_answer(alloc, input, args)
     }
@@ -66,7 +66,7 @@ impl Filter for Last {
     fn evaluate(&self, alloc: Global, input: &Value, args: &[Value]) -> Result<Value>
         requires { IsTrue (nat_eq (length args.now) 0) }
         ensures answer { Answers view result (last_answer (view input.now) (map view args.now)) }
-        ensures relation { Stands (OfEnds EndsWith EndsWith (view input.now)) result }
+        ensures relation { Satisfies (OfEnds EndsWith EndsWith (view input.now)) result }
     {
         last_answer(alloc, input, args)
     }

@@ -5,7 +5,7 @@ ghost use Rattle.liquid_model.specs.Data.{text_of};
 ghost use Rattle.liquid_model.specs.Lists.{list_of};
 ghost use Rattle.liquid_model.specs.View.{view, items_view};
 ghost use Rattle.liquid_filter_base.specs.Joined.{joined};
-ghost use Rattle.liquid_filter_base.specs.Stands.{Stands};
+ghost use Rattle.liquid_filter_base.specs.Satisfies.{Satisfies};
 ghost use Rattle.liquid_list_filters.specs.Laws.{Joins};
 ghost use Rattle.liquid_list_filters.specs.Joined.{join_answer, join_by};
 
@@ -31,7 +31,7 @@ impl Filter for Join {
     fn evaluate(&self, alloc: Global, input: &Value, args: &[Value]) -> Result<Value>
         requires { IsTrue (nat_le (length args.now) 1) }
         ensures answer { Answers view result (join_answer (view input.now) (map view args.now)) }
-        ensures relation { Stands (Joins (view input.now) (map view args.now)) result }
+        ensures relation { Satisfies (Joins (view input.now) (map view args.now)) result }
     {
         join_answer(alloc, input, args)
     }

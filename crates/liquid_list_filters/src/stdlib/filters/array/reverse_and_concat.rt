@@ -3,7 +3,7 @@ ghost use Rattle.std.specs.Prelude.{◌++◌, nat_eq, map, reverse, IsTrue, leng
 ghost use Rattle.liquid_model.specs.Answer.{Answers, IsValueOrMemory};
 ghost use Rattle.liquid_model.specs.Lists.{list_of};
 ghost use Rattle.liquid_model.specs.View.{view, items_view};
-ghost use Rattle.liquid_filter_base.specs.Stands.{Stands, WithFirst};
+ghost use Rattle.liquid_filter_base.specs.Satisfies.{Satisfies, WithFirst};
 ghost use Rattle.liquid_list_filters.specs.Laws.{Concats, Reverses};
 ghost use Rattle.liquid_list_filters.specs.Rows.{concat_answer, reverse_answer};
 
@@ -28,7 +28,7 @@ impl Filter for Reverse {
     fn evaluate(&self, alloc: Global, input: &Value, args: &[Value]) -> Result<Value>
         requires { IsTrue (nat_eq (length args.now) 0) }
         ensures answer { Answers view result (reverse_answer (view input.now) (map view args.now)) }
-        ensures relation { Stands (Reverses (view input.now)) result }
+        ensures relation { Satisfies (Reverses (view input.now)) result }
     {
         reverse_answer(alloc, input, args)
     }
@@ -80,7 +80,7 @@ impl Filter for Concat {
     fn evaluate(&self, alloc: Global, input: &Value, args: &[Value]) -> Result<Value>
         requires { IsTrue (nat_eq (length args.now) 1) }
         ensures answer { Answers view result (concat_answer (view input.now) (map view args.now)) }
-        ensures relation { Stands (WithFirst (λ e rest. Concats e (view input.now))
+        ensures relation { Satisfies (WithFirst (λ e rest. Concats e (view input.now))
             (map view args.now)) result }
     {
         concat_answer(alloc, input, args)

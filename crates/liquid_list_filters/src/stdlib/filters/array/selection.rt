@@ -5,7 +5,7 @@ ghost use Rattle.liquid_model.specs.Data.{text_of};
 ghost use Rattle.liquid_model.specs.Lists.{list_of};
 ghost use Rattle.liquid_model.specs.View.{view, items_view};
 ghost use Rattle.liquid_filter_base.specs.Arguments.{first_of};
-ghost use Rattle.liquid_filter_base.specs.Stands.{Stands, WithFirst};
+ghost use Rattle.liquid_filter_base.specs.Satisfies.{Satisfies, WithFirst};
 ghost use Rattle.liquid_list_filters.specs.Laws.{Compacts, Maps, Uniqs, Wheres};
 ghost use Rattle.liquid_list_filters.specs.Keeping.{compact, compact_of, compact_by};
 ghost use Rattle.liquid_list_filters.specs.Keeping.{compact_answer, is_given, is_wanted, where_of};
@@ -39,7 +39,7 @@ impl Filter for Compact {
     fn evaluate(&self, alloc: Global, input: &Value, args: &[Value]) -> Result<Value>
         requires { IsTrue (nat_le (length args.now) 1) }
         ensures answer { Answers view result (compact_answer (view input.now) (map view args.now)) }
-        ensures relation { Stands (Compacts (view input.now) (map view args.now)) result }
+        ensures relation { Satisfies (Compacts (view input.now) (map view args.now)) result }
     {
         compact_answer(alloc, input, args)
     }
@@ -134,7 +134,7 @@ impl Filter for Where {
     fn evaluate(&self, alloc: Global, input: &Value, args: &[Value]) -> Result<Value>
         requires { IsTrue (nat_le 1 (length args.now) && nat_le (length args.now) 2) }
         ensures answer { Answers view result (where_answer (view input.now) (map view args.now)) }
-        ensures relation { Stands
+        ensures relation { Satisfies
             (WithFirst (λ name rest. Wheres (text_of name) (first_of rest) (view input.now))
             (map view args.now)) result }
     {
@@ -219,7 +219,7 @@ impl Filter for Map {
     fn evaluate(&self, alloc: Global, input: &Value, args: &[Value]) -> Result<Value>
         requires { IsTrue (nat_eq (length args.now) 1) }
         ensures answer { Answers view result (map_answer (view input.now) (map view args.now)) }
-        ensures relation { Stands (WithFirst (λ name rest. Maps (text_of name) (view input.now))
+        ensures relation { Satisfies (WithFirst (λ name rest. Maps (text_of name) (view input.now))
             (map view args.now)) result }
     {
         map_answer(alloc, input, args)
@@ -276,7 +276,7 @@ impl Filter for Uniq {
     fn evaluate(&self, alloc: Global, input: &Value, args: &[Value]) -> Result<Value>
         requires { IsTrue (nat_eq (length args.now) 0) }
         ensures answer { Answers view result (uniq_answer (view input.now) (map view args.now)) }
-        ensures relation { Stands (Uniqs (view input.now)) result }
+        ensures relation { Satisfies (Uniqs (view input.now)) result }
     {
         uniq_answer(alloc, input, args)
     }

@@ -4,10 +4,10 @@ ghost use Rattle.liquid_model.specs.Answer.{Answers, IsValueOrMemory};
 ghost use Rattle.liquid_model.specs.Cow.{cow_view};
 ghost use Rattle.liquid_model.specs.Lists.{list_of};
 ghost use Rattle.liquid_model.specs.View.{view, items_view};
-ghost use Rattle.liquid_filter_base.specs.Stands.{Stands};
+ghost use Rattle.liquid_filter_base.specs.Satisfies.{Satisfies};
 ghost use Rattle.liquid_list_filters.specs.Laws.{Sorts};
 ghost use Rattle.liquid_list_filters.specs.Keyed.{key_view, keyed_view, keyed_below};
-ghost use Rattle.liquid_list_filters.specs.Sorting.{given, key_order, key_of, natural_key_of};
+ghost use Rattle.liquid_list_filters.specs.Sorting.{sort_key, key_order, key_of, natural_key_of};
 ghost use Rattle.liquid_list_filters.specs.Sorting.{sort_by, sorted, sort_answer};
 ghost use Rattle.liquid_list_filters.specs.Sorting.{sort_natural_answer, sort_named};
 
@@ -37,7 +37,7 @@ impl Filter for Sort {
     fn evaluate(&self, alloc: Global, input: &Value, args: &[Value]) -> Result<Value>
         requires { IsTrue (nat_le (length args.now) 1) }
         ensures answer { Answers view result (sort_answer (view input.now) (map view args.now)) }
-        ensures relation { Stands (Sorts key_of (view input.now) (map view args.now)) result }
+        ensures relation { Satisfies (Sorts key_of (view input.now) (map view args.now)) result }
     {
         sort_answer(alloc, input, args)
     }
@@ -90,7 +90,7 @@ impl Filter for SortNatural {
         requires { IsTrue (nat_le (length args.now) 1) }
         ensures answer { Answers view result (sort_natural_answer (view input.now)
             (map view args.now)) }
-        ensures relation { Stands (Sorts natural_key_of (view input.now) (map view args.now))
+        ensures relation { Satisfies (Sorts natural_key_of (view input.now) (map view args.now))
             result }
     {
         sort_natural_answer(alloc, input, args)
@@ -193,16 +193,16 @@ fn key_of<'a>(item: &'a Value, name: Option<&str>) -> Option<&'a Value>
         (view item.now) }
 {
     match name {
-        None => given(item),
+        None => sort_key(item),
         Some(name) => match property(item, name) {
-            Some(value) => given(value),
+            Some(value) => sort_key(value),
             None => None,
         },
     }
 }
 
-fn given(value: &Value) -> Option<&Value>
-    ensures { option_map (λ v. view v.now) result ≡ given (view value.now) }
+fn sort_key(value: &Value) -> Option<&Value>
+    ensures { option_map (λ v. view v.now) result ≡ sort_key (view value.now) }
 {
     match value {
         Value::Nil => None,

@@ -3,7 +3,7 @@ ghost use Rattle.std.specs.Prelude.{◌≡◌, ◌≢◌, IsTrue, false, length,
 ghost use Rattle.std.specs.Prelude.{true};
 ghost use Rattle.liquid_model.specs.Answer.{Answers, TakesNoMemory};
 ghost use Rattle.liquid_model.specs.View.{view};
-ghost use Rattle.liquid_filter_base.specs.Stands.{Stands};
+ghost use Rattle.liquid_filter_base.specs.Satisfies.{Satisfies};
 ghost use Rattle.liquid_number_filters.specs.Decimals.{if_fits};
 ghost use Rattle.liquid_number_filters.specs.NumberLaws.{IsDifference, IsProduct, IsQuotient};
 ghost use Rattle.liquid_number_filters.specs.NumberLaws.{IsRemainder, IsSum, StepsWith};
@@ -31,7 +31,7 @@ impl Filter for Plus {
     fn evaluate(&self, alloc: Global, input: &Value, args: &[Value]) -> Result<Value>
         requires { IsTrue (nat_eq (length args.now) 1) }
         ensures answer { Answers view result (of_one plus (view input.now) (map view args.now)) }
-        ensures relation { Stands (StepsWith IsSum false (view input.now) (map view args.now))
+        ensures relation { Satisfies (StepsWith IsSum false (view input.now) (map view args.now))
             result }
         ensures no_memory { TakesNoMemory result
             (of_one plus (view input.now) (map view args.now)) }
@@ -73,7 +73,7 @@ impl Filter for Minus {
     fn evaluate(&self, alloc: Global, input: &Value, args: &[Value]) -> Result<Value>
         requires { IsTrue (nat_eq (length args.now) 1) }
         ensures answer { Answers view result (of_one minus (view input.now) (map view args.now)) }
-        ensures relation { Stands (StepsWith IsDifference false (view input.now)
+        ensures relation { Satisfies (StepsWith IsDifference false (view input.now)
             (map view args.now)) result }
         ensures no_memory { TakesNoMemory result
             (of_one minus (view input.now) (map view args.now)) }
@@ -115,8 +115,8 @@ impl Filter for Times {
     fn evaluate(&self, alloc: Global, input: &Value, args: &[Value]) -> Result<Value>
         requires { IsTrue (nat_eq (length args.now) 1) }
         ensures answer { Answers view result (of_one times (view input.now) (map view args.now)) }
-        ensures relation { Stands (StepsWith IsProduct false (view input.now) (map view args.now))
-            result }
+        ensures relation { Satisfies (StepsWith IsProduct false (view input.now)
+            (map view args.now)) result }
         ensures no_memory { TakesNoMemory result
             (of_one times (view input.now) (map view args.now)) }
     {
@@ -159,8 +159,8 @@ impl Filter for DividedBy {
         requires { IsTrue (nat_eq (length args.now) 1) }
         ensures answer { Answers view result (of_one divided_by (view input.now)
             (map view args.now)) }
-        ensures relation { Stands (StepsWith IsQuotient true (view input.now) (map view args.now))
-            result }
+        ensures relation { Satisfies (StepsWith IsQuotient true (view input.now)
+            (map view args.now)) result }
         ensures no_memory { TakesNoMemory result (of_one divided_by (view input.now)
             (map view args.now)) }
     {
@@ -202,8 +202,8 @@ impl Filter for Modulo {
     fn evaluate(&self, alloc: Global, input: &Value, args: &[Value]) -> Result<Value>
         requires { IsTrue (nat_eq (length args.now) 1) }
         ensures answer { Answers view result (of_one modulo (view input.now) (map view args.now)) }
-        ensures relation { Stands (StepsWith IsRemainder true (view input.now) (map view args.now))
-            result }
+        ensures relation { Satisfies (StepsWith IsRemainder true (view input.now)
+            (map view args.now)) result }
         ensures no_memory { TakesNoMemory result
             (of_one modulo (view input.now) (map view args.now)) }
     {

@@ -4,7 +4,7 @@ ghost use Rattle.liquid_model.specs.Answer.{Answers, TakesNoMemory};
 ghost use Rattle.liquid_model.specs.Data.{scalar};
 ghost use Rattle.liquid_model.specs.View.{view};
 ghost use Rattle.liquid_model.specs.Whole.{whole};
-ghost use Rattle.liquid_filter_base.specs.Stands.{Stands};
+ghost use Rattle.liquid_filter_base.specs.Satisfies.{Satisfies};
 ghost use Rattle.liquid_number_filters.specs.Decimals.{is_decimal_text};
 ghost use Rattle.liquid_number_filters.specs.NumberLaws.{AbsoluteOf, IsGreater, IsLesser};
 ghost use Rattle.liquid_number_filters.specs.NumberLaws.{StepsWith};
@@ -33,8 +33,8 @@ impl Filter for AtLeast {
         requires { IsTrue (nat_eq (length args.now) 1) }
         ensures answer { Answers view result
             (of_one at_least (view input.now) (map view args.now)) }
-        ensures relation { Stands (StepsWith IsGreater false (view input.now) (map view args.now))
-            result }
+        ensures relation { Satisfies (StepsWith IsGreater false (view input.now)
+            (map view args.now)) result }
         ensures no_memory { TakesNoMemory result
             (of_one at_least (view input.now) (map view args.now)) }
     {
@@ -76,7 +76,7 @@ impl Filter for AtMost {
     fn evaluate(&self, alloc: Global, input: &Value, args: &[Value]) -> Result<Value>
         requires { IsTrue (nat_eq (length args.now) 1) }
         ensures answer { Answers view result (of_one at_most (view input.now) (map view args.now)) }
-        ensures relation { Stands (StepsWith IsLesser false (view input.now) (map view args.now))
+        ensures relation { Satisfies (StepsWith IsLesser false (view input.now) (map view args.now))
             result }
         ensures no_memory { TakesNoMemory result
             (of_one at_most (view input.now) (map view args.now)) }
@@ -119,7 +119,7 @@ impl Filter for Abs {
     fn evaluate(&self, alloc: Global, input: &Value, args: &[Value]) -> Result<Value>
         requires { IsTrue (nat_eq (length args.now) 0) }
         ensures answer { Answers view result (of_none abs (view input.now) (map view args.now)) }
-        ensures relation { Stands (AbsoluteOf (scalar (view input.now)) (whole (view input.now))
+        ensures relation { Satisfies (AbsoluteOf (scalar (view input.now)) (whole (view input.now))
             (is_decimal_text (view input.now))) result }
         ensures no_memory { TakesNoMemory result
             (of_none abs (view input.now) (map view args.now)) }

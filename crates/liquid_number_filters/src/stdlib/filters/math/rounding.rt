@@ -3,7 +3,7 @@ ghost use Rattle.std.specs.Prelude.{IsTrue, ◌||◌, length, map, nat_eq};
 ghost use Rattle.liquid_model.specs.Answer.{Answers, TakesNoMemory};
 ghost use Rattle.liquid_model.specs.View.{view};
 ghost use Rattle.liquid_model.specs.Whole.{whole};
-ghost use Rattle.liquid_filter_base.specs.Stands.{Stands};
+ghost use Rattle.liquid_filter_base.specs.Satisfies.{Satisfies};
 ghost use Rattle.liquid_number_filters.specs.Numbers.{of_none};
 ghost use Rattle.liquid_number_filters.specs.declared.stdlib.filters.math.decimal.Rounding.TheVariants.{Nearest};
 ghost use Rattle.liquid_number_filters.specs.declared.stdlib.filters.math.decimal.Rounding.TheVariants.{Up};
@@ -43,7 +43,7 @@ impl Filter for Round {
     fn evaluate(&self, alloc: Global, input: &Value, args: &[Value]) -> Result<Value>
         requires { IsTrue (nat_eq (length args.now) 0 || nat_eq (length args.now) 1) }
         ensures answer { Answers view result (round (view input.now) (map view args.now)) }
-        ensures relation { Stands (Rounds (map view args.now) (view input.now)) result }
+        ensures relation { Satisfies (Rounds (map view args.now) (view input.now)) result }
         ensures no_memory { TakesNoMemory result (round (view input.now) (map view args.now)) }
     {
         round_answer(alloc, input, args)
@@ -80,7 +80,8 @@ impl Filter for Ceil {
         requires { IsTrue (nat_eq (length args.now) 0) }
         ensures answer { Answers view result (of_none (rounded Up) (view input.now)
             (map view args.now)) }
-        ensures relation { Stands (IsRounded Up (whole (view input.now)) (view input.now)) result }
+        ensures relation { Satisfies (IsRounded Up (whole (view input.now))
+            (view input.now)) result }
         ensures no_memory { TakesNoMemory result (of_none (rounded Up) (view input.now)
             (map view args.now)) }
     {
@@ -118,7 +119,7 @@ impl Filter for Floor {
         requires { IsTrue (nat_eq (length args.now) 0) }
         ensures answer { Answers view result (of_none (rounded Down) (view input.now)
             (map view args.now)) }
-        ensures relation { Stands (IsRounded Down (whole (view input.now)) (view input.now))
+        ensures relation { Satisfies (IsRounded Down (whole (view input.now)) (view input.now))
             result }
         ensures no_memory { TakesNoMemory result (of_none (rounded Down) (view input.now)
             (map view args.now)) }

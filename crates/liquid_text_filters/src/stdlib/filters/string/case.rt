@@ -4,7 +4,7 @@ ghost use Rattle.liquid_model.specs.Answer.{IsValueOrMemory, Answers};
 ghost use Rattle.liquid_text_filters.specs.Case.{capitalize_answer, capitalized, downcase_answer};
 ghost use Rattle.liquid_text_filters.specs.Case.{upcase_answer};
 ghost use Rattle.liquid_model.specs.View.{view};
-ghost use Rattle.liquid_filter_base.specs.Stands.{Stands};
+ghost use Rattle.liquid_filter_base.specs.Satisfies.{Satisfies};
 ghost use Rattle.liquid_text_filters.specs.Laws.{CapitalizesText, Downcases, Upcases};
 
 use liquid_core::{Filter, Result, Value};
@@ -28,7 +28,7 @@ impl Filter for Downcase {
         requires { IsTrue (nat_eq (length args.now) 0) }
         ensures answer { Answers view result
             (downcase_answer (view input.now) (map view args.now)) }
-        ensures relation { Stands (Downcases (view input.now) (map view args.now)) result }
+        ensures relation { Satisfies (Downcases (view input.now) (map view args.now)) result }
     {
         downcase_answer(alloc, input, args)
     }
@@ -58,7 +58,7 @@ impl Filter for Upcase {
     fn evaluate(&self, alloc: Global, input: &Value, args: &[Value]) -> Result<Value>
         requires { IsTrue (nat_eq (length args.now) 0) }
         ensures answer { Answers view result (upcase_answer (view input.now) (map view args.now)) }
-        ensures relation { Stands (Upcases (view input.now) (map view args.now)) result }
+        ensures relation { Satisfies (Upcases (view input.now) (map view args.now)) result }
     {
         upcase_answer(alloc, input, args)
     }
@@ -89,7 +89,7 @@ impl Filter for Capitalize {
         requires { IsTrue (nat_eq (length args.now) 0) }
         ensures answer { Answers view result (capitalize_answer (view input.now)
             (map view args.now)) }
-        ensures relation { Stands (CapitalizesText (view input.now) (map view args.now)) result }
+        ensures relation { Satisfies (CapitalizesText (view input.now) (map view args.now)) result }
     {
         capitalize_answer(alloc, input, args)
     }

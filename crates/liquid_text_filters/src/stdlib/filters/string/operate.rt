@@ -5,7 +5,7 @@ ghost use Rattle.liquid_text_filters.specs.Operate.{append_answer, prepend_answe
 ghost use Rattle.liquid_text_filters.specs.Operate.{remove_first_answer, replace_answer};
 ghost use Rattle.liquid_text_filters.specs.Operate.{replace_first_answer, replaced, replaced_first};
 ghost use Rattle.liquid_model.specs.View.{view};
-ghost use Rattle.liquid_filter_base.specs.Stands.{Stands};
+ghost use Rattle.liquid_filter_base.specs.Satisfies.{Satisfies};
 ghost use Rattle.liquid_text_filters.specs.Laws.{RemovesAll, RemovesOne, ReplacesAll, ReplacesOne};
 
 use crate::argument::text_or;
@@ -72,7 +72,7 @@ impl Filter for Replace {
     fn evaluate(&self, alloc: Global, input: &Value, args: &[Value]) -> Result<Value>
         requires { IsTrue (nat_le 1 (length args.now) && nat_le (length args.now) 2) }
         ensures answer { Answers view result (replace_answer (view input.now) (map view args.now)) }
-        ensures relation { Stands (ReplacesAll (view input.now) (map view args.now)) result }
+        ensures relation { Satisfies (ReplacesAll (view input.now) (map view args.now)) result }
     {
         replace_answer(alloc, input, args)
     }
@@ -106,7 +106,7 @@ impl Filter for ReplaceFirst {
         requires { IsTrue (nat_le 1 (length args.now) && nat_le (length args.now) 2) }
         ensures answer { Answers view result (replace_first_answer (view input.now)
             (map view args.now)) }
-        ensures relation { Stands (ReplacesOne (view input.now) (map view args.now)) result }
+        ensures relation { Satisfies (ReplacesOne (view input.now) (map view args.now)) result }
     {
         replace_first_answer(alloc, input, args)
     }
@@ -138,7 +138,7 @@ impl Filter for Remove {
     fn evaluate(&self, alloc: Global, input: &Value, args: &[Value]) -> Result<Value>
         requires { IsTrue (nat_eq (length args.now) 1) }
         ensures answer { Answers view result (remove_answer (view input.now) (map view args.now)) }
-        ensures relation { Stands (RemovesAll (view input.now) (map view args.now)) result }
+        ensures relation { Satisfies (RemovesAll (view input.now) (map view args.now)) result }
     {
         remove_answer(alloc, input, args)
     }
@@ -170,7 +170,7 @@ impl Filter for RemoveFirst {
         requires { IsTrue (nat_eq (length args.now) 1) }
         ensures answer { Answers view result (remove_first_answer (view input.now)
             (map view args.now)) }
-        ensures relation { Stands (RemovesOne (view input.now) (map view args.now)) result }
+        ensures relation { Satisfies (RemovesOne (view input.now) (map view args.now)) result }
     {
         remove_first_answer(alloc, input, args)
     }

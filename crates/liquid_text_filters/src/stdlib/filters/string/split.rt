@@ -3,7 +3,7 @@ ghost use Rattle.std.specs.Prelude.{◌<◌, length, map, nat_eq, IsTrue};
 ghost use Rattle.liquid_model.specs.Answer.{IsValueOrMemory, Answers};
 ghost use Rattle.liquid_model.specs.Data.{text as text_datum};
 ghost use Rattle.liquid_model.specs.View.{view};
-ghost use Rattle.liquid_filter_base.specs.Stands.{Stands};
+ghost use Rattle.liquid_filter_base.specs.Satisfies.{Satisfies};
 ghost use Rattle.liquid_text_filters.specs.Pieces.{pieces, single_characters};
 ghost use Rattle.liquid_text_filters.specs.Split.{divided, split_answer};
 ghost use Rattle.liquid_text_filters.specs.Laws.{SplitsText};
@@ -31,7 +31,7 @@ impl Filter for Split {
     fn evaluate(&self, alloc: Global, input: &Value, args: &[Value]) -> Result<Value>
         requires { IsTrue (nat_eq (length args.now) 1) }
         ensures answer { Answers view result (split_answer (view input.now) (map view args.now)) }
-        ensures relation { Stands (SplitsText (view input.now) (map view args.now)) result }
+        ensures relation { Satisfies (SplitsText (view input.now) (map view args.now)) result }
     {
         split_answer(alloc, input, args)
     }

@@ -5,7 +5,7 @@ ghost use Rattle.liquid_text_filters.specs.Strip.{lstrip_answer, rstrip_answer, 
 ghost use Rattle.liquid_text_filters.specs.Strip.{strip_newlines_answer, without_newlines};
 ghost use Rattle.liquid_text_filters.specs.Strip.{without_returns};
 ghost use Rattle.liquid_model.specs.View.{view};
-ghost use Rattle.liquid_filter_base.specs.Stands.{Stands};
+ghost use Rattle.liquid_filter_base.specs.Satisfies.{Satisfies};
 ghost use Rattle.liquid_text_filters.specs.Laws.{StripsLines, StripsText, StripsTextAtEnd};
 ghost use Rattle.liquid_text_filters.specs.Laws.{StripsTextAtStart};
 
@@ -29,7 +29,7 @@ impl Filter for Strip {
     fn evaluate(&self, alloc: Global, input: &Value, args: &[Value]) -> Result<Value>
         requires { IsTrue (nat_eq (length args.now) 0) }
         ensures answer { Answers view result (strip_answer (view input.now) (map view args.now)) }
-        ensures relation { Stands (StripsText (view input.now) (map view args.now)) result }
+        ensures relation { Satisfies (StripsText (view input.now) (map view args.now)) result }
     {
         strip_answer(alloc, input, args)
     }
@@ -59,7 +59,8 @@ impl Filter for Lstrip {
     fn evaluate(&self, alloc: Global, input: &Value, args: &[Value]) -> Result<Value>
         requires { IsTrue (nat_eq (length args.now) 0) }
         ensures answer { Answers view result (lstrip_answer (view input.now) (map view args.now)) }
-        ensures relation { Stands (StripsTextAtStart (view input.now) (map view args.now)) result }
+        ensures relation { Satisfies (StripsTextAtStart (view input.now)
+            (map view args.now)) result }
     {
         lstrip_answer(alloc, input, args)
     }
@@ -89,7 +90,7 @@ impl Filter for Rstrip {
     fn evaluate(&self, alloc: Global, input: &Value, args: &[Value]) -> Result<Value>
         requires { IsTrue (nat_eq (length args.now) 0) }
         ensures answer { Answers view result (rstrip_answer (view input.now) (map view args.now)) }
-        ensures relation { Stands (StripsTextAtEnd (view input.now) (map view args.now)) result }
+        ensures relation { Satisfies (StripsTextAtEnd (view input.now) (map view args.now)) result }
     {
         rstrip_answer(alloc, input, args)
     }
@@ -120,7 +121,7 @@ impl Filter for StripNewlines {
         requires { IsTrue (nat_eq (length args.now) 0) }
         ensures answer { Answers view result (strip_newlines_answer (view input.now)
             (map view args.now)) }
-        ensures relation { Stands (StripsLines (view input.now) (map view args.now)) result }
+        ensures relation { Satisfies (StripsLines (view input.now) (map view args.now)) result }
     {
         strip_newlines_answer(alloc, input, args)
     }

@@ -5,7 +5,7 @@ ghost use Rattle.liquid_text_filters.specs.Truncate.{first_clusters, first_words
 ghost use Rattle.liquid_text_filters.specs.Truncate.{truncatewords_answer, words_of};
 ghost use Rattle.liquid_model.specs.Answer.{Answers};
 ghost use Rattle.liquid_model.specs.View.{view};
-ghost use Rattle.liquid_filter_base.specs.Stands.{Stands};
+ghost use Rattle.liquid_filter_base.specs.Satisfies.{Satisfies};
 ghost use Rattle.liquid_text_filters.specs.Laws.{TruncatesText, TruncatesTextByWords};
 
 use crate::argument::{text_or, whole_or};
@@ -35,7 +35,7 @@ impl Filter for Truncate {
         requires { IsTrue (nat_le (length args.now) 2) }
         ensures answer { Answers view result
             (truncate_answer (view input.now) (map view args.now)) }
-        ensures relation { Stands (TruncatesText (view input.now) (map view args.now)) result }
+        ensures relation { Satisfies (TruncatesText (view input.now) (map view args.now)) result }
     {
         truncate_answer(alloc, input, args)
     }
@@ -75,7 +75,7 @@ impl Filter for TruncateWords {
         requires { IsTrue (nat_le (length args.now) 2) }
         ensures answer { Answers view result (truncatewords_answer (view input.now)
             (map view args.now)) }
-        ensures relation { Stands (TruncatesTextByWords (view input.now) (map view args.now))
+        ensures relation { Satisfies (TruncatesTextByWords (view input.now) (map view args.now))
             result }
     {
         truncatewords_answer(alloc, input, args)

@@ -7,7 +7,7 @@ ghost use Rattle.liquid_web_filters.specs.Escapes.{ends_escape, escape_answer, e
 ghost use Rattle.liquid_web_filters.specs.Escapes.{escape_once_answer, escaped_bytes, escaped_once};
 ghost use Rattle.liquid_web_filters.specs.Escapes.{once_byte};
 ghost use Rattle.liquid_model.specs.View.{view};
-ghost use Rattle.liquid_filter_base.specs.Stands.{Stands};
+ghost use Rattle.liquid_filter_base.specs.Satisfies.{Satisfies};
 ghost use Rattle.liquid_web_filters.specs.HtmlLaws.{EscapesOnce, EscapesText};
 
 use liquid_core::{Filter, Result, Value};
@@ -31,7 +31,7 @@ impl Filter for Escape {
     fn evaluate(&self, alloc: Global, input: &Value, args: &[Value]) -> Result<Value>
         requires { IsTrue (nat_eq (length args.now) 0) }
         ensures answer { Answers view result (escape_answer (view input.now) (map view args.now)) }
-        ensures relation { Stands (EscapesText (view input.now)) result }
+        ensures relation { Satisfies (EscapesText (view input.now)) result }
     {
         escape_answer(alloc, input, args)
     }
@@ -67,7 +67,7 @@ impl Filter for EscapeOnce {
         requires { IsTrue (nat_eq (length args.now) 0) }
         ensures answer { Answers view result (escape_once_answer (view input.now)
             (map view args.now)) }
-        ensures relation { Stands (EscapesOnce (view input.now)) result }
+        ensures relation { Satisfies (EscapesOnce (view input.now)) result }
     {
         escape_once_answer(alloc, input, args)
     }

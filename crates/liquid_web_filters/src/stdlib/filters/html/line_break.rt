@@ -3,7 +3,7 @@ ghost use Rattle.std.specs.Prelude.{nat_eq, string_bytes, IsTrue, length, map};
 ghost use Rattle.liquid_model.specs.Answer.{IsValueOrMemory, Answers};
 ghost use Rattle.liquid_web_filters.specs.LineBreaks.{broken, newline_to_br_answer};
 ghost use Rattle.liquid_model.specs.View.{view};
-ghost use Rattle.liquid_filter_base.specs.Stands.{Stands};
+ghost use Rattle.liquid_filter_base.specs.Satisfies.{Satisfies};
 ghost use Rattle.liquid_web_filters.specs.HtmlLaws.{BreaksLines};
 
 use crate::stdlib::filters::replaced::push_replaced;
@@ -28,7 +28,7 @@ impl Filter for NewlineToBr {
         requires { IsTrue (nat_eq (length args.now) 0) }
         ensures answer { Answers view result (newline_to_br_answer (view input.now)
             (map view args.now)) }
-        ensures relation { Stands (BreaksLines (view input.now)) result }
+        ensures relation { Satisfies (BreaksLines (view input.now)) result }
     {
         newline_to_br_answer(alloc, input, args)
     }

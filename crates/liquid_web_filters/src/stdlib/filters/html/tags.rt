@@ -3,7 +3,7 @@ ghost use Rattle.std.specs.Prelude.{nat_eq, IsTrue, length, map};
 ghost use Rattle.liquid_model.specs.Answer.{Answers};
 ghost use Rattle.liquid_web_filters.specs.Tags.{strip_html_answer};
 ghost use Rattle.liquid_model.specs.View.{view};
-ghost use Rattle.liquid_filter_base.specs.Stands.{Stands};
+ghost use Rattle.liquid_filter_base.specs.Satisfies.{Satisfies};
 ghost use Rattle.liquid_web_filters.specs.HtmlLaws.{StripsTags};
 
 use super::marks::without_tags;
@@ -30,7 +30,7 @@ impl Filter for StripHtml {
         requires { IsTrue (nat_eq (length args.now) 0) }
         ensures answer { Answers view result (strip_html_answer (view input.now)
             (map view args.now)) }
-        ensures relation { Stands (StripsTags (view input.now)) result }
+        ensures relation { Satisfies (StripsTags (view input.now)) result }
     {
         strip_html_answer(alloc, input, args)
     }

@@ -1,0 +1,87 @@
+-- The sorts of warnings: what each says.
+--     WarnsOf kind message s      a warning of this kind somewhere, that says this
+--     InOrder P Q ws      those of the one sort, and after them those of the other
+--     OnlyWhere b P ws      those of a sort, of which there are none where `b` is false
+--     IsDoubt s      a warning about what the data has other than a template asks for it
+use Rattle.std.specs.Prelude.{◌≡◌, ◌⊎◌, ℕ, Bool, true, false, List, [], ◌++◌, Option, codes}
+use Rattle.liquid_model.specs.Data.{Datum}
+use Rattle.liquid_model.specs.Texts.{Text}
+use Rattle.liquid_warnings.specs.Messages.{else_if_message, in_data, kind_word, lack_message}
+use Rattle.liquid_warnings.specs.Messages.{no_date, past_end, recursive_message}
+use Rattle.liquid_warnings.specs.Messages.{unescaped_message, unused_message}
+use Rattle.liquid_warnings.specs.Messages.{unused_partial_message, value_message}
+use Rattle.liquid_warnings.specs.Remarks.{Said, warning_at}
+
+abbrev pub WarnsOf : Text → Text → Said → Type 0
+WarnsOf kind message s = (line : ℕ) × (column : ℕ) × (s ≡ warning_at line column kind message)
+
+-- ---- of a source
+
+-- an `else` with something after it
+abbrev pub IsElseIf : Said → Type 0
+IsElseIf s = WarnsOf (codes "ElseIf") else_if_message s
+
+-- an output in an attribute that nothing escapes
+abbrev pub IsUnescaped : Said → Type 0
+IsUnescaped s = WarnsOf (codes "UnescapedAttribute") unescaped_message s
+
+-- ---- of names
+
+-- a name that neither the data nor a tag has, and a similar one if there is one
+abbrev pub IsUnknownName : Said → Type 0
+IsUnknownName s = (name : Text) × (similar : Option Text)
+    × WarnsOf (codes "UnknownName") (lack_message (codes "the data has no") name similar) s
+
+-- a name that is set and that nothing reads
+abbrev pub IsUnusedName : Said → Type 0
+IsUnusedName s = (name : Text) × WarnsOf (codes "UnusedVariable") (unused_message name) s
+
+-- ---- of the data
+
+-- a map on the way hasn't the key
+abbrev pub IsUnknownPath : Said → Type 0
+IsUnknownPath s = (message : Text) × WarnsOf (codes "UnknownPath") message s
+
+-- a loop over a value that is no list and no map
+abbrev pub IsUnlisted : Said → Type 0
+IsUnlisted s = (path : Text) × (d : Datum)
+    × WarnsOf (codes "NoList") (value_message (in_data path) (kind_word d)) s
+
+-- a `limit` that goes past the items of a list
+abbrev pub IsPastEnd : Said → Type 0
+IsPastEnd s = (path : Text) × (count : ℕ) × WarnsOf (codes "PastEnd") (past_end path count) s
+
+-- a text that isn't read as a date
+abbrev pub IsUndated : Said → Type 0
+IsUndated s = (path : Text) × (found : Text) × WarnsOf (codes "NoDate") (no_date path found) s
+
+abbrev pub IsDoubt : Said → Type 0
+IsDoubt s = IsUnknownPath s ⊎ (IsUnlisted s ⊎ (IsPastEnd s ⊎ IsUndated s))
+
+-- ---- of partials
+
+-- a tag runs one that isn't there
+abbrev pub IsMissingPartial : Said → Type 0
+IsMissingPartial s = (name : Text) × (similar : Option Text)
+    × WarnsOf (codes "MissingPartial") (lack_message (codes "no partial is named") name similar) s
+
+-- none of the templates runs it
+abbrev pub IsUnusedPartial : Said → Type 0
+IsUnusedPartial s = s ≡ warning_at 1 1 (codes "UnusedPartial") unused_partial_message
+
+-- a tag runs one in which it stands
+abbrev pub IsRecursive : Said → Type 0
+IsRecursive s = (name : Text) × WarnsOf (codes "RecursivePartial") (recursive_message name) s
+
+-- ---- one sort after another
+
+pub record InOrder (P Q : List Said → Type 0) (ws : List Said) : Type 0 where
+  pub first : List Said
+  pub more : List Said
+  pub whole : ws ≡ first ++ more
+  pub first_are : P first
+  pub more_are : Q more
+
+abbrev pub OnlyWhere : Bool → (List Said → Type 0) → List Said → Type 0
+OnlyWhere true P ws = P ws
+OnlyWhere false P ws = ws ≡ []

@@ -1,0 +1,99 @@
+-- The warnings of all files.
+--     AreWarned given files warnings      each file has its list of warnings, in the order of the
+--                                         files
+--     IsWarned given file warnings      these are the first hundred of those of its source, of its
+--                                       single tags and outputs, and of all files together
+--     AreOfSource is_html warnings      those of what stands in a source, in their order
+--     template_said template      those of single tags and outputs, in the order of the source
+--     AreOfWhole given warnings      those that need all files, in their order
+use Rattle.std.specs.Prelude.{◌≡◌, ◌+◌, ℕ, Bool, true, false, List, [], ◌∷◌, ◌++◌, All, map}
+use Rattle.std.specs.Prelude.{Option, Some, None, is_some, option_map, slice_get, take, Vec, ⊤}
+use Rattle.std.specs.Prelude.{String}
+use Rattle.std.specs.declared.alloc.Global.{Global}
+use Rattle.liquid_syntax.specs.Templates.{template_nodes, positions_of}
+use Rattle.liquid_syntax.specs.declared.node.Node.{Node}
+use Rattle.liquid_syntax.specs.declared.positions.Position.{Position}
+use Rattle.liquid_syntax.specs.declared.template.Template.{Template}
+use Rattle.liquid_warnings.specs.Nodes.{no_clock, no_list}
+use Rattle.liquid_warnings.specs.Remarks.{Said, all_said}
+use Rattle.liquid_warnings.specs.Sorts.{InOrder, IsDoubt, IsElseIf, IsMissingPartial, IsRecursive}
+use Rattle.liquid_warnings.specs.Sorts.{IsUnescaped, IsUnknownName, IsUnusedPartial, IsUnusedName}
+use Rattle.liquid_warnings.specs.Sorts.{OnlyWhere}
+use Rattle.liquid_warnings.specs.declared.remark.Remark.{Remark}
+use Rattle.liquid_warnings.specs.declared.warnings.CheckedFile.{CheckedFile}
+use Rattle.liquid_warnings.specs.declared.warnings.Given.{Given}
+
+-- ---- the source
+
+-- outputs in attributes come where they are looked at
+abbrev pub AreOfSource : Bool → List Said → Type 0
+AreOfSource is_html = InOrder (All IsElseIf) (OnlyWhere is_html (All IsUnescaped))
+
+-- ---- single tags and outputs
+
+abbrev pub said_or_else : Option Said → Option Said → Option Said
+said_or_else None other = other
+said_or_else (Some s) other = Some s
+
+-- the one that a tag or an output has
+abbrev pub node_said : Position → Node → Option Said
+node_said position node = said_or_else (no_clock position node) (no_list position node)
+
+abbrev pub with_said : Option Said → List Said → List Said
+with_said None more = more
+with_said (Some s) more = s ∷ more
+
+-- of a node that begins at this position
+abbrev pub said_at : Option Position → Node → Option Said
+said_at None node = None
+said_at (Some position) node = node_said position node
+
+-- of the nodes from this place on, each of which begins at the position at its place
+abbrev pub nodes_said : ℕ → List Node → List Position → List Said
+nodes_said place [] positions = []
+nodes_said place (n ∷ ns) positions = with_said (said_at (slice_get positions place) n)
+    (nodes_said (place + 1) ns positions)
+
+abbrev pub template_said : Option Template → List Said
+template_said None = []
+template_said (Some t) = nodes_said 0 (template_nodes t) (positions_of t)
+
+-- ---- all files together
+
+-- what the data lacks is known only where data is given
+abbrev pub AreOfNames : Bool → List Said → Type 0
+AreOfNames has_data = InOrder (OnlyWhere has_data (All IsUnknownName)) (All IsUnusedName)
+
+abbrev pub AreOfPartials : List Said → Type 0
+AreOfPartials = InOrder (All IsMissingPartial)
+    (InOrder (All IsUnusedPartial) (All IsRecursive))
+
+abbrev pub has_partials : List (String Global × ℕ) → Bool
+has_partials [] = false
+has_partials (p ∷ ps) = true
+
+abbrev pub AreOfWhole : Given → List Said → Type 0
+AreOfWhole given = InOrder (AreOfNames (is_some given.«data»))
+    (InOrder (OnlyWhere (is_some given.«data») (All IsDoubt))
+    (OnlyWhere (has_partials given.partials.now) AreOfPartials))
+
+-- ---- the files
+
+-- a list for each file
+abbrev pub lists_of : List (Vec Remark Global) → List (List Remark)
+lists_of lists = map (λ l. l.items) lists
+
+pub record IsWarned (given : Given) (file : CheckedFile) (warnings : List Remark) : Type 0 where
+  pub source : List Said
+  pub others : List Said
+  pub source_is : AreOfSource given.attributes source
+  pub others_are : AreOfWhole given others
+  -- and no more than these
+  pub first_hundred : all_said warnings ≡ take 100
+      (source ++ (template_said (option_map (λ t. t.now) file.template) ++ others))
+
+abbrev pub AreWarned : Given → List CheckedFile → List (List Remark) → Type 0
+AreWarned given [] [] = ⊤
+AreWarned given [] (ws ∷ wss) = ⊥
+AreWarned given (file ∷ files) [] = ⊥
+AreWarned given (file ∷ files) (ws ∷ wss) = IsWarned given file ws × AreWarned given files wss
