@@ -1,7 +1,20 @@
--- The status of a command that ends before it is done.
-use Rattle.std.specs.Prelude.{ℕ}
+-- Why a command ends before it is done, and with which status.
+--     status_of stop      the status
+--     IsEndOfMemory stop      memory ran out
+--     IsNotRead path reason stop, IsNoFolderAt path stop, IsNotWritten path kind stop
+--                         it is about this path, unless memory ran out
+--     ComesFrom fault stop      it is what is wrong with the words of the command line
+use Rattle.std.specs.Prelude.{◌≡◌, ℕ, string_bytes}
+use Rattle.std.specs.declared.io.ErrorKind.{ErrorKind as IoKind}
+use Rattle.liquid_commands.specs.declared.inputs.WordFault.{WordFault}
+use Rattle.liquid_commands.specs.declared.inputs.WordFault.TheVariants as fault
+use Rattle.liquid_excerpts.specs.declared.unreadable.Reason.{Reason}
+use Rattle.liquid_model.specs.Texts.{Text}
+use Rattle.liquid_model.specs.declared.error.ErrorKind.TheVariants.{Memory}
 use Rattle.liquid_command_files.specs.declared.stop.Stop.{Stop}
 use Rattle.liquid_command_files.specs.declared.stop.Stop.TheVariants.{Refused, Usage, Lacking}
+use Rattle.liquid_command_files.specs.declared.stop.Stop.TheVariants.{Fault, NoFolder, Unreadable}
+use Rattle.liquid_command_files.specs.declared.stop.Stop.TheVariants.{Unwritten}
 
 -- 2 where the command line is wrong, and else 1
 abbrev pub status_of : Stop → ℕ
@@ -9,3 +22,28 @@ status_of Refused = 2
 status_of (Usage message) = 2
 status_of (Lacking option word gap) = 2
 status_of _ = 1
+
+abbrev pub IsEndOfMemory : Stop → Type 0
+IsEndOfMemory (Fault e) = e.kind ≡ Memory
+IsEndOfMemory _ = ⊥
+
+-- the file or folder at the path can't be read for this reason
+abbrev pub IsNotRead : Text → Reason → Stop → Type 0
+IsNotRead path reason (Unreadable p why) = (string_bytes p ≡ path) × (why ≡ reason)
+IsNotRead path reason stop = IsEndOfMemory stop
+
+-- no folder of partials is at the path, or it can't be read
+abbrev pub IsNoFolderAt : Text → Stop → Type 0
+IsNoFolderAt path (NoFolder p) = string_bytes p ≡ path
+IsNoFolderAt path (Unreadable p why) = string_bytes p ≡ path
+IsNoFolderAt path stop = IsEndOfMemory stop
+
+-- the file at the path can't be written for this reason
+abbrev pub IsNotWritten : Text → IoKind → Stop → Type 0
+IsNotWritten path kind (Unwritten p why) = (string_bytes p ≡ path) × (why ≡ kind)
+IsNotWritten path kind stop = IsEndOfMemory stop
+
+abbrev pub ComesFrom : WordFault → Stop → Type 0
+ComesFrom (fault.Wrong message) stop = stop ≡ Usage message
+ComesFrom (fault.Lacking option word gap) stop = stop ≡ Lacking option word gap
+ComesFrom fault.Memory stop = IsEndOfMemory stop

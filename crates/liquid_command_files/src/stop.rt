@@ -1,6 +1,8 @@
 //! Why a command ends before it is done.
 ghost use Rattle.std.specs.Prelude.{◌≡◌};
-ghost use Rattle.liquid_command_files.specs.Stops.{status_of};
+ghost use Rattle.liquid_command_files.specs.Stops.{ComesFrom, IsEndOfMemory, IsNoFolderAt};
+ghost use Rattle.liquid_command_files.specs.Stops.{IsNotRead, IsNotWritten, status_of};
+ghost use Rattle.liquid_command_files.specs.declared.stop.Stop.TheVariants.{Fault};
 
 use liquid_commands::{Gap, WordFault};
 use liquid_core::Error;
@@ -33,7 +35,9 @@ pub enum Stop {
 
 impl Stop {
     /// A path that can't be read.
-    pub fn unreadable(alloc: Global, path: &str, reason: Reason) -> Stop {
+    pub fn unreadable(alloc: Global, path: &str, reason: Reason) -> Stop
+        ensures { IsNotRead path.now reason result }
+    {
         match String::from_str(alloc, path) {
             Ok(path) => Stop::Unreadable(path, reason),
             Err(refused) => Stop::from(refused),
@@ -41,7 +45,9 @@ impl Stop {
     }
 
     /// A folder of partials that can't be read.
-    pub fn no_folder(alloc: Global, path: &str, kind: io::ErrorKind) -> Stop {
+    pub fn no_folder(alloc: Global, path: &str, kind: io::ErrorKind) -> Stop
+        ensures { IsNoFolderAt path.now result }
+    {
         match String::from_str(alloc, path) {
             Ok(path) => match kind {
                 io::ErrorKind::NotADirectory => Stop::NoFolder(path),
@@ -52,7 +58,9 @@ impl Stop {
     }
 
     /// A path that can't be written.
-    pub fn unwritten(alloc: Global, path: &str, kind: io::ErrorKind) -> Stop {
+    pub fn unwritten(alloc: Global, path: &str, kind: io::ErrorKind) -> Stop
+        ensures { IsNotWritten path.now kind result }
+    {
         match String::from_str(alloc, path) {
             Ok(path) => Stop::Unwritten(path, kind),
             Err(refused) => Stop::from(refused),
@@ -156,12 +164,16 @@ impl fmt::Display for Stop {
 }
 
 impl From<Error> for Stop {
+    ghost from_gives = { λ fault stop. stop ≡ Fault fault };
+
     fn from(fault: Error) -> Stop {
         Stop::Fault(fault)
     }
 }
 
 impl From<WordFault> for Stop {
+    ghost from_gives = { ComesFrom };
+
     fn from(fault: WordFault) -> Stop {
         match fault {
             WordFault::Wrong(message) => Stop::Usage(message),
@@ -172,12 +184,16 @@ impl From<WordFault> for Stop {
 }
 
 impl From<AllocError> for Stop {
+    ghost from_gives = { λ _ stop. IsEndOfMemory stop };
+
     fn from(refused: AllocError) -> Stop {
         Stop::Fault(Error::from(refused))
     }
 }
 
 impl<T: Drop> From<AllocFailed<T>> for Stop {
+    ghost from_gives = { λ _ stop. IsEndOfMemory stop };
+
     fn from(refused: AllocFailed<T>) -> Stop {
         Stop::Fault(Error::from(refused))
     }

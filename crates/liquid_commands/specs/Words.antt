@@ -1,6 +1,6 @@
 -- What single words of a call mean.
 --     data_file word      a file of data, with its name where the word is NAME=FILE
---     gap_of word      what such a word lacks
+--     gap_of word      what such a word lacks, and gap_text what is said of it
 --     filter_set, missing_of, are_in_csv, format_of      what the values of options ask for
 --     is_yaml path      whether a file is named as YAML
 --     is_template_path word      whether a word is a path rather than a command
@@ -47,6 +47,11 @@ file_of word (Some p) = record { name = Some p.0; path = p.1 }
 
 abbrev pub data_file : CommandWord → Named
 data_file word = file_of word (split_at_equals word)
+
+-- what is said of it
+abbrev pub gap_text : Gap → CommandWord
+gap_text gap.Name = codes "there is no name before `=`; write NAME=FILE"
+gap_text gap.Path = codes "there is no path; write a path, or NAME=FILE"
 
 abbrev pub gap_of_path : CommandWord → Option Gap
 gap_of_path [] = Some gap.Path

@@ -1,4 +1,7 @@
 //! What a page is made of, as the words name it.
+ghost use Rattle.std.specs.Prelude.{◌≡◌};
+ghost use Rattle.liquid_commands.specs.declared.inputs.WordFault.TheVariants.{Memory};
+
 use crate::forms::Forms;
 use crate::words::{DataFile, FilterSet, Gap, data_file, filter_set, gap_of};
 use clap::ArgMatches;
@@ -16,12 +19,16 @@ pub enum WordFault {
 }
 
 impl From<AllocError> for WordFault {
+    ghost from_gives = { λ _ fault. fault ≡ Memory };
+
     fn from(_refused: AllocError) -> WordFault {
         WordFault::Memory
     }
 }
 
 impl<T: Drop> From<AllocFailed<T>> for WordFault {
+    ghost from_gives = { λ _ fault. fault ≡ Memory };
+
     fn from(_refused: AllocFailed<T>) -> WordFault {
         WordFault::Memory
     }

@@ -1,9 +1,9 @@
 //! What single words mean.
-ghost use Rattle.std.specs.Prelude.{◌≡◌, codes, option_map};
+ghost use Rattle.std.specs.Prelude.{◌≡◌, Some, codes, option_map};
 ghost use Rattle.liquid_commands.specs.Words.{are_in_csv, data_file, file_view, filter_set};
 ghost use Rattle.liquid_commands.specs.Words.{has_ending, is_selected, is_yaml, missing_of};
-ghost use Rattle.liquid_commands.specs.Words.{gap_of, gap_of_path, split_at_equals, split_view};
-ghost use Rattle.liquid_commands.specs.Words.{set_named};
+ghost use Rattle.liquid_commands.specs.Words.{gap_of, gap_of_path, gap_text, split_at_equals};
+ghost use Rattle.liquid_commands.specs.Words.{set_named, split_view};
 
 use std::fmt;
 
@@ -64,6 +64,8 @@ pub enum Gap {
 
 /// What is to be said of it.
 impl fmt::Display for Gap {
+    ghost output = { λ gap. Some (gap_text gap) };
+
     fn fmt<W: fmt::Write>(&self, f: &mut fmt::Formatter<W>) -> fmt::Result {
         f.write_str(match self {
             Gap::Name => "there is no name before `=`; write NAME=FILE",

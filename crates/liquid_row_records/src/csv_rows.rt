@@ -5,6 +5,7 @@ ghost use Rattle.csv.specs.Records.{fields_of};
 ghost use Rattle.liquid_model.specs.Answer.{IsValueOrMemory};
 ghost use Rattle.liquid_row_records.specs.Rows.{record_of, row_view};
 ghost use Rattle.liquid_row_records.specs.Tables.{IsHead, ReadsRows, reader_of};
+ghost use Rattle.liquid_row_records.specs.declared.csv_rows.HeadStop.TheVariants.{Memory};
 
 use crate::head::{HeadFault, column_names};
 use crate::record::{RowFault, record_of};
@@ -34,6 +35,8 @@ pub enum HeadStop {
 }
 
 impl From<AllocError> for HeadStop {
+    ghost from_gives = { λ _ stop. stop ≡ Memory };
+
     fn from(_refused: AllocError) -> HeadStop {
         HeadStop::Memory
     }
