@@ -1,13 +1,15 @@
 -- Why a command ends before it is done, and with which status.
 --     status_of stop      the status
 --     IsEndOfMemory stop      memory ran out
---     IsNotRead path reason stop, IsNoFolderAt path stop, IsNotWritten path kind stop
+--     IsNotRead path reason stop, IsNoFolderAt path kind stop, IsNotWritten path kind stop
 --                         it is about this path, unless memory ran out
 --     ComesFrom fault stop      it is what is wrong with the words of the command line
 use Rattle.std.specs.Prelude.{◌≡◌, ℕ, string_bytes}
 use Rattle.std.specs.declared.io.ErrorKind.{ErrorKind as IoKind}
+use Rattle.std.specs.declared.io.ErrorKind.TheVariants.{NotADirectory}
 use Rattle.liquid_commands.specs.declared.inputs.WordFault.{WordFault}
 use Rattle.liquid_commands.specs.declared.inputs.WordFault.TheVariants as fault
+use Rattle.liquid_excerpts.specs.Reasons.{reason_of}
 use Rattle.liquid_excerpts.specs.declared.unreadable.Reason.{Reason}
 use Rattle.liquid_model.specs.Texts.{Text}
 use Rattle.liquid_model.specs.declared.error.ErrorKind.TheVariants.{Memory}
@@ -32,11 +34,11 @@ abbrev pub IsNotRead : Text → Reason → Stop → Type 0
 IsNotRead path reason (Unreadable p why) = (string_bytes p ≡ path) × (why ≡ reason)
 IsNotRead path reason stop = IsEndOfMemory stop
 
--- no folder of partials is at the path, or it can't be read
-abbrev pub IsNoFolderAt : Text → Stop → Type 0
-IsNoFolderAt path (NoFolder p) = string_bytes p ≡ path
-IsNoFolderAt path (Unreadable p why) = string_bytes p ≡ path
-IsNoFolderAt path stop = IsEndOfMemory stop
+-- what is at the path is no folder, or the system refuses to read it by this kind
+abbrev pub IsNoFolderAt : Text → IoKind → Stop → Type 0
+IsNoFolderAt path kind (NoFolder p) = (string_bytes p ≡ path) × (kind ≡ NotADirectory)
+IsNoFolderAt path kind (Unreadable p why) = (string_bytes p ≡ path) × (why ≡ reason_of kind)
+IsNoFolderAt path kind stop = IsEndOfMemory stop
 
 -- the file at the path can't be written for this reason
 abbrev pub IsNotWritten : Text → IoKind → Stop → Type 0

@@ -46,7 +46,7 @@ impl Stop {
 
     /// A folder of partials that can't be read.
     pub fn no_folder(alloc: Global, path: &str, kind: io::ErrorKind) -> Stop
-        ensures { IsNoFolderAt path.now result }
+        ensures { IsNoFolderAt path.now kind result }
     {
         match String::from_str(alloc, path) {
             Ok(path) => match kind {

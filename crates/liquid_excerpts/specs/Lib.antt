@@ -2,4 +2,5 @@
 pub mod Faults
 pub mod Lines
 pub mod Paths
+pub mod Reasons
 pub mod SystemWords

@@ -1,4 +1,7 @@
 //! Why a file has no text, as the second line of what the program prints tells it.
+ghost use Rattle.std.specs.Prelude.{◌≡◌};
+ghost use Rattle.liquid_excerpts.specs.Reasons.{reason_of};
+
 use std::string::FromUtf8Error;
 use std::{fmt, io};
 
@@ -30,6 +33,8 @@ impl Reason {
 }
 
 impl From<io::ErrorKind> for Reason {
+    ghost from_gives = { λ kind reason. reason ≡ reason_of kind };
+
     fn from(kind: io::ErrorKind) -> Reason {
         match kind {
             io::ErrorKind::NotFound => Reason::Missing,

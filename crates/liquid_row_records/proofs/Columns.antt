@@ -7,7 +7,7 @@ use mathlib.Core.Path.{sym, ap, ◌∙◌}
 use Rattle.csv.specs.Records.{field_at}
 use Rattle.liquid_model.specs.Texts.{Text}
 use Rattle.liquid_row_records.proofs.Fields.{no_field, one_field}
-use Rattle.liquid_row_records.proofs.Places.{named, none_yet, places}
+use Rattle.liquid_row_records.proofs.Places.{named, none_yet}
 use Rattle.liquid_row_records.specs.Cells.{cell_text}
 use Rattle.liquid_row_records.specs.Heads.{NamedColumns, added_view, all_named, column_names, names_alone, none_named, one_name}
 use Rattle.liquid_row_records.specs.declared.head.HeadFault.{HeadFault}
