@@ -1,5 +1,6 @@
 pub mod Cells
 pub mod Counted
+pub mod Found
 pub mod Heads
 pub mod Lines
 pub mod Readings

@@ -3,7 +3,8 @@ ghost use Rattle.std.specs.Char.{is_ascii_whitespace};
 ghost use Rattle.std.specs.List.{list_all, list_any};
 ghost use Rattle.std.specs.Prelude.{◌≡◌, ◌==◌, IfOk, IfSome, OnOk, false, true};
 ghost use Rattle.std.specs.Io.BufRead.{DropsThrough, take_through};
-ghost use Rattle.liquid_row_records.specs.Lines.{lines_left};
+ghost use Rattle.std.specs.Io.KnownBytes.{IsAtEnd};
+ghost use Rattle.liquid_row_records.specs.Lines.{FindsLine, HasBlankLinesAlone, lines_left};
 
 use std::alloc::{AllocError, Global};
 use std::io;
@@ -32,8 +33,13 @@ impl<R: Read + Drop> Lines<R> {
     }
 
     /// Reads the next line that isn't blank. Whether there is one. A line for which there is no
-    /// room counts as one, and is left out.
+    /// room counts as one, and is left out. More blank lines than 64 bits count are a failed read.
     pub fn advance(&mut self) -> io::Result<bool>
+        ensures line { IfOk result (λ found. found ≡ true →
+            FindsLine (lines_left R.remaining self.old) (lines_left R.remaining self.new)
+            self.new.is_left_out self.new.line.items) }
+        ensures end { IfOk result (λ found. found ≡ false →
+            IfSome (lines_left R.remaining self.old) HasBlankLinesAlone) }
         ensures found { IfOk result (λ found. found ≡ true → self.new.is_left_out ≡ false →
             list_all is_ascii_whitespace self.new.line.items ≡ false) }
     {
@@ -49,7 +55,7 @@ impl<R: Read + Drop> Lines<R> {
                 return Ok(true);
             }
         }
-        Ok(false)
+        Err(io::Error::from(io::ErrorKind::FileTooLarge))
     }
 
     /// Reads the next line with its end, and answers how many bytes it has: none where the text
@@ -61,6 +67,8 @@ impl<R: Read + Drop> Lines<R> {
             (λ text. self.new.line.items ≡ take_through 10 text)) }
         ensures rest { OnOk result (DropsThrough (lines_left R.remaining self.old)
             (lines_left R.remaining self.new) 10) }
+        ensures end { IfOk result (λ count. count ≡ 0 → self.new.is_left_out ≡ false →
+            IsAtEnd (lines_left R.remaining self.old)) }
     {
         self.line.clear();
         self.is_left_out = false;

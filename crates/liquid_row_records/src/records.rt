@@ -2,6 +2,7 @@
 ghost use Rattle.std.specs.Prelude.{◌≡◌, IfOk};
 ghost use Rattle.liquid_model.specs.Answer.{IsValueOrMemory};
 ghost use Rattle.liquid_row_records.specs.Counted.{record_number_after};
+ghost use Rattle.liquid_row_records.specs.Found.{ReadsOn};
 ghost use Rattle.liquid_row_records.specs.Readings.{line_reading, line_text, reading_of};
 ghost use Rattle.liquid_row_records.specs.Readings.{reading_view, text_read};
 
@@ -78,6 +79,8 @@ impl<R: Read + Drop> Records<R> {
     pub fn advance(&mut self) -> io::Result<bool>
         ensures number { IfOk result (λ found. self.new.number ≡
             record_number_after found self.old.number) }
+        ensures record { IfOk result (λ found. ReadsOn R.remaining found self.old.source
+            self.new.source) }
     {
         let found = match &mut self.source {
             Source::Lines(lines) => lines.advance()?,

@@ -1,0 +1,23 @@
+-- What reading the next record gives.
+--     ReadsOn remaining is_found old new      a record was read, or there is none
+use Rattle.std.specs.Prelude.{Bool, true, false, List, ℕ, Option, IfSome}
+use Rattle.csv.specs.Reading.{ReadRecord}
+use Rattle.csv.specs.Records.{fields_of}
+use Rattle.liquid_row_records.specs.Lines.{FindsLine, HasBlankLinesAlone, lines_left}
+use Rattle.liquid_row_records.specs.Tables.{ReadsRows, reader_of}
+use Rattle.liquid_row_records.specs.declared.lines.Lines.{Lines as LineReader}
+use Rattle.liquid_row_records.specs.declared.records.Source.{Source}
+use Rattle.liquid_row_records.specs.declared.records.Source.TheVariants.{Lines, Rows}
+
+-- of lines, the next one that isn't blank, or that there are blank ones alone
+abbrev pub ReadsLine : {R : Type 0} → (R → Option (List ℕ)) → Bool → LineReader R → LineReader R → Type 0
+ReadsLine remaining true old new = FindsLine (lines_left remaining old) (lines_left remaining new)
+    new.is_left_out new.line.items
+ReadsLine remaining false old new = IfSome (lines_left remaining old) HasBlankLinesAlone
+
+-- of rows, the next one
+abbrev pub ReadsOn : {R : Type 0} → (R → Option (List ℕ)) → Bool → Source R → Source R → Type 0
+ReadsOn remaining is_found (Lines old) (Lines new) = ReadsLine remaining is_found old new
+ReadsOn remaining is_found (Rows old) (Rows new) = ReadsRows (reader_of old) →
+    ReadRecord remaining (reader_of old) (reader_of new) is_found (fields_of new.row)
+ReadsOn remaining is_found _ _ = ⊥
