@@ -10,7 +10,8 @@ use Rattle.liquid_row_records.specs.declared.records.Source.{Source}
 use Rattle.liquid_row_records.specs.declared.records.Source.TheVariants.{Lines, Rows}
 
 -- of lines, the next one that isn't blank, or that there are blank ones alone
-abbrev pub ReadsLine : {R : Type 0} → (R → Option (List ℕ)) → Bool → LineReader R → LineReader R → Type 0
+abbrev pub ReadsLine : {R : Type 0} → (R → Option (List ℕ)) → Bool → LineReader R →
+    LineReader R → Type 0
 ReadsLine remaining true old new = FindsLine (lines_left remaining old) (lines_left remaining new)
     new.is_left_out new.line.items
 ReadsLine remaining false old new = IfSome (lines_left remaining old) HasBlankLinesAlone

@@ -6,7 +6,8 @@ use Rattle.std.specs.Char.{is_ascii_whitespace}
 use Rattle.std.specs.Io.Buffered.{reader_remaining}
 use Rattle.std.specs.Io.BufRead.{drop_through, take_through}
 use Rattle.std.specs.List.{list_all}
-use Rattle.std.specs.Prelude.{◌≡◌, ⊤, Bool, false, true, ℕ, zero, suc, List, [], Option, Some, IfSome}
+use Rattle.std.specs.Prelude.{◌≡◌, ⊤, Bool, false, true, ℕ, zero, suc, List, []}
+use Rattle.std.specs.Prelude.{Option, Some, IfSome}
 use Rattle.liquid_row_records.specs.declared.lines.Lines.{Lines}
 
 abbrev pub lines_left : {R : Type 0} → (R → Option (List ℕ)) → Lines R → Option (List ℕ)
