@@ -21,7 +21,9 @@ pub struct Lines<R> {
 
 impl<R: Read + Drop> Lines<R> {
     /// All lines are still to come.
-    pub fn new(alloc: Global, reader: R) -> Result<Lines<R>, AllocError> {
+    pub fn new(alloc: Global, reader: R) -> Result<Lines<R>, AllocError>
+        ensures all { IfOk result (λ lines. lines_left R.remaining lines ≡ R.remaining reader) }
+    {
         match BufReader::new(alloc, reader) {
             Ok(reader) => Ok(Lines {
                 reader,

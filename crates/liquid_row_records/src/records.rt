@@ -2,7 +2,7 @@
 ghost use Rattle.std.specs.Prelude.{◌≡◌, IfOk};
 ghost use Rattle.liquid_model.specs.Answer.{IsValueOrMemory};
 ghost use Rattle.liquid_row_records.specs.Counted.{record_number_after};
-ghost use Rattle.liquid_row_records.specs.Found.{ReadsOn};
+ghost use Rattle.liquid_row_records.specs.Found.{AreLinesOf, AreRowsOf, ReadsOn};
 ghost use Rattle.liquid_row_records.specs.Readings.{line_reading, line_text, reading_of};
 ghost use Rattle.liquid_row_records.specs.Readings.{reading_view, text_read};
 
@@ -55,6 +55,8 @@ impl<R: Read + Drop> Records<R> {
     /// The lines that a reader gives.
     pub fn lines(alloc: Global, reader: R) -> std::result::Result<Records<R>, AllocError>
         ensures number { IfOk result (λ records. records.number ≡ 0) }
+        ensures all { IfOk result (λ records.
+            AreLinesOf R.remaining reader records.source) }
     {
         Ok(Records::before(Source::Lines(Lines::new(alloc, reader)?)))
     }
@@ -62,13 +64,16 @@ impl<R: Read + Drop> Records<R> {
     /// The rows that a reader gives, after their head.
     pub fn rows(alloc: Global, reader: R) -> std::result::Result<Records<R>, HeadStop>
         ensures number { IfOk result (λ records. records.number ≡ 0) }
+        ensures all { IfOk result (λ records.
+            AreRowsOf R.remaining reader records.source) }
     {
         Ok(Records::before(Source::Rows(Rows::new(alloc, reader)?)))
     }
 
     /// Before the first record.
     fn before(source: Source<R>) -> Records<R>
-        ensures { result.number ≡ 0 }
+        ensures number { result.number ≡ 0 }
+        ensures source { result.source ≡ source }
     {
         Records { source, number: 0 }
     }
