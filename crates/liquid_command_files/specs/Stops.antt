@@ -3,14 +3,17 @@
 --     IsEndOfMemory stop      memory ran out
 --     IsNotRead path reason stop, IsNoFolderAt path kind stop, IsNotWritten path kind stop
 --                         it is about this path, unless memory ran out
+--     HasNoText path stop      what is at this path can't be read as a text, unless memory ran out
+--     IsTimeRefused asked stop      the time that is asked for is no instant, unless memory ran out
 --     ComesFrom fault stop      it is what is wrong with the words of the command line
-use Rattle.std.specs.Prelude.{◌≡◌, ℕ, string_bytes}
+use Rattle.std.specs.Prelude.{◌≡◌, ℕ, Option, None, string_bytes}
 use Rattle.std.specs.declared.io.ErrorKind.{ErrorKind as IoKind}
 use Rattle.std.specs.declared.io.ErrorKind.TheVariants.{NotADirectory}
 use Rattle.liquid_commands.specs.declared.inputs.WordFault.{WordFault}
 use Rattle.liquid_commands.specs.declared.inputs.WordFault.TheVariants as fault
 use Rattle.liquid_excerpts.specs.Reasons.{reason_of}
 use Rattle.liquid_excerpts.specs.declared.unreadable.Reason.{Reason}
+use Rattle.liquid_model.specs.Data.{Pairs}
 use Rattle.liquid_model.specs.Texts.{Text}
 use Rattle.liquid_model.specs.declared.error.ErrorKind.TheVariants.{Memory}
 use Rattle.liquid_command_files.specs.declared.stop.Stop.{Stop}
@@ -44,6 +47,13 @@ IsNoFolderAt path kind stop = IsEndOfMemory stop
 abbrev pub IsNotWritten : Text → IoKind → Stop → Type 0
 IsNotWritten path kind (Unwritten p why) = (string_bytes p ≡ path) × (why ≡ kind)
 IsNotWritten path kind stop = IsEndOfMemory stop
+
+abbrev pub HasNoText : Text → Stop → Type 0
+HasNoText path stop = (reason : Reason) × IsNotRead path reason stop
+
+abbrev pub IsTimeRefused : Option Pairs → Stop → Type 0
+IsTimeRefused asked (Usage message) = asked ≡ None
+IsTimeRefused asked stop = IsEndOfMemory stop
 
 abbrev pub ComesFrom : WordFault → Stop → Type 0
 ComesFrom (fault.Wrong message) stop = stop ≡ Usage message

@@ -1,10 +1,11 @@
 //! Data in the forms that the options ask for.
-ghost use Rattle.std.specs.Prelude.{◌≡◌, IfOk, Some, option_map};
+ghost use Rattle.std.specs.Prelude.{◌≡◌, IfErr, IfOk, Some, option_map};
 ghost use Rattle.liquid_model.specs.Answer.{Answers, IsValueOrMemory};
 ghost use Rattle.liquid_model.specs.View.{pairs_view};
 ghost use Rattle.liquid_toml.specs.TomlData.{toml_document_data};
 ghost use Rattle.liquid_data_forms.specs.Forms.{formed};
 ghost use Rattle.liquid_command_files.specs.Inputs.{with_input, data_of_file, timed};
+ghost use Rattle.liquid_command_files.specs.Stops.{IsTimeRefused};
 
 use crate::stop::Stop;
 use liquid_commands::{Forms, is_toml};
@@ -67,8 +68,10 @@ pub fn with_time(
     data: Object,
     now: Option<&str>,
 ) -> std::result::Result<Object, Stop>
-    ensures { IfOk result (λ m. Some (pairs_view m.entries)
+    ensures timed { IfOk result (λ m. Some (pairs_view m.entries)
         ≡ timed (option_map (λ n. n.now) now.entry) (pairs_view «data».entries)) }
+    ensures refused { IfErr result (IsTimeRefused
+        (timed (option_map (λ n. n.now) now.entry) (pairs_view «data».entries))) }
 {
     let Some(now) = now else {
         return Ok(data);

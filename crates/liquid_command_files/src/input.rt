@@ -1,6 +1,7 @@
 //! The texts of files.
-ghost use Rattle.std.specs.Prelude.{◌≡◌, IfOk, string_bytes};
+ghost use Rattle.std.specs.Prelude.{◌≡◌, IfErr, IfOk, string_bytes};
 ghost use Rattle.liquid_command_files.specs.Inputs.{called};
+ghost use Rattle.liquid_command_files.specs.Stops.{HasNoText};
 
 use crate::stop::Stop;
 use liquid_excerpts::Reason;
@@ -29,7 +30,8 @@ pub fn text_at(rt: &HostRuntime, path: &str) -> Result<String, Stop> {
 
 /// The bytes that were read from a path, as a text.
 pub fn text_of(alloc: Global, path: &str, bytes: Vec<u8>) -> Result<String, Stop>
-    ensures { IfOk result (λ text. string_bytes text ≡ bytes.items) }
+    ensures text { IfOk result (λ text. string_bytes text ≡ bytes.items) }
+    ensures refused { IfErr result (HasNoText (called path.now)) }
 {
     match String::from_utf8(bytes) {
         Ok(text) => Ok(text),
