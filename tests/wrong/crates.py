@@ -24,6 +24,44 @@ class Stopped(Exception):
     """No verdict can be reached, and why."""
 
 
+class GaveWay(Exception):
+    """A check was ended, since whatever runs beside it wants the memory."""
+
+
+class Yielding:
+    """What checks give way to: it has ended once that is said, and until then they end themselves where little memory is left."""
+
+    # how much is to be left, in bytes, and how often a check looks, in seconds
+    SPARE, PAUSE = 1_500_000_000, 2
+
+    def __init__(self):
+        self.ended, self.turn = threading.Event(), threading.Lock()
+
+    def wait_for(self, process):
+        """The status of a process when it ends, and what it used. One process at a time gives way, so that the others may stay."""
+        while True:
+            pid, status, used = os.wait4(process.pid, os.WNOHANG)
+            if pid:
+                return status, used
+            if not self.ended.wait(self.PAUSE) and free_memory() < self.SPARE and self.turn.acquire(blocking=False):
+                killed(process)
+                self.ended.wait(self.PAUSE)
+                self.turn.release()
+                raise GaveWay
+
+
+def killed(process):
+    """Ends a check with the processes that it has made."""
+    os.killpg(process.pid, signal.SIGKILL)
+    os.wait4(process.pid, 0)
+
+
+def free_memory():
+    """How much memory is left, in bytes."""
+    with open("/proc/meminfo", encoding="utf-8") as file:
+        return next(int(line.split()[1]) * 1024 for line in file if line.startswith("MemAvailable"))
+
+
 @dataclass
 class Said:
     """What a check of a folder said: all of it, its verdict of each function, and the seconds of a core that it took."""
@@ -195,14 +233,16 @@ class Prover:
         return said
 
 
-def ran(command, folder):
-    """Runs a check, and ends it where this script is ended."""
+def ran(command, folder, beside=None):
+    """Runs a check, and ends it where this script is ended, or gives way to what runs beside."""
     with tempfile.TemporaryFile("w+", errors="replace") as out:
-        started = subprocess.Popen(command, cwd=folder, stdin=subprocess.DEVNULL, stdout=out, stderr=subprocess.STDOUT)
+        started = subprocess.Popen(command, cwd=folder, stdin=subprocess.DEVNULL, stdout=out, stderr=subprocess.STDOUT, start_new_session=True)
         try:
-            _, status, used = os.wait4(started.pid, 0)
+            status, used = beside.wait_for(started) if beside else os.wait4(started.pid, 0)[1:]
+        except GaveWay:
+            raise
         except BaseException:
-            os.kill(started.pid, signal.SIGKILL)
+            killed(started)
             raise
         out.seek(0)
         text = out.read()

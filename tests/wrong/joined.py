@@ -41,7 +41,7 @@ class Joined:
         for crate in crates:
             self.crates += [it for it in [*crate.below, crate] if it not in self.crates]
 
-    def check(self, edited, variants=()):
+    def check(self, edited, variants=(), beside=None):
         """What a check says of each edited crate and of each variant, by its name, and the seconds of a core that it took. Of each crate
         the texts in place of its own are given, and the functions that are to be proved; each other one, of these crates and of those
         below, is taken at its word."""
@@ -53,7 +53,7 @@ class Joined:
             copy = copied(it.crate, f"{self.room}/{it.name}", it.texts)
             rename(copy, it.crate.name, it.name)
             asked += made_ready(it.name, copy, [it.function])
-        said = ran(self.words(asked, variants), self.rooted())
+        said = ran(self.words(asked, variants), self.rooted(), beside)
         return {name: self.said_of(name, said) for name in [*edited, *(it.name for it in variants)]}, said.seconds
 
     def rooted(self):
