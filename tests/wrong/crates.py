@@ -1,4 +1,6 @@
 """The repository's crates, and checks of a copy of one by the kit's prover."""
+import contextlib
+import glob
 import os
 import re
 import shutil
@@ -52,8 +54,19 @@ class Yielding:
 
 def killed(process):
     """Ends a check with the processes that it has made."""
-    os.killpg(process.pid, signal.SIGKILL)
+    for pid in [process.pid, *made_by(process.pid)]:
+        with contextlib.suppress(ProcessLookupError):
+            os.kill(pid, signal.SIGKILL)
     os.wait4(process.pid, 0)
+
+
+def made_by(parent):
+    """The processes that this one has made."""
+    for folder in glob.glob("/proc/[0-9]*"):
+        # one may have ended meanwhile; after the name, which may have any sign in it, stand its state and what made it
+        with contextlib.suppress(OSError):
+            if text_of(f"{folder}/stat").rpartition(")")[2].split()[1] == str(parent):
+                yield int(os.path.basename(folder))
 
 
 def free_memory():
@@ -236,7 +249,7 @@ class Prover:
 def ran(command, folder, beside=None):
     """Runs a check, and ends it where this script is ended, or gives way to what runs beside."""
     with tempfile.TemporaryFile("w+", errors="replace") as out:
-        started = subprocess.Popen(command, cwd=folder, stdin=subprocess.DEVNULL, stdout=out, stderr=subprocess.STDOUT, start_new_session=True)
+        started = subprocess.Popen(command, cwd=folder, stdin=subprocess.DEVNULL, stdout=out, stderr=subprocess.STDOUT)
         try:
             status, used = beside.wait_for(started) if beside else os.wait4(started.pid, 0)[1:]
         except GaveWay:
