@@ -28,11 +28,7 @@ pub struct Rounds<'r> {
 impl<'r> Rounds<'r> {
     /// A site over its data, to which all files of the folder are new, and whose pages' files go
     /// into a folder that is made if need be.
-    pub fn new(
-        rt: &'r HostRuntime,
-        folder: &'r Folder,
-        out: &str,
-    ) -> Result<Rounds<'r>, FolderStop>
+    pub fn new(rt: &'r HostRuntime, folder: &'r Folder, out: &str) -> Result<Rounds<'r>, FolderStop>
         ensures named { IfOk result (λ rounds. rounds.is_named ≡ false) }
     {
         let files = SystemFiles { rt };

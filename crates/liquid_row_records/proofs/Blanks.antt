@@ -24,15 +24,20 @@ rest_of now next text is drops = subst (λ o. DropsThrough o next 10) is drops
 
 pub one_more : (old now next : Option (List ℕ)) (line : List ℕ) → IsPastBlanks old now → DropsThrough now next 10 → IfSome now (λ xs. line ≡ take_through 10 xs) → list_all is_ascii_whitespace line ≡ true → IsPastBlanks old next
 one_more None now next line past drops read blank = tt
-one_more (Some text) now next line past drops read blank = (suc past.0,
-    (past.1, ap (list_all is_ascii_whitespace) (sym (line_of now line (after_lines past.0 text) past.2 read)) ∙ blank),
-    rest_of now next (after_lines past.0 text) past.2 drops)
+one_more (Some text) now next line past drops read blank = (
+  suc past.0,
+  (past.1, ap (list_all is_ascii_whitespace) (sym (line_of now line (after_lines past.0 text) past.2 read)) ∙ blank),
+  rest_of now next (after_lines past.0 text) past.2 drops,
+)
 
 pub found : (old now next : Option (List ℕ)) (left_out : Bool) (line : List ℕ) → IsPastBlanks old now → DropsThrough now next 10 → (left_out ≡ false → IfSome now (λ xs. line ≡ take_through 10 xs)) → FindsLine old next left_out line
 found None now next left_out line past drops read = tt
-found (Some text) now next left_out line past drops read = (past.0, past.1,
-    rest_of now next (after_lines past.0 text) past.2 drops,
-    (λ k. line_of now line (after_lines past.0 text) past.2 (read k)))
+found (Some text) now next left_out line past drops read = (
+  past.0,
+  past.1,
+  rest_of now next (after_lines past.0 text) past.2 drops,
+  (λ k. line_of now line (after_lines past.0 text) past.2 (read k)),
+)
 
 pub at_end : (old now : Option (List ℕ)) → IsPastBlanks old now → IsAtEnd now → IfSome old HasBlankLinesAlone
 at_end None now past end = tt

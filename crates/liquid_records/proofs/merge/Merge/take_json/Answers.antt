@@ -8,5 +8,5 @@ pub returns-in-Ok-clause-step : goal.returns-in-Ok-clause-step
 returns-in-Ok-clause-step g c =
     subst
     (λ d. IfOk c.take.result (λ fate. IsRecordStep c.args.number (record_outcome (job_of c.args.self.now) (Some (pattern_of c.args.self.now)) d)
-        (merge_names c.args.self.now) (fate_view fate) (merge_names c.take.new.self)))
+    (merge_names c.args.self.now) (fate_view fate) (merge_names c.take.new.self)))
     (sym c.in-Ok.ensures) c.take.ensures.step
