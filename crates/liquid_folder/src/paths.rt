@@ -23,7 +23,7 @@ pub fn file_in<'p>(folder: &str, path: &'p str) -> Option<&'p str>
 
 /// Whether both lead to one file, as `file_in` reads paths.
 pub fn is_same(path: &str, other: &str) -> bool
-    ensures { IsTrue result → steps path.now ≡ steps other.now }
+    ensures { IsTrue result ↔ steps path.now ≡ steps other.now }
 {
     let (path, other) = (steps_of(path), steps_of(other));
     match path.as_path().strip_prefix(other.as_path()) {
