@@ -1,5 +1,6 @@
 //! How far a merge is.
-ghost use Rattle.std.specs.Prelude.{◌≡◌, ◌+◌, min, IfOk};
+ghost use Rattle.std.specs.Prelude.{◌≡◌, ◌+◌, ◌<◌, min, IfErr, IfOk};
+ghost use Rattle.liquid_command_files.specs.declared.stop.Stop.TheVariants.{Faulted};
 
 use liquid_command_files::Stop;
 use std::time::Instant;
@@ -74,7 +75,8 @@ impl Progress {
 
     /// Prints the counts. A merge in which a record failed isn't done.
     pub fn end(&self, rt: &HostRuntime) -> Result<(), Stop>
-        ensures { IfOk result (λ _. self.now.failed ≡ 0) }
+        ensures done { IfOk result (λ _. self.now.failed ≡ 0) }
+        ensures failed { IfErr result (λ stop. (stop ≡ Faulted) × (0 < self.now.failed)) }
     {
         let (pages, failed) = (self.pages, self.failed);
         let _ = eprintln!(rt; "pages {pages}, failed {failed}");
