@@ -57,13 +57,14 @@ def killed(process):
     for pid in [process.pid, *made_by(process.pid)]:
         with contextlib.suppress(ProcessLookupError):
             os.kill(pid, signal.SIGKILL)
-    os.wait4(process.pid, 0)
+    with contextlib.suppress(ChildProcessError):
+        os.wait4(process.pid, 0)
 
 
 def made_by(parent):
     """The processes that this one has made."""
     for folder in glob.glob("/proc/[0-9]*"):
-        # one may have ended meanwhile; after the name, which may have any sign in it, stand its state and what made it
+        # one may have ended meanwhile; after its name, which may hold any character, come its state and its parent
         with contextlib.suppress(OSError):
             if text_of(f"{folder}/stat").rpartition(")")[2].split()[1] == str(parent):
                 yield int(os.path.basename(folder))

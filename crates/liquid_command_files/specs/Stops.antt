@@ -1,6 +1,6 @@
 -- Why a command ends before it is done, and with which status.
 --     status_of stop      the status
---     IsEndOfMemory stop      memory ran out
+--     RanOutOfMemory stop      memory ran out
 --     IsNotRead path reason stop, IsNoFolderAt path kind stop, IsNotWritten path kind stop
 --                         it is about this path, unless memory ran out
 --     HasNoText path stop      what is at this path can't be read as a text, unless memory ran out
@@ -28,34 +28,34 @@ status_of (Usage message) = 2
 status_of (Lacking option word gap) = 2
 status_of _ = 1
 
-abbrev pub IsEndOfMemory : Stop → Type 0
-IsEndOfMemory (Fault e) = e.kind ≡ Memory
-IsEndOfMemory _ = ⊥
+abbrev pub RanOutOfMemory : Stop → Type 0
+RanOutOfMemory (Fault e) = e.kind ≡ Memory
+RanOutOfMemory _ = ⊥
 
 -- the file or folder at the path can't be read for this reason
 abbrev pub IsNotRead : Text → Reason → Stop → Type 0
 IsNotRead path reason (Unreadable p why) = (string_bytes p ≡ path) × (why ≡ reason)
-IsNotRead path reason stop = IsEndOfMemory stop
+IsNotRead path reason stop = RanOutOfMemory stop
 
 -- what is at the path is no folder, or the system refuses to read it by this kind
 abbrev pub IsNoFolderAt : Text → IoKind → Stop → Type 0
 IsNoFolderAt path kind (NoFolder p) = (string_bytes p ≡ path) × (kind ≡ NotADirectory)
 IsNoFolderAt path kind (Unreadable p why) = (string_bytes p ≡ path) × (why ≡ reason_of kind)
-IsNoFolderAt path kind stop = IsEndOfMemory stop
+IsNoFolderAt path kind stop = RanOutOfMemory stop
 
 -- the file at the path can't be written for this reason
 abbrev pub IsNotWritten : Text → IoKind → Stop → Type 0
 IsNotWritten path kind (Unwritten p why) = (string_bytes p ≡ path) × (why ≡ kind)
-IsNotWritten path kind stop = IsEndOfMemory stop
+IsNotWritten path kind stop = RanOutOfMemory stop
 
 abbrev pub HasNoText : Text → Stop → Type 0
 HasNoText path stop = (reason : Reason) × IsNotRead path reason stop
 
 abbrev pub IsTimeRefused : Option Pairs → Stop → Type 0
 IsTimeRefused asked (Usage message) = asked ≡ None
-IsTimeRefused asked stop = IsEndOfMemory stop
+IsTimeRefused asked stop = RanOutOfMemory stop
 
 abbrev pub ComesFrom : WordFault → Stop → Type 0
 ComesFrom (fault.Wrong message) stop = stop ≡ Usage message
 ComesFrom (fault.Lacking option word gap) stop = stop ≡ Lacking option word gap
-ComesFrom fault.Memory stop = IsEndOfMemory stop
+ComesFrom fault.Memory stop = RanOutOfMemory stop

@@ -1,5 +1,6 @@
 //! The texts of files.
-ghost use Rattle.std.specs.Prelude.{◌≡◌, IfErr, IfOk, string_bytes};
+ghost use Rattle.std.specs.Prelude.{◌≡◌, IfErr, IfOk, IsOk, string_bytes};
+ghost use Rattle.std.specs.Str.{IsUtf8};
 ghost use Rattle.liquid_command_files.specs.Inputs.{called};
 ghost use Rattle.liquid_command_files.specs.Stops.{HasNoText};
 
@@ -32,6 +33,7 @@ pub fn text_at(rt: &HostRuntime, path: &str) -> Result<String, Stop> {
 pub fn text_of(alloc: Global, path: &str, bytes: Vec<u8>) -> Result<String, Stop>
     ensures text { IfOk result (λ text. string_bytes text ≡ bytes.items) }
     ensures refused { IfErr result (HasNoText (called path.now)) }
+    ensures utf8 { IsUtf8 bytes.items → IsOk result }
 {
     match String::from_utf8(bytes) {
         Ok(text) => Ok(text),

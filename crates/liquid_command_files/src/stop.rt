@@ -1,7 +1,7 @@
 //! Why a command ends before it is done.
 ghost use Rattle.std.specs.Prelude.{◌≡◌};
-ghost use Rattle.liquid_command_files.specs.Stops.{ComesFrom, IsEndOfMemory, IsNoFolderAt};
-ghost use Rattle.liquid_command_files.specs.Stops.{IsNotRead, IsNotWritten, status_of};
+ghost use Rattle.liquid_command_files.specs.Stops.{ComesFrom, IsNoFolderAt, IsNotRead};
+ghost use Rattle.liquid_command_files.specs.Stops.{IsNotWritten, RanOutOfMemory, status_of};
 ghost use Rattle.liquid_command_files.specs.declared.stop.Stop.TheVariants.{Fault};
 
 use liquid_commands::{Gap, WordFault};
@@ -184,7 +184,7 @@ impl From<WordFault> for Stop {
 }
 
 impl From<AllocError> for Stop {
-    ghost from_gives = { λ _ stop. IsEndOfMemory stop };
+    ghost from_gives = { λ _ stop. RanOutOfMemory stop };
 
     fn from(refused: AllocError) -> Stop {
         Stop::Fault(Error::from(refused))
@@ -192,7 +192,7 @@ impl From<AllocError> for Stop {
 }
 
 impl<T: Drop> From<AllocFailed<T>> for Stop {
-    ghost from_gives = { λ _ stop. IsEndOfMemory stop };
+    ghost from_gives = { λ _ stop. RanOutOfMemory stop };
 
     fn from(refused: AllocFailed<T>) -> Stop {
         Stop::Fault(Error::from(refused))

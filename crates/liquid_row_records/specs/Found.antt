@@ -18,11 +18,12 @@ ReadsLine remaining true old new = FindsLine (lines_left remaining old) (lines_l
     new.is_left_out new.line.items
 ReadsLine remaining false old new = IfSome (lines_left remaining old) HasBlankLinesAlone
 
--- of rows, the next one
+-- of rows, the next one; and the columns keep their names
 abbrev pub ReadsOn : {R : Type 0} → (R → Option (List ℕ)) → Bool → Source R → Source R → Type 0
 ReadsOn remaining is_found (Lines old) (Lines new) = ReadsLine remaining is_found old new
-ReadsOn remaining is_found (Rows old) (Rows new) = ReadsRows (reader_of old) →
-    ReadRecord remaining (reader_of old) (reader_of new) is_found (fields_of new.row)
+ReadsOn remaining is_found (Rows old) (Rows new) = (new.names ≡ old.names)
+    × (ReadsRows (reader_of old) → ReadsRows (reader_of new)
+    × ReadRecord remaining (reader_of old) (reader_of new) is_found (fields_of new.row))
 ReadsOn remaining is_found _ _ = ⊥
 
 abbrev pub AreLinesOf : {R : Type 0} → (R → Option (List ℕ)) → R → Source R → Type 0
