@@ -13,12 +13,12 @@ use Rattle.liquid_row_records.specs.declared.lines.Lines.{Lines}
 abbrev pub lines_left : {R : Type 0} → (R → Option (List ℕ)) → Lines R → Option (List ℕ)
 lines_left remaining lines = reader_remaining remaining lines.reader
 
--- the text after so many of its lines, each with its end
+-- the text after its first n lines, each with its end
 abbrev pub after_lines : ℕ → List ℕ → List ℕ
 after_lines zero text = text
 after_lines (suc n) text = drop_through 10 (after_lines n text)
 
--- so many lines at its front have nothing but white space
+-- its first n lines have nothing but white space
 abbrev pub AreBlank : ℕ → List ℕ → Type 0
 AreBlank zero text = ⊤
 AreBlank (suc n) text = AreBlank n text
