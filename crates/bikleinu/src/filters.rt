@@ -1,7 +1,7 @@
 //! The sets of filters: the language and the filters of Jekyll's or Shopify's templates.
 ghost use Rattle.std.specs.Prelude.{◌≡◌, IfErr, IfOk, Some, None};
 ghost use Rattle.liquid_filter_sets.specs.Languages.{IsJekyll, IsShopify};
-ghost use Rattle.liquid_lib.specs.Standard.{IsStandard};
+ghost use Rattle.liquid_tags.specs.Standard.{IsStandard};
 
 use crate::parts::PageParts;
 use liquid_commands::FilterSet;

@@ -4,8 +4,8 @@ use Rattle.liquid_model.specs.Data.{Datum}
 use Rattle.liquid_model.specs.Maps.{Map}
 use Rattle.liquid_model.specs.Texts.{Text}
 use Rattle.liquid_evaluation.specs.Tree.{Nodes}
-use Rattle.liquid_lib.specs.HostedPages.{EndsOtherwise, hosted_page}
-use Rattle.liquid_lib.specs.LimitedPages.{PageWithin}
+use Rattle.liquid_engine.specs.HostedPages.{EndsOtherwise, hosted_page}
+use Rattle.liquid_engine.specs.LimitedPages.{PageWithin}
 use Rattle.liquid_answers.specs.Lacking.{AreShort, IsLacking, calls_in}
 use Rattle.liquid_answers.specs.Tables.{answers_by}
 use Rattle.liquid_answers.specs.declared.answers.Answers.{Answers}

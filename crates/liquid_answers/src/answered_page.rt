@@ -10,7 +10,8 @@ use crate::filter::TableFilters;
 use crate::lacking::{Lacking, lacking_of, list_lacking};
 use crate::missing_calls::MissingCalls;
 use liquid_core::{ErrorKind, Object, Result};
-use liquid_lib::{LimitedPage, Surroundings, Template, render_hosted_page};
+use liquid_engine::{LimitedPage, Surroundings, render_hosted_page};
+use liquid_syntax::Template;
 use std::alloc::Global;
 use std::cell::RefCell;
 

@@ -12,8 +12,8 @@ use Rattle.liquid_core.specs.Hosts.{no_host}
 use Rattle.liquid_evaluation.specs.Tree.{Nodes}
 use Rattle.liquid_json.specs.Asked.{IsAlikeData}
 use Rattle.liquid_json.specs.Json.{data_of}
-use Rattle.liquid_lib.specs.HostedPages.{hosted_page}
-use Rattle.liquid_lib.specs.Pages.{fault_of, new_run_environment, page_over}
+use Rattle.liquid_engine.specs.HostedPages.{hosted_page}
+use Rattle.liquid_engine.specs.Pages.{fault_of, new_run_environment, page_over}
 use Rattle.liquid_syntax.specs.Templates.{partials_of}
 use Rattle.liquid_syntax.specs.declared.partials.Partials.{Partials}
 use Rattle.liquid_uses.specs.Covered.{SeesAlone}

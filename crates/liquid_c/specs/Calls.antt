@@ -12,14 +12,14 @@ use Rattle.liquid_model.specs.declared.error.ErrorKind.TheVariants.{Memory, Writ
 use Rattle.liquid_core.specs.Held.{held as map_held}
 use Rattle.liquid_evaluation.specs.Tree.{Nodes}
 use Rattle.liquid_language.specs.Entries.{put_entry}
-use Rattle.liquid_syntax.specs.Parsing.{IsOnlyTree, HasNoTree, MayRefuse}
+use Rattle.liquid_parser.specs.Parsing.{IsOnlyTree, HasNoTree, MayRefuse}
 use Rattle.liquid_syntax.specs.Templates.{template_nodes, tree_of, partials_of}
 use Rattle.liquid_language.specs.declared.language.Language.{Language}
 use Rattle.liquid_syntax.specs.declared.partials.Partials.{Partials}
 use Rattle.liquid_syntax.specs.declared.template.Template.{Template}
-use Rattle.liquid_lib.specs.LimitedPages.{IsPrefixOf}
-use Rattle.liquid_lib.specs.Pages.{page_over, page_view}
-use Rattle.liquid_lib.specs.Standard.{IsStandard}
+use Rattle.liquid_engine.specs.LimitedPages.{IsPrefixOf}
+use Rattle.liquid_engine.specs.Pages.{page_over, page_view}
+use Rattle.liquid_tags.specs.Standard.{IsStandard}
 use Rattle.liquid_json.specs.Json.{data_of}
 use Rattle.liquid_c.specs.Levels.{levels_in, no_levels, greater_of, most_levels}
 use Rattle.liquid_c.specs.Numbers.{number_of_refusal}

@@ -11,8 +11,8 @@ use Rattle.liquid_core.specs.FilterAnswers.{FilterAnswer}
 use Rattle.liquid_core.specs.Held.{map_of}
 use Rattle.liquid_evaluation.specs.Tree.{Nodes}
 use Rattle.liquid_json.specs.Json.{data_of}
-use Rattle.liquid_lib.specs.HostedPages.{hosted_page}
-use Rattle.liquid_lib.specs.Pages.{page_over}
+use Rattle.liquid_engine.specs.HostedPages.{hosted_page}
+use Rattle.liquid_engine.specs.Pages.{page_over}
 use Rattle.liquid_c.specs.Asked.{Covers, UsesByName}
 use Rattle.liquid_c.specs.Calls.{ForUtf8Text}
 use Rattle.liquid_c.specs.declared.content.Content.{Content}

@@ -7,9 +7,9 @@ use Rattle.liquid_model.specs.Texts.{Text}
 use Rattle.liquid_model.specs.declared.error.ErrorKind.TheVariants.{Memory, Write}
 use Rattle.liquid_evaluation.specs.Tree.{Nodes}
 use Rattle.liquid_syntax.specs.Templates.{tree_of}
-use Rattle.liquid_lib.specs.HostedPages.{EndsOtherwise, hosted_page}
-use Rattle.liquid_lib.specs.LimitedPages.{IsPrefixOf}
-use Rattle.liquid_lib.specs.Pages.{page_view}
+use Rattle.liquid_engine.specs.HostedPages.{EndsOtherwise, hosted_page}
+use Rattle.liquid_engine.specs.LimitedPages.{IsPrefixOf}
+use Rattle.liquid_engine.specs.Pages.{page_view}
 use Rattle.liquid_answers.specs.Lacking.{IsLacking}
 use Rattle.liquid_answers.specs.Tables.{answers_by}
 use Rattle.liquid_answers.specs.declared.answers.Answers.{Answers}

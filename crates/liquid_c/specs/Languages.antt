@@ -13,8 +13,8 @@ use Rattle.liquid_language.specs.declared.language.Language.{Language}
 use Rattle.liquid_language.specs.declared.language.TagKind.TheVariants.{JekyllInclude}
 use Rattle.liquid_language.specs.declared.registered_filter.RegisteredFilter.TheVariants.{Host}
 use Rattle.liquid_language.specs.declared.registered_filter.RegisteredFilter.TheVariants.{Kind}
-use Rattle.liquid_lib.specs.Standard.{standard_tags, standard_blocks, standard_filters}
-use Rattle.liquid_lib.specs.Standard.{with_filters}
+use Rattle.liquid_tags.specs.Standard.{standard_tags, standard_blocks, standard_filters}
+use Rattle.liquid_tags.specs.Standard.{with_filters}
 use Rattle.liquid_c.specs.Numbers.{number_of_refusal}
 use Rattle.liquid_c.specs.declared.content.Content.{Content}
 use Rattle.liquid_c.specs.declared.content.Content.TheVariants as content

@@ -3,8 +3,8 @@ use Rattle.std.specs.Prelude.{ℕ, Option, Some, None, [], string_bytes}
 use Rattle.liquid_model.specs.Texts.{Text}
 use Rattle.liquid_model.specs.ErrorKinds.{number_of}
 use Rattle.liquid_model.specs.declared.error.Error.{Error}
-use Rattle.liquid_lib.specs.declared.limits.LimitReached.{LimitReached}
-use Rattle.liquid_lib.specs.declared.limits.LimitReached.TheVariants.{Bytes, Turns}
+use Rattle.liquid_engine.specs.declared.limits.LimitReached.{LimitReached}
+use Rattle.liquid_engine.specs.declared.limits.LimitReached.TheVariants.{Bytes, Turns}
 use Rattle.liquid_c.specs.declared.content.Content.{Content}
 use Rattle.liquid_c.specs.declared.content.Content.TheVariants as content
 use Rattle.liquid_c.specs.declared.refusal.Refusal.{Refusal}

@@ -15,7 +15,7 @@ use crate::refusal::{Refusal, store_result};
 use crate::render::partials_held;
 use liquid_answers::json_of;
 use liquid_core::{ErrorKind, Result as Answer, Uses};
-use liquid_lib::{Partials, Template};
+use liquid_syntax::{Partials, Template};
 use liquid_uses::{paths_of, uses_of};
 use std::alloc::Global;
 

@@ -6,7 +6,9 @@ ghost use Rattle.liquid_c.specs.Numbers.{number_of_fault, number_of_content, num
 use crate::levels::TemplateLevels;
 use liquid_answers::{Answers, Lacking};
 use liquid_core::{Error, Object, Uses};
-use liquid_lib::{Language, LimitReached, Page, Partials, Template};
+use liquid_engine::{LimitReached, Page};
+use liquid_language::Language;
+use liquid_syntax::{Partials, Template};
 
 /// What a call makes.
 #[derive(Drop)]

@@ -16,7 +16,8 @@ use crate::render::{
 };
 use liquid_answers::{Answered, Answers, render_page_answered};
 use liquid_core::Object;
-use liquid_lib::{LimitedPage, Partials, Surroundings, Template};
+use liquid_engine::{LimitedPage, Surroundings};
+use liquid_syntax::{Partials, Template};
 use std::alloc::Global;
 
 /// The same as `bikleinu_render_within`, with filters of the caller's whose answers stand in a

@@ -13,7 +13,7 @@ use crate::handle_content::HandleContent;
 use crate::levels::TemplateLevels;
 use crate::refusal::Refusal;
 use liquid_core::ErrorKind;
-use liquid_lib::Partials;
+use liquid_syntax::Partials;
 use std::alloc::Global;
 
 /// Puts a template among partials at a name; the one of that name before is dropped. 0, and the

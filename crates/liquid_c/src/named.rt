@@ -16,7 +16,7 @@ use crate::refusal::{Refusal, store_result};
 use crate::render::partials_held;
 use liquid_answers::json_of;
 use liquid_core::{ErrorKind, Result as Answer, Value};
-use liquid_lib::{Partials, Template};
+use liquid_syntax::{Partials, Template};
 use std::alloc::Global;
 use std::collections::BTreeSet;
 

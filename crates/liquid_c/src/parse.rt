@@ -9,7 +9,8 @@ use crate::handle::Handle;
 use crate::handle_content::held_content;
 use crate::levels::levels_in;
 use crate::refusal::{Refusal, store_result};
-use liquid_lib::{Language, parse_with_source};
+use liquid_language::Language;
+use liquid_parser::parse_with_source;
 use std::alloc::Global;
 
 /// Parses a source in a language. 0, or the number of the fault that `made` then has: a kind of a

@@ -13,8 +13,9 @@ use crate::handle::Handle;
 use crate::handle_content::HandleContent;
 use crate::refusal::{Refusal, store_result};
 use liquid_core::{ErrorKind, Result as Answer};
-use liquid_lib::{FilterKind, Language, jekyll, language};
-use liquid_syntax::TagKind;
+use liquid_filters::{FilterKind, jekyll};
+use liquid_language::{Language, TagKind};
+use liquid_tags::language;
 use std::alloc::Global;
 
 /// Makes Jekyll's language: the standard one with Jekyll's `include` and `sort`. 0, or `Memory`.

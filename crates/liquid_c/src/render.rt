@@ -16,7 +16,8 @@ use crate::handle_content::held_content;
 use crate::levels::TemplateLevels;
 use crate::refusal::{Refusal, store_result};
 use liquid_core::Object;
-use liquid_lib::{LimitedPage, Partials, Template, render_page, render_page_within};
+use liquid_engine::{LimitedPage, render_page, render_page_within};
+use liquid_syntax::{Partials, Template};
 use std::alloc::Global;
 use std::collections::BTreeMap;
 
@@ -268,11 +269,11 @@ fn limited(
 }
 
 /// The limits on bytes and turns.
-pub(crate) fn limits_of(allowed: Allowed) -> liquid_lib::Limits
+pub(crate) fn limits_of(allowed: Allowed) -> liquid_engine::Limits
     ensures bytes { result.bytes ≡ asked_limit allowed.bytes }
     ensures turns { result.turns ≡ asked_limit allowed.turns }
 {
-    liquid_lib::Limits {
+    liquid_engine::Limits {
         bytes: limit_of(allowed.bytes),
         turns: limit_of(allowed.turns),
     }

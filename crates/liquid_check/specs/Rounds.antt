@@ -9,7 +9,7 @@ use Rattle.liquid_model.specs.Texts.{Text}
 use Rattle.liquid_model.specs.declared.error.ErrorKind.{ErrorKind}
 use Rattle.liquid_evaluation.specs.Tree.{Nodes}
 use Rattle.liquid_language.specs.declared.language.Language.{Language}
-use Rattle.liquid_syntax.specs.Parsing.{HasNoTree, IsOfSource, IsOnlyTree}
+use Rattle.liquid_parser.specs.Parsing.{HasNoTree, IsOfSource, IsOnlyTree}
 use Rattle.liquid_check.specs.Blanks.{IsBlanked}
 
 -- what is found: the kind of the fault, the part that is made text, and whether the fault is there

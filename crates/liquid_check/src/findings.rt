@@ -9,7 +9,8 @@ use crate::left_over::{LeftOver, Wrong};
 use liquid_core::{Error, ErrorKind, Result};
 use liquid_language::Language;
 use liquid_lexer::placed_piece;
-use liquid_syntax::{Template, parse};
+use liquid_parser::parse;
+use liquid_syntax::Template;
 use std::alloc::Global;
 
 /// The most faults of a source that are found. Each is found by reading the source once more, so

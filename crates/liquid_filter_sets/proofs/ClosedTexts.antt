@@ -7,7 +7,7 @@ use Rattle.liquid_lexer.specs.PieceView.{item_view, lexed_items_view}
 use Rattle.liquid_lexer.specs.Tokens.{token_of, tokens_of, tokens_view}
 use Rattle.liquid_lexer.specs.declared.item.Delimiter.TheVariants.{Tag}
 use Rattle.liquid_lexer.specs.declared.item.Item.{Item}
-use Rattle.liquid_syntax.specs.ConditionReading.{condition_of}
+use Rattle.liquid_parser.specs.ConditionReading.{condition_of}
 use Rattle.liquid_filter_sets.specs.ConditionTexts.{closed_condition, condition_unless_more}
 
 tokens_seen : (is : List Item) → tokens_of (lexed_items_view is) ≡ tokens_view is

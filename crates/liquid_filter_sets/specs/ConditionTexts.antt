@@ -7,7 +7,7 @@ use Rattle.liquid_lexer.specs.ItemReading.{items_at}
 use Rattle.liquid_lexer.specs.Items.{Item}
 use Rattle.liquid_lexer.specs.Tokens.{tokens_of}
 use Rattle.liquid_lexer.specs.declared.item.Delimiter.TheVariants.{Tag}
-use Rattle.liquid_syntax.specs.ConditionReading.{condition_of}
+use Rattle.liquid_parser.specs.ConditionReading.{condition_of}
 
 -- the condition that items before a closer are, where nothing follows it
 abbrev pub condition_unless_more : List Item × Bool × Text → Option Condition

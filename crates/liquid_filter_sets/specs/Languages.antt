@@ -10,8 +10,8 @@ use Rattle.liquid_language.specs.declared.language.TagKind.TheVariants.{JekyllIn
 use Rattle.liquid_language.specs.declared.registered_filter.RegisteredFilter.{RegisteredFilter}
 use Rattle.liquid_language.specs.declared.registered_filter.RegisteredFilter.TheVariants.{Host}
 use Rattle.liquid_language.specs.declared.registered_filter.RegisteredFilter.TheVariants.{Kind}
-use Rattle.liquid_lib.specs.Standard.{standard_blocks, standard_filters, standard_tags}
-use Rattle.liquid_lib.specs.Standard.{with_filters}
+use Rattle.liquid_tags.specs.Standard.{standard_blocks, standard_filters, standard_tags}
+use Rattle.liquid_tags.specs.Standard.{with_filters}
 use Rattle.liquid_jekyll_host_filters.specs.SiteFilters.{filter_least, filter_most, filter_name}
 use Rattle.liquid_jekyll_host_filters.specs.declared.site_filter.JekyllFilter.{JekyllFilter}
 use Rattle.liquid_jekyll_host_filters.specs.declared.site_filter.JekyllFilter.TheVariants as j

@@ -6,7 +6,8 @@ ghost use Rattle.liquid_filter_sets.specs.ConditionTexts.{closed_condition, cond
 
 use liquid_core::{Error, Result};
 use liquid_lexer::{Delimiter, ParseError, read_items};
-use liquid_syntax::{Condition, read_condition};
+use liquid_parser::read_condition;
+use liquid_syntax::Condition;
 use std::alloc::{AllocError, Global};
 
 /// The condition that a text is, where it is one and nothing else.

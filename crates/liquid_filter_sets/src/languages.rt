@@ -8,10 +8,11 @@ ghost use Rattle.liquid_filter_sets.specs.Languages.{IsJekyll, IsShopify, with_j
 ghost use Rattle.liquid_filter_sets.specs.Languages.{with_kinds, with_shopify_filters, with_sites};
 
 use liquid_core::{ErrorKind, Result};
+use liquid_filters::{FilterKind, jekyll as jekyll_filters};
 use liquid_jekyll_host_filters::{JEKYLL_FILTERS, JekyllFilter};
 use liquid_language::{FilterRegistry, Language, TagKind};
-use liquid_lib::{FilterKind, TagReflection, jekyll, language};
 use liquid_shopify_host_filters::{SHOPIFY_FILTERS, ShopifyKind};
+use liquid_tags::{TagReflection, jekyll, language};
 use std::alloc::Global;
 
 /// The language of Jekyll's templates: the standard one with Jekyll's `include` and `sort` in place
@@ -28,7 +29,7 @@ pub fn jekyll_language(alloc: Global) -> Result<Language>
     let name = String::from_str(alloc, "sort")?;
     language
         .filters
-        .register(name, FilterKind::JekyllSort(jekyll::Sort))?;
+        .register(name, FilterKind::JekyllSort(jekyll_filters::Sort))?;
     register_jekyll_filters(alloc, &mut language.filters)?;
     Ok(language)
 }

@@ -1,14 +1,18 @@
 //! Paths of a site's files.
-ghost use Rattle.std.specs.Prelude.{◌≡◌, ◌↔◌, IsTrue, IfSome};
+ghost use Rattle.std.specs.Prelude.{◌≡◌, ◌↔◌, IsTrue, IfSome, IsNone};
 ghost use Rattle.std.specs.Path.{PathStartsWith, components_remaining};
-ghost use Rattle.liquid_folder.specs.Paths.{IsFileIn, is_skipped_file, steps};
+ghost use Rattle.liquid_model.specs.Texts.{Text};
+ghost use Rattle.liquid_folder.specs.Paths.{IsFileIn, is_no_file_name, is_skipped_file, steps};
 
 use std::path::{Component, Components, Path};
 
 /// The name of the file that a path leads to, where that is right in the folder. A `.` among the
-/// names of either path, and slashes that follow one another, change nothing.
+/// names of either path, and slashes that follow one another, change nothing; `..` is the name of
+/// no file.
 pub fn file_in<'p>(folder: &str, path: &'p str) -> Option<&'p str>
-    ensures { IfSome result (λ name. IsFileIn folder.now path.now name.now) }
+    ensures found { IfSome result (λ name. IsFileIn folder.now path.now name.now) }
+    ensures all { IsNone result → (name : Text) → IsFileIn folder.now path.now name →
+        IsTrue (is_no_file_name name) }
 {
     let rest = steps_of(path)
         .as_path()

@@ -4,11 +4,11 @@ use Rattle.std.specs.Prelude.{MatchBool, ⊤}
 use Rattle.liquid_model.specs.Texts.{Text}
 use Rattle.liquid_model.specs.ErrorKinds.{is_memory}
 use Rattle.liquid_model.specs.declared.error.Error.{Error}
-use Rattle.liquid_syntax.specs.Parsing.{HasNoTree, IsOfSource, MayRefuse}
+use Rattle.liquid_parser.specs.Parsing.{HasNoTree, IsOfSource, MayRefuse}
 use Rattle.liquid_language.specs.declared.language.Language.{Language}
 use Rattle.liquid_evaluation.specs.Tree.{Nodes}
 use Rattle.liquid_lib.specs.Headline.{RendersSource, no_template, ran_out}
-use Rattle.liquid_lib.proofs.Joined.{memory_of}
+use Rattle.liquid_engine.proofs.Joined.{memory_of}
 
 -- the source has no tree, and a kind of a source says so; or memory ran out
 pub refused_source : (l : Language) (source : Text) (e : Error) (runs : Nodes → Type 0) (as_it_was : Type 0) → MatchBool (is_memory e.kind) ⊤ (HasNoTree l source) → MayRefuse e.kind → as_it_was → RendersSource l source (Err e) runs as_it_was

@@ -1,16 +1,15 @@
 //! Renderings of sources.
 ghost use Rattle.std.specs.Prelude.{◌≡◌, ◌<◌, ◌⊎◌, IfErr, IsErrAnd};
-ghost use Rattle.liquid_lib.specs.Failures.{OneFailed, AtMostOneFailed};
+ghost use Rattle.liquid_engine.specs.Failures.{OneFailed, AtMostOneFailed};
 ghost use Rattle.liquid_lib.specs.Headline.{RendersSource};
-ghost use Rattle.liquid_lib.specs.StateKept.{LayersKept};
-ghost use Rattle.liquid_lib.specs.Rendered.{PerformsForCut, run_in, names_in, at_writer};
-ghost use Rattle.liquid_lib.specs.RuntimeView.{SettingKept, layers_in, environment_in};
+ghost use Rattle.liquid_engine.specs.StateKept.{LayersKept};
+ghost use Rattle.liquid_engine.specs.Rendered.{PerformsForCut, run_in, names_in, at_writer};
+ghost use Rattle.liquid_engine.specs.RuntimeView.{SettingKept, layers_in, environment_in};
 
-use crate::counted::CountedWrite;
-use crate::render::Renderable;
-use crate::runtime::Runtime;
 use liquid_core::{ErrorKind, Result};
-use liquid_syntax::{Language, parse};
+use liquid_engine::{CountedWrite, Renderable, Runtime};
+use liquid_language::Language;
+use liquid_parser::parse;
 use std::alloc::Global;
 
 /// Renders a source: parses it in the language, and writes its text up to the first fault.

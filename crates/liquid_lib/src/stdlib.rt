@@ -1,9 +1,7 @@
 //! The tags, blocks and filters of Liquid's standard library.
 
-mod blocks;
-
-pub use blocks::ForloopObject;
-pub(crate) use blocks::Row;
+pub use liquid_engine::ForloopObject;
+pub use liquid_evaluation::{Range, RangeExpression};
 pub use liquid_filters::stdlib::{
     Abs, Append, AtLeast, AtMost, Capitalize, Ceil, Compact, Concat, Date, Default, DividedBy,
     Downcase, Escape, EscapeOnce, First, Floor, Join, Last, Lstrip, Map, Minus, Modulo,
@@ -11,7 +9,6 @@ pub use liquid_filters::stdlib::{
     Size, Slice, Sort, SortNatural, Split, Strip, StripHtml, StripNewlines, Times, Truncate,
     TruncateWords, Uniq, Upcase, UrlDecode, UrlEncode, Where,
 };
-pub use liquid_syntax::{Range, RangeExpression};
 pub use liquid_tags::stdlib::{
     AssignTag, BreakTag, CaptureBlock, CaseBlock, CommentBlock, ContinueTag, CycleTag,
     DecrementTag, ForBlock, IfBlock, IfChangedBlock, IncludeTag, IncrementTag, RawBlock, RenderTag,

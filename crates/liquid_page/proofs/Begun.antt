@@ -5,10 +5,10 @@ use Rattle.std.specs.Io.KnownBytes.{Keeps, append_known}
 use Rattle.std.proofs.KnownBytes.{Appends-nil, Appends-kept}
 use Rattle.liquid_model.specs.declared.error.Error.{Error}
 use Rattle.liquid_model.specs.Texts.{Text}
-use Rattle.liquid_lib.specs.Added.{AppendsPart}
+use Rattle.liquid_engine.specs.Added.{AppendsPart}
 use Rattle.liquid_page_texts.specs.Page.{Sources, PageTexts}
 use Rattle.liquid_page_texts.specs.Shown.{RanOut, ShowsStandard}
-use Rattle.liquid_lib.specs.Performs.{is_refused}
+use Rattle.liquid_engine.specs.Performs.{is_refused}
 use Rattle.liquid_model.specs.ErrorKinds.{is_refusal}
 use Rattle.liquid_page.specs.declared.outcome.Outcome.{Outcome}
 use Rattle.liquid_page.specs.declared.outcome.Outcome.TheVariants.{Done, Fault}

@@ -3,7 +3,7 @@ use Rattle.std.specs.Prelude.{◌≡◌, ℕ, List, [], ◌++◌, Option, Some, 
 use Rattle.std.specs.Io.KnownBytes.{Appends}
 use Rattle.liquid_model.specs.Texts.{Text}
 use Rattle.liquid_model.specs.declared.error.Error.{Error}
-use Rattle.liquid_lib.specs.Performs.{answer_of, unit}
+use Rattle.liquid_engine.specs.Performs.{answer_of, unit}
 use Rattle.liquid_page_texts.specs.Page.{PageTexts, IsStandardPage, IsStandardText}
 
 -- the page of these texts was written, all of it, and the answer is its end

@@ -1,6 +1,6 @@
 //! From the words of a call to its page.
 ghost use Rattle.std.specs.Prelude.{◌≡◌, [], None, Ok, Option, false, IfSome, map, string_bytes};
-ghost use Rattle.liquid_lib.specs.Performs.{is_refused};
+ghost use Rattle.liquid_engine.specs.Performs.{is_refused};
 ghost use Rattle.liquid_page.specs.Files.{ReadableFiles, EndsCall, Finds, LeavesAtWriter};
 ghost use Rattle.liquid_page.specs.Files.{sources_from, file_text};
 ghost use Rattle.liquid_page.specs.Files.{texts_at, called_texts};
@@ -13,7 +13,7 @@ use crate::buffered::Buffered;
 use crate::outcome::Outcome;
 use crate::words::{CommandLine, call_of};
 use liquid_core::{Error, ErrorKind, Origin, Result};
-use liquid_lib::Counted;
+use liquid_engine::Counted;
 use liquid_page_texts::run_without_cleanup;
 use std::alloc::{AllocError, Global};
 use std::io::Write;

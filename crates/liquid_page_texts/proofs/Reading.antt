@@ -11,12 +11,12 @@ use Rattle.liquid_model.specs.declared.error.Error.{Error}
 use Rattle.liquid_model.specs.declared.error.ErrorKind.{ErrorKind}
 use Rattle.liquid_model.specs.declared.error.ErrorKind.TheVariants.{Memory, Write}
 use Rattle.liquid_evaluation.specs.Tree.{Nodes}
-use Rattle.liquid_syntax.specs.Parsing.{IsOnlyTree, HasNoTree, IsOfSource, MayRefuse, ParsesTo}
+use Rattle.liquid_parser.specs.Parsing.{IsOnlyTree, HasNoTree, IsOfSource, MayRefuse, ParsesTo}
 use Rattle.liquid_language.specs.declared.language.Language.{Language}
-use Rattle.liquid_lib.specs.Added.{AppendsPart}
-use Rattle.liquid_lib.specs.Performs.{answer_of, is_refused, unit}
-use Rattle.liquid_lib.specs.Standard.{IsStandard}
-use Rattle.liquid_lib.proofs.Joined.{memory_of}
+use Rattle.liquid_engine.specs.Added.{AppendsPart}
+use Rattle.liquid_engine.specs.Performs.{answer_of, is_refused, unit}
+use Rattle.liquid_tags.specs.Standard.{IsStandard}
+use Rattle.liquid_engine.proofs.Joined.{memory_of}
 use Rattle.liquid_core.specs.Held.{map_of, Outer}
 use Rattle.liquid_model.specs.View.{pairs_view}
 use Rattle.liquid_core.specs.Hosts.{no_host}

@@ -1,19 +1,22 @@
 //! A page of its texts: a template, data and partials.
 ghost use Rattle.std.specs.Prelude.{◌≡◌, ◌<◌, ◌⊎◌, [], false, IfErr, IsErrAnd};
 ghost use Rattle.std.specs.Io.KnownBytes.{Appends};
-ghost use Rattle.liquid_syntax.specs.Parsing.{MayRefuse, ParsesTo};
+ghost use Rattle.liquid_parser.specs.Parsing.{MayRefuse, ParsesTo};
 ghost use Rattle.liquid_syntax.specs.Templates.{tree_of};
-ghost use Rattle.liquid_lib.specs.Added.{AppendsPart};
-ghost use Rattle.liquid_lib.specs.Failures.{OneFailed, AtMostOneFailed};
-ghost use Rattle.liquid_lib.specs.Performs.{answer_of, is_refused, unit};
+ghost use Rattle.liquid_engine.specs.Added.{AppendsPart};
+ghost use Rattle.liquid_engine.specs.Failures.{OneFailed, AtMostOneFailed};
+ghost use Rattle.liquid_engine.specs.Performs.{answer_of, is_refused, unit};
 ghost use Rattle.liquid_page_texts.specs.Page.{page_outcome, sources_of};
 ghost use Rattle.liquid_page_texts.specs.Shown.{RanOut, ReadsPageTexts, ReadsPartials, ReadsSeen};
 ghost use Rattle.liquid_page_texts.specs.Shown.{ShowsStandard, page_inputs_view};
 
 use liquid_core::{Error, ErrorKind, Object, Result};
+use liquid_engine::{CountedWrite, DEFAULT_DEPTH, Renderable, RuntimeBuilder};
 use liquid_json::{data_for, data_from_json};
-use liquid_lib::{CountedWrite, DEFAULT_DEPTH, Renderable, RuntimeBuilder, language};
-use liquid_syntax::{Language, Partials, Template, parse_with_source};
+use liquid_language::Language;
+use liquid_parser::parse_with_source;
+use liquid_syntax::{Partials, Template};
+use liquid_tags::language;
 use liquid_uses::uses_of;
 use std::alloc::Global;
 use std::mem;

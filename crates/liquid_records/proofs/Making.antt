@@ -6,7 +6,7 @@ use Rattle.liquid_model.specs.Maps.{Map, merged}
 use Rattle.liquid_model.specs.Texts.{Text}
 use Rattle.liquid_core.specs.Held.{map_of}
 use Rattle.liquid_evaluation.specs.Tree.{Nodes}
-use Rattle.liquid_lib.specs.Pages.{Shown}
+use Rattle.liquid_engine.specs.Pages.{Shown}
 use Rattle.liquid_records.specs.Records.{Job, Made, Reason, ◌then◌, record_page, page_name, record_file_name, made_page, made_by, with_record}
 
 pub name_is : (job : Job) (pattern : Nodes) (page : Shown) (r : Result Text Reason) → page ≡ record_page job pattern → r ≡ page_name page → r ≡ record_file_name job (Some pattern)

@@ -10,7 +10,7 @@ use Rattle.liquid_model.specs.Texts.{Text}
 use Rattle.liquid_model.specs.declared.error.ErrorKind.{ErrorKind}
 use Rattle.liquid_core.specs.Held.{map_of}
 use Rattle.liquid_evaluation.specs.Tree.{Nodes}
-use Rattle.liquid_lib.specs.Pages.{Shown, page_over}
+use Rattle.liquid_engine.specs.Pages.{Shown, page_over}
 use Rattle.liquid_records.specs.FileNames.{is_file_name}
 
 -- a template with its partials, how deep these may be nested, and the data that all records share

@@ -3,7 +3,7 @@ ghost use Rattle.std.specs.Prelude.{◌≡◌, Ok, string_bytes};
 ghost use Rattle.liquid_model.specs.Answer.{IsValueOrMemory};
 ghost use Rattle.liquid_model.specs.View.{pairs_view};
 ghost use Rattle.liquid_syntax.specs.Templates.{tree_of};
-ghost use Rattle.liquid_lib.specs.Pages.{page_view};
+ghost use Rattle.liquid_engine.specs.Pages.{page_view};
 ghost use Rattle.liquid_json.specs.Json.{data_of};
 ghost use Rattle.liquid_records.specs.Records.{checked_name, record_outcome, made_by, made_page};
 ghost use Rattle.liquid_records.specs.Records.{record_file_name};
@@ -13,8 +13,9 @@ ghost use Rattle.liquid_records.specs.Views.{job_view, made_view, outcome_view, 
 use crate::data::{lay_over, take_off};
 use crate::file_name::is_file_name;
 use liquid_core::{Error, ErrorKind, Object, Result};
+use liquid_engine::{Page, render_page};
 use liquid_json::data_from_json;
-use liquid_lib::{Page, Partials, Template, render_page};
+use liquid_syntax::{Partials, Template};
 use std::alloc::Global;
 
 /// A template with its partials, how deep these may be nested, and the data that all records share.

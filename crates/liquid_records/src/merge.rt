@@ -14,7 +14,7 @@ use crate::job::{Job, Made, RecordResult, Why};
 use liquid_core::{ErrorKind, Object, Result};
 use liquid_disk::Disk;
 use liquid_json::data_from_json;
-use liquid_lib::Template;
+use liquid_syntax::Template;
 use std::alloc::Global;
 use std::collections::BTreeMap;
 

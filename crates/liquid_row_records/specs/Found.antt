@@ -1,7 +1,7 @@
 -- What reading the next record gives.
 --     ReadsOn remaining is_found old new      a record was read, or there is none
 --     AreLinesOf, AreRowsOf remaining reader source      all records of a reader are still to come
-use Rattle.std.specs.Prelude.{◌≡◌, Bool, true, false, List, ℕ, Option, IfSome, map}
+use Rattle.std.specs.Prelude.{◌≡◌, Bool, true, false, List, ℕ, Option, IfSome, Ok, map}
 use Rattle.std.specs.Prelude.{string_bytes}
 use Rattle.csv.specs.Reading.{ReadRecord}
 use Rattle.csv.specs.Records.{fields_of}
@@ -34,4 +34,4 @@ AreLinesOf remaining reader (Rows rows) = ⊥
 abbrev pub AreRowsOf : {R : Type 0} → (R → Option (List ℕ)) → R → Source R → Type 0
 AreRowsOf remaining reader (Lines lines) = ⊥
 AreRowsOf remaining reader (Rows rows) = ReadsRows (reader_of rows)
-    × IfSome (remaining reader) (λ text. IsHead text (map string_bytes rows.names.items))
+    × IfSome (remaining reader) (λ text. IsHead text (Ok (map string_bytes rows.names.items)))

@@ -2,8 +2,10 @@
 --     ReadsRows reader      each further read gives one row of it, of any length, as it stands
 --                           there
 --     reader_of rows      the reader that gives the rows
---     IsHead text names      the first row of a text names these columns, where it has one
-use Rattle.std.specs.Prelude.{◌≡◌, true, ℕ, List, [], Ok, IfSome}
+--     IsHead text naming      the first row of a text, where it has one, names these columns, or
+--                             has this fault
+--     IfFaulted result P      what holds of the fault that the first row has
+use Rattle.std.specs.Prelude.{◌≡◌, true, ⊤, ℕ, List, [], Result, Ok, Err, IfSome}
 use Rattle.csv.specs.Machine.{next_record}
 use Rattle.csv.specs.Reading.{Ready, default_config, is_flexible, reader_trim, strip_bom}
 use Rattle.csv.specs.declared.parser.State.TheVariants as state
@@ -11,7 +13,10 @@ use Rattle.csv.specs.declared.reader.Reader.{Reader}
 use Rattle.csv.specs.declared.reader.Trim.TheVariants as trim
 use Rattle.liquid_model.specs.Texts.{Text}
 use Rattle.liquid_row_records.specs.Heads.{column_names}
+use Rattle.liquid_row_records.specs.declared.csv_rows.HeadStop.{HeadStop}
+use Rattle.liquid_row_records.specs.declared.csv_rows.HeadStop.TheVariants.{Faulted}
 use Rattle.liquid_row_records.specs.declared.csv_rows.Rows.{Rows}
+use Rattle.liquid_row_records.specs.declared.head.HeadFault.{HeadFault}
 
 abbrev pub ReadsRows : {R : Type 0} → Reader R → Type 0
 ReadsRows reader = Ready reader × (reader_trim reader ≡ trim.None) × (is_flexible reader ≡ true)
@@ -20,6 +25,10 @@ abbrev pub reader_of : {R : Type 0} → Rows R → Reader R
 reader_of rows = rows.reader
 
 -- a mark of the byte order before it is no part of it
-abbrev pub IsHead : List ℕ → List Text → Type 0
-IsHead bytes names = IfSome (next_record default_config state.StartRecord [] [] (strip_bom bytes))
-    (λ row. column_names row.0 ≡ Ok names)
+abbrev pub IsHead : List ℕ → Result (List Text) HeadFault → Type 0
+IsHead bytes naming = IfSome (next_record default_config state.StartRecord [] [] (strip_bom bytes))
+    (λ row. column_names row.0 ≡ naming)
+
+abbrev pub IfFaulted : {A : Type 0} → Result A HeadStop → (HeadFault → Type 0) → Type 0
+IfFaulted (Err (Faulted fault)) P = P fault
+IfFaulted _ P = ⊤

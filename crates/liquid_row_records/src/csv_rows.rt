@@ -1,10 +1,10 @@
 //! Records in CSV: a head with the names of the columns, and a record in each row after it.
-ghost use Rattle.std.specs.Prelude.{◌≡◌, IfOk, IfSome, OnOk, false, map, string_bytes};
+ghost use Rattle.std.specs.Prelude.{◌≡◌, Ok, Err, IfOk, IfSome, OnOk, false, map, string_bytes};
 ghost use Rattle.csv.specs.Reading.{ReadRecord, has_failed};
 ghost use Rattle.csv.specs.Records.{fields_of};
 ghost use Rattle.liquid_model.specs.Answer.{IsValueOrMemory};
 ghost use Rattle.liquid_row_records.specs.Rows.{record_of, row_view};
-ghost use Rattle.liquid_row_records.specs.Tables.{IsHead, ReadsRows, reader_of};
+ghost use Rattle.liquid_row_records.specs.Tables.{IfFaulted, IsHead, ReadsRows, reader_of};
 ghost use Rattle.liquid_row_records.specs.declared.csv_rows.HeadStop.TheVariants.{Memory};
 
 use crate::head::{HeadFault, column_names};
@@ -48,7 +48,9 @@ impl<R: Read + Drop> Rows<R> {
         ensures plain { IfOk result (λ rows. ReadsRows (reader_of rows)) }
         ensures goes { IfOk result (λ rows. has_failed (reader_of rows) ≡ false) }
         ensures head { IfOk result (λ rows. IfSome (R.remaining reader) (λ text.
-            IsHead text (map string_bytes rows.names.items))) }
+            IsHead text (Ok (map string_bytes rows.names.items)))) }
+        ensures faulted { IfFaulted result (λ fault. IfSome (R.remaining reader) (λ text.
+            IsHead text (Err fault))) }
     {
         let mut rows = Rows {
             reader: ReaderBuilder::new()

@@ -1,10 +1,11 @@
 //! The records of a reader, one after another.
-ghost use Rattle.std.specs.Prelude.{◌≡◌, IfOk};
+ghost use Rattle.std.specs.Prelude.{◌≡◌, Err, IfOk, IfSome};
 ghost use Rattle.liquid_model.specs.Answer.{IsValueOrMemory};
 ghost use Rattle.liquid_row_records.specs.Counted.{record_number_after};
 ghost use Rattle.liquid_row_records.specs.Found.{AreLinesOf, AreRowsOf, ReadsOn};
 ghost use Rattle.liquid_row_records.specs.Readings.{line_reading, line_text, reading_of};
 ghost use Rattle.liquid_row_records.specs.Readings.{reading_view, text_read};
+ghost use Rattle.liquid_row_records.specs.Tables.{IfFaulted, IsHead};
 
 use crate::csv_rows::{HeadStop, Rows};
 use crate::lines::Lines;
@@ -66,6 +67,8 @@ impl<R: Read + Drop> Records<R> {
         ensures number { IfOk result (λ records. records.number ≡ 0) }
         ensures all { IfOk result (λ records.
             AreRowsOf R.remaining reader records.source) }
+        ensures faulted { IfFaulted result (λ fault. IfSome (R.remaining reader) (λ text.
+            IsHead text (Err fault))) }
     {
         Ok(Records::before(Source::Rows(Rows::new(alloc, reader)?)))
     }

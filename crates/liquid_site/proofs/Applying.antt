@@ -14,7 +14,7 @@ use Rattle.liquid_model.specs.Texts.{Text, same_text}
 use Rattle.liquid_model.specs.ErrorKinds.{is_memory}
 use Rattle.liquid_model.specs.Maps.{listed}
 use Rattle.liquid_model.specs.declared.error.Error.{Error}
-use Rattle.liquid_syntax.specs.Parsing.{IsOfSource}
+use Rattle.liquid_parser.specs.Parsing.{IsOfSource}
 use Rattle.liquid_language.proofs.Inserted.{named}
 use Rattle.liquid_language.specs.Entries.{placed}
 use Rattle.liquid_syntax.specs.Slots.{with_held, filled}

@@ -12,7 +12,7 @@ use Rattle.liquid_evaluation.specs.Tree.{Nodes}
 use Rattle.liquid_language.specs.Entries.{put_entry, without}
 use Rattle.liquid_syntax.proofs.Held.{apart}
 use Rattle.liquid_model.proofs.Maps.{same_text_equal}
-use Rattle.liquid_lib.specs.Pages.{Shown, page_over}
+use Rattle.liquid_engine.specs.Pages.{Shown, page_over}
 use Rattle.liquid_site.specs.Contents.{Trees, Contents, page_of, all_pages, pages_from_scratch, mentions}
 use Rattle.liquid_core.specs.DataChanges.{with_value}
 use Rattle.liquid_site.specs.Steps.{Step, set_page, remove_page, set_partial, remove_partial, set_value, remove_value, set_data, no_contents, stepped, refreshed, KeptIsFromScratch, all_stepped, all_kept, PagesKept}

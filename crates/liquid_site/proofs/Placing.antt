@@ -14,7 +14,7 @@ use Rattle.liquid_syntax.specs.Templates.{tree_of}
 use Rattle.liquid_syntax.specs.declared.template.Template.{Template}
 use Rattle.liquid_syntax.proofs.Held.{AllAbove, Ascend, apart, below_other, names}
 use Rattle.liquid_syntax.specs.inside.NameVisitors.{any_both, or_false}
-use Rattle.liquid_lib.specs.Pages.{Shown, page_over}
+use Rattle.liquid_engine.specs.Pages.{Shown, page_over}
 use Rattle.liquid_site.specs.Contents.{Trees, Contents, Pages, page_of, all_pages, pages_from_scratch, mentions_any}
 use Rattle.liquid_site.specs.inside.Fresh.{selects, selected, all_placed}
 use Rattle.liquid_site.specs.declared.selection.Selection.TheVariants.{All}

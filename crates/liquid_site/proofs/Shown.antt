@@ -8,8 +8,8 @@ use mathlib.Core.Path.{refl, sym, ap, subst, ◌∙◌}
 use Rattle.liquid_model.specs.Texts.{Text, same_text}
 use Rattle.liquid_language.specs.Entries.{seen, put_entry, placed, without}
 use Rattle.liquid_syntax.proofs.Held.{order, names}
-use Rattle.liquid_lib.specs.Pages.{Shown, page_view}
-use Rattle.liquid_lib.specs.declared.rendered_page.Page.{Page}
+use Rattle.liquid_engine.specs.Pages.{Shown, page_view}
+use Rattle.liquid_engine.specs.declared.rendered_page.Page.{Page}
 use Rattle.liquid_site.specs.Contents.{Pages}
 use Rattle.liquid_site.specs.inside.Fresh.{all_placed}
 use Rattle.liquid_site.specs.ShownPages.{AreShown, IsWhole}

@@ -14,7 +14,7 @@ use Rattle.liquid_meaning.specs.Isolation.{Agree}
 use Rattle.liquid_meaning.proofs.Maps.{AgreeAt, same_cut}
 use Rattle.liquid_model.proofs.Maps.{same_text_equal}
 use Rattle.liquid_meaning.proofs.Changes.{agreeing_runs}
-use Rattle.liquid_lib.specs.Pages.{fault_of, new_run_environment, setting_over, page_over}
+use Rattle.liquid_engine.specs.Pages.{fault_of, new_run_environment, setting_over, page_over}
 use Rattle.liquid_syntax.proofs.Held.{apart}
 use Rattle.liquid_site.specs.Contents.{Trees, Contents, page_of, mentions_any}
 use Rattle.liquid_core.specs.DataChanges.{with_value}

@@ -12,7 +12,7 @@ use Rattle.liquid_model.specs.Maps.{Map}
 use Rattle.liquid_core.specs.Environment.{Names}
 use Rattle.liquid_evaluation.specs.Tree.{Nodes}
 use Rattle.liquid_evaluation.specs.Names.{run_names, mentioned}
-use Rattle.liquid_lib.specs.Pages.{Shown, page_over}
+use Rattle.liquid_engine.specs.Pages.{Shown, page_over}
 
 -- templates by name, in the order of the names
 abbrev pub Trees : Type 0

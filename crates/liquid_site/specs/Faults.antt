@@ -18,7 +18,7 @@ use Rattle.liquid_model.specs.declared.error.ErrorKind.TheVariants.{NumberLitera
 use Rattle.liquid_model.specs.declared.error.ErrorKind.TheVariants.{StateWord, UnknownTag}
 use Rattle.liquid_model.specs.declared.error.ErrorKind.TheVariants.{UnknownFilter, FilterArguments}
 use Rattle.liquid_model.specs.declared.error.ErrorKind.TheVariants.{Expected, MissingEnd, TooNested}
-use Rattle.liquid_lib.specs.Pages.{Shown}
+use Rattle.liquid_engine.specs.Pages.{Shown}
 use Rattle.liquid_site.specs.Contents.{Pages}
 
 -- the kinds by number, from 0; numbers without a kind have `Memory`

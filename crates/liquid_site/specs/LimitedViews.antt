@@ -1,5 +1,5 @@
 -- What a site within limits holds.
-use Rattle.liquid_lib.specs.declared.limits.Limits.{Limits}
+use Rattle.liquid_engine.specs.declared.limits.Limits.{Limits}
 use Rattle.liquid_site.specs.PartViews.{SiteView, site_parts_view}
 use Rattle.liquid_site.specs.declared.limited_site.LimitedSite.{LimitedSite}
 

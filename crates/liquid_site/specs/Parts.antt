@@ -9,8 +9,8 @@ use Rattle.liquid_language.specs.Entries.{seen}
 use Rattle.liquid_syntax.specs.Templates.{tree_of, partials_of}
 use Rattle.liquid_syntax.specs.declared.partials.Partials.{Partials}
 use Rattle.liquid_syntax.specs.declared.template.Template.{Template}
-use Rattle.liquid_lib.specs.Pages.{page_view}
-use Rattle.liquid_lib.specs.declared.rendered_page.Page.{Page}
+use Rattle.liquid_engine.specs.Pages.{page_view}
+use Rattle.liquid_engine.specs.declared.rendered_page.Page.{Page}
 use Rattle.liquid_site.specs.Contents.{Trees, Contents, Pages}
 
 abbrev pub pages_in : BTreeMap (String Global) Page → Pages

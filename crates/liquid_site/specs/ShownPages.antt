@@ -3,10 +3,10 @@
 --       right for it
 use Rattle.std.specs.Prelude.{◌≡◌, ⊤, List, [], ◌∷◌}
 use Rattle.liquid_model.specs.Texts.{Text}
-use Rattle.liquid_lib.specs.LimitedPages.{PageWithin}
-use Rattle.liquid_lib.specs.Pages.{Shown, page_view}
-use Rattle.liquid_lib.specs.declared.rendered_page.LimitedPage.{LimitedPage}
-use Rattle.liquid_lib.specs.declared.rendered_page.Page.{Page}
+use Rattle.liquid_engine.specs.LimitedPages.{PageWithin}
+use Rattle.liquid_engine.specs.Pages.{Shown, page_view}
+use Rattle.liquid_engine.specs.declared.rendered_page.LimitedPage.{LimitedPage}
+use Rattle.liquid_engine.specs.declared.rendered_page.Page.{Page}
 use Rattle.liquid_site.specs.Contents.{Pages}
 
 -- without limits, it is the whole page

@@ -13,7 +13,7 @@ use Rattle.liquid_core.specs.DataChanges.{with_value}
 use Rattle.liquid_core.specs.Environment.{Names}
 use Rattle.liquid_evaluation.specs.Tree.{Nodes}
 use Rattle.liquid_language.specs.Entries.{put_entry, without}
-use Rattle.liquid_lib.specs.Pages.{Shown, page_over}
+use Rattle.liquid_engine.specs.Pages.{Shown, page_over}
 use Rattle.liquid_site.specs.Contents.{Trees, Contents, page_of, Pages, pages_from_scratch}
 use Rattle.liquid_site.specs.Contents.{mentions, mentions_any}
 

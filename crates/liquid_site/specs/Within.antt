@@ -8,11 +8,11 @@ use mathlib.Core.Logic.{inl, inr}
 use mathlib.Core.Path.{sym, ap, subst, ◌∙◌}
 use Rattle.liquid_model.specs.Texts.{Text}
 use Rattle.liquid_model.specs.declared.error.ErrorKind.TheVariants.{Write}
-use Rattle.liquid_lib.specs.LimitedPages.{IsPrefixOf, PageWithin}
-use Rattle.liquid_lib.specs.Pages.{Shown, page_view}
-use Rattle.liquid_lib.specs.declared.limits.LimitReached.{LimitReached}
-use Rattle.liquid_lib.specs.declared.limits.LimitReached.TheVariants.{Bytes, Turns}
-use Rattle.liquid_lib.specs.declared.rendered_page.LimitedPage.{LimitedPage}
+use Rattle.liquid_engine.specs.LimitedPages.{IsPrefixOf, PageWithin}
+use Rattle.liquid_engine.specs.Pages.{Shown, page_view}
+use Rattle.liquid_engine.specs.declared.limits.LimitReached.{LimitReached}
+use Rattle.liquid_engine.specs.declared.limits.LimitReached.TheVariants.{Bytes, Turns}
+use Rattle.liquid_engine.specs.declared.rendered_page.LimitedPage.{LimitedPage}
 use Rattle.liquid_site.specs.Contents.{Pages}
 use Rattle.liquid_site.specs.Faults.{kind_code, text_code, shown_code}
 use Rattle.liquid_site.specs.ShownPages.{AreWithin}

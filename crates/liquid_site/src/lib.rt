@@ -15,5 +15,5 @@ mod site;
 pub use change::Change;
 pub use laws::site_laws;
 pub use limited_site::LimitedSite;
-pub use liquid_lib::{LimitReached, LimitedPage, Limits, Page};
+pub use liquid_engine::{LimitReached, LimitedPage, Limits, Page};
 pub use site::Site;

@@ -9,8 +9,8 @@ ghost use Rattle.liquid_site.specs.Within.{AreWithin-prop};
 use crate::change::Change;
 use crate::parts::SiteParts;
 use liquid_core::{Object, Result};
-use liquid_lib::{LimitedPage, Limits};
-use liquid_syntax::Language;
+use liquid_engine::{LimitedPage, Limits};
+use liquid_language::Language;
 use std::alloc::Global;
 use std::collections::BTreeMap;
 

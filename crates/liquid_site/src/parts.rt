@@ -7,7 +7,9 @@ use crate::refresh::{RenderContext, put_page, rendered_pages, replace_pages};
 use crate::rendering::Rendering;
 use crate::selection::Selection;
 use liquid_core::{Object, Result, Value};
-use liquid_syntax::{Language, Partials, Template, parse_with_source};
+use liquid_language::Language;
+use liquid_parser::parse_with_source;
+use liquid_syntax::{Partials, Template};
 use std::alloc::Global;
 use std::collections::BTreeMap;
 
@@ -52,7 +54,7 @@ impl<P: Drop> SiteParts<P> {
     ghost use Rattle.liquid_syntax.specs.Slots.{exchanged};
     ghost use Rattle.liquid_syntax.specs.Templates.{tree_of, slots_of};
     ghost use Rattle.liquid_evaluation.specs.Tree.{Nodes};
-    ghost use Rattle.liquid_lib.specs.Pages.{page_over};
+    ghost use Rattle.liquid_engine.specs.Pages.{page_over};
     ghost use Rattle.liquid_site.specs.Applied.{AppliesTo};
     ghost use Rattle.liquid_site.specs.PartViews.{site_parts_view};
     ghost use Rattle.liquid_site.specs.Contents.{page_of};

@@ -6,7 +6,7 @@ ghost use Rattle.std.specs.String.{string_cmp};
 ghost use Rattle.liquid_core.specs.Held.{held};
 ghost use Rattle.liquid_language.specs.Entries.{put_entry, placed};
 ghost use Rattle.liquid_syntax.specs.Templates.{tree_of, partials_of};
-ghost use Rattle.liquid_lib.specs.Pages.{page_over};
+ghost use Rattle.liquid_engine.specs.Pages.{page_over};
 ghost use Rattle.liquid_site.specs.Contents.{all_pages};
 ghost use Rattle.liquid_site.specs.inside.Fresh.{selects, selected, all_placed, listed_pages};
 ghost use Rattle.liquid_site.specs.Parts.{by_name, trees_in};

@@ -2,12 +2,12 @@
 ghost use Rattle.std.specs.Prelude.{◌≡◌, IfOk, IfErr};
 ghost use Rattle.liquid_core.specs.Held.{held};
 ghost use Rattle.liquid_syntax.specs.Templates.{tree_of, partials_of};
-ghost use Rattle.liquid_lib.specs.LimitedPages.{PageWithin};
-ghost use Rattle.liquid_lib.specs.Pages.{Shown, page_over};
+ghost use Rattle.liquid_engine.specs.LimitedPages.{PageWithin};
+ghost use Rattle.liquid_engine.specs.Pages.{Shown, page_over};
 ghost use Rattle.liquid_site.specs.ShownPages.{IsWhole};
 
 use liquid_core::{ErrorKind, Object, Result};
-use liquid_lib::{LimitedPage, Limits, Page, render_page, render_page_within};
+use liquid_engine::{LimitedPage, Limits, Page, render_page, render_page_within};
 use liquid_syntax::{Partials, Template};
 use std::alloc::Global;
 

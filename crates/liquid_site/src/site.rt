@@ -9,8 +9,8 @@ use crate::change::Change;
 use crate::parts::SiteParts;
 use crate::rendering::WholePages;
 use liquid_core::{Object, Result};
-use liquid_lib::Page;
-use liquid_syntax::Language;
+use liquid_engine::Page;
+use liquid_language::Language;
 use std::alloc::Global;
 use std::collections::BTreeMap;
 

@@ -8,7 +8,7 @@ use Rattle.liquid_model.specs.ErrorKinds.{is_memory}
 use Rattle.liquid_model.specs.Errors.{HasMessageUnlessMemory}
 use Rattle.liquid_model.specs.Texts.{Text}
 use Rattle.liquid_model.specs.declared.error.Error.{Error}
-use Rattle.liquid_lib.specs.Pages.{Shown}
+use Rattle.liquid_engine.specs.Pages.{Shown}
 use Rattle.liquid_site.specs.Contents.{Pages}
 use Rattle.liquid_site.specs.Steps.{saturated_sum}
 use Rattle.liquid_site_files.specs.Written.{all_written, count_from, is_page_path, KeepsOtherFiles, unwritten_message, IsUnwritten, TellsUnwritten}

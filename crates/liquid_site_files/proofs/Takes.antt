@@ -12,8 +12,8 @@ use Rattle.liquid_model.specs.declared.error.ErrorKind.{ErrorKind}
 use Rattle.liquid_model.specs.declared.error.ErrorKind.TheVariants.{Memory}
 use Rattle.liquid_model.specs.declared.value.Value.{Value}
 use Rattle.liquid_core.specs.Held.{held}
-use Rattle.liquid_lib.proofs.Joined.{memory_of}
-use Rattle.liquid_syntax.specs.Parsing.{IsOfSource}
+use Rattle.liquid_engine.proofs.Joined.{memory_of}
+use Rattle.liquid_parser.specs.Parsing.{IsOfSource}
 use Rattle.liquid_language.specs.declared.language.Language.{Language}
 use Rattle.liquid_json.specs.Json.{data_of}
 use Rattle.liquid_site.specs.Applied.{Applies, IsChangeRefused, HasBadSource}

@@ -4,7 +4,7 @@ use Rattle.liquid_model.specs.Data.{Pairs}
 use Rattle.liquid_model.specs.declared.error.ErrorKind.{ErrorKind}
 use Rattle.liquid_core.specs.Held.{map_of}
 use Rattle.liquid_evaluation.specs.Tree.{Nodes}
-use Rattle.liquid_syntax.specs.Parsing.{IsOnlyTree, HasNoTree}
+use Rattle.liquid_parser.specs.Parsing.{IsOnlyTree, HasNoTree}
 use Rattle.liquid_language.specs.declared.language.Language.{Language}
 use Rattle.liquid_json.specs.Json.{data_of}
 use Rattle.liquid_site.specs.Contents.{Contents}

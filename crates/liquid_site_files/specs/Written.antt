@@ -8,7 +8,7 @@ use Rattle.liquid_model.specs.Texts.{Text}
 use Rattle.liquid_model.specs.declared.error.Error.{Error}
 use Rattle.liquid_model.specs.declared.error.ErrorKind.{ErrorKind}
 use Rattle.liquid_model.specs.declared.error.ErrorKind.TheVariants.{Memory, Write}
-use Rattle.liquid_lib.specs.Pages.{Shown}
+use Rattle.liquid_engine.specs.Pages.{Shown}
 use Rattle.liquid_site.specs.Contents.{Pages}
 use Rattle.liquid_site.specs.Steps.{saturated_sum}
 use Rattle.liquid_disk.specs.Files.{Files, ChangesAt, holds, with_file, is_held}

@@ -1,15 +1,16 @@
 //! The site before its first page.
 ghost use Rattle.std.specs.Prelude.{IfOk};
 ghost use Rattle.liquid_model.specs.Answer.{Answers};
-ghost use Rattle.liquid_lib.specs.Standard.{IsStandard};
+ghost use Rattle.liquid_tags.specs.Standard.{IsStandard};
 ghost use Rattle.liquid_json.specs.Json.{data_of};
 ghost use Rattle.liquid_site.specs.SiteViews.{contents_of, language_of};
 ghost use Rattle.liquid_site_files.specs.Start.{site_over};
 
 use liquid_core::Result;
+use liquid_engine::DEFAULT_DEPTH;
 use liquid_json::data_from_json;
-use liquid_lib::{DEFAULT_DEPTH, language};
 use liquid_site::Site;
+use liquid_tags::language;
 use std::alloc::Global;
 
 /// A site in the standard language over the data of a text of JSON, without pages and partials, of

@@ -3,6 +3,7 @@
 --     slots_of p      what stands in the slots of partials, by name: a tree, or none
 --     node_count_of t      how many nodes a template has, in all depths
 use Rattle.std.specs.Prelude.{ℕ, List, [], ◌∷◌, max, Option, Some, None, option_map, String}
+use Rattle.std.specs.Prelude.{string_bytes}
 use Rattle.std.specs.declared.alloc.Global.{Global}
 use Rattle.liquid_model.specs.Texts.{Text}
 use Rattle.liquid_language.specs.Entries.{seen}
@@ -23,6 +24,10 @@ template_nodes t = t.nodes.items
 -- where each of them begins in the source, which nothing else depends on
 abbrev pub positions_of : Template → List Position
 positions_of t = t.positions.items
+
+-- the source, where the template keeps it, which nothing else depends on either
+abbrev pub kept_source : Template → Option Text
+kept_source t = option_map string_bytes t.source
 
 abbrev pub forest_of : Template → Forest Maker
 forest_of t = laid.tree_of (flats t.nodes.items)

@@ -1,10 +1,2 @@
-pub mod BareTags
-pub mod Building
-pub mod Called
-pub mod Classifies
-pub mod ConditionAnswers
 pub mod Mentions
 pub mod NameVisitors
-pub mod PartialAnswers
-pub mod TemplateReading
-pub mod ValueAnswers

@@ -1,54 +1,24 @@
-//! From source to template.
+//! Templates: a list of nodes each, and the partials that they name.
 #![tactic(auto)]
 
-mod body_ends;
-mod build;
-mod chain_items;
-mod classify;
-mod condition_items;
-mod cycle_items;
-mod faults;
-mod group;
 mod item_place;
-mod laws;
-mod loop_items;
 mod loop_nodes;
 mod names;
 mod node;
-mod pair_items;
-mod parser;
-mod partial_items;
 mod partials;
 mod positions;
 mod template;
-mod value_items;
 mod visit_nodes;
 mod when_place;
 
-pub use condition_items::read_condition;
 pub use item_place::{PieceItem, item_position};
-pub use laws::{
-    chain_laws, condition_law, item_list_laws, nesting_laws, statement_law, template_laws,
-};
 pub use liquid_evaluation::{
     AnyFilter, Atom, ChainFilter, ComparisonOperator, Condition, FilterCall, FilterChain, Range,
     RangeExpression, StoredFilter, Window, apply_filters, evaluate_amount,
 };
-pub use liquid_language::{
-    Block, BlockContext, BlockKind, Control, FilterRegistry, Language, RegisteredFilter, Registry,
-    TagKind,
-};
-pub use liquid_lexer::{
-    Body, Delimiter, Fault, FaultKind, Item, Mark, Markup, ParseError, Piece, Symbol, item_laws,
-    source_laws, value_laws, verbatim_laws,
-};
-pub use loop_items::{Loop, LoopPart, LoopTag, read_loop};
 pub use loop_nodes::{Each, For, TableRow, WindowExpression};
 pub use names::add_name;
 pub use node::{Arm, Binding, BodyEnds, Node};
-pub use pair_items::PairStyle;
-pub use parser::{parse, parse_with_source};
 pub use partials::Partials;
 pub use positions::Position;
 pub use template::Template;
-pub use value_items::{Separators, read_values};

@@ -1,5 +1,4 @@
 //! Where the nodes of a template begin in its source, which a fault of a run reports.
-use std::alloc::{AllocError, Global};
 
 /// A place in a source: its line and its column, in characters and each from 1. A mark of the byte
 /// order at the very start of a source is no column.
@@ -12,7 +11,7 @@ pub struct Position {
 impl Position {
     /// The place after a text that begins here. Each byte is a character but those that only
     /// continue one.
-    pub(crate) fn after(self, text: &str) -> Position {
+    pub fn after(self, text: &str) -> Position {
         let mut lines: usize = 0;
         let mut characters: usize = 0;
         for byte in text.bytes() {
@@ -50,35 +49,4 @@ pub(crate) fn rest_from<'s>(source: &'s str, place: Position) -> &'s str {
 /// The sum, capped at the greatest value.
 fn saturating_sum(from: u32, count: usize) -> u32 {
     from.saturating_add(u32::try_from(count).unwrap_or(u32::MAX))
-}
-
-/// The places of the nodes that are read so far. The source is gone through once, piece by piece.
-#[derive(Drop)]
-pub(crate) struct Positions<'s> {
-    /// For each node of the list, where its piece begins.
-    pub(crate) nodes: Vec<Position>,
-    /// The place that is reached, and the source from there on.
-    reached: Position,
-    rest: &'s str,
-}
-
-impl<'s> Positions<'s> {
-    pub(crate) fn new(alloc: Global, source: &'s str) -> Positions<'s> {
-        Positions {
-            nodes: Vec::new(alloc),
-            reached: Position { line: 1, column: 1 },
-            rest: source.strip_prefix('\u{feff}').unwrap_or(source),
-        }
-    }
-
-    /// Marks a piece that begins `remaining` bytes before the end of the source, and with which
-    /// the list has `count` nodes.
-    pub(crate) fn mark(&mut self, remaining: usize, count: usize) -> Result<(), AllocError> {
-        let passed = self.rest.len().saturating_sub(remaining);
-        if let Some((before, rest)) = self.rest.split_at_checked(passed) {
-            self.reached = self.reached.after(before);
-            self.rest = rest;
-        }
-        self.nodes.resize(count, self.reached)
-    }
 }

@@ -13,13 +13,13 @@ use std::collections::BTreeSet;
 
 /// A parsed template: one flat list of its nodes, in source order.
 pub struct Template {
-    pub(crate) nodes: Vec<Node>,
+    nodes: Vec<Node>,
     /// Where each node begins in the source, for the faults of runs. The meaning of a template
     /// doesn't depend on it.
-    pub(crate) positions: Vec<Position>,
+    positions: Vec<Position>,
     /// The source, where the template keeps it, for the faults of runs. The meaning of a template
     /// doesn't depend on it.
-    pub(crate) source: Option<String>,
+    source: Option<String>,
     ghost nested: { AreNested (ends_of_nodes nodes.items) } by { AreNested-prop
         (ends_of_nodes nodes.items) },
 }
@@ -37,16 +37,31 @@ impl Drop for Template {
 }
 
 impl Template {
-    ghost use Rattle.std.specs.Prelude.{◌≡◌, IfOk};
+    ghost use Rattle.std.specs.Prelude.{◌≡◌, IfOk, None, Some, option_map, string_bytes};
     ghost use Rattle.std.specs.BTreeSet.{IsOrdered};
     ghost use Rattle.std.specs.List.{list_any};
     ghost use Rattle.std.specs.String.{string_cmp};
     ghost use Rattle.liquid_model.specs.Answer.{IsValueOrMemory};
     ghost use Rattle.liquid_syntax.specs.NameSets.{mentioned_in_set};
     ghost use Rattle.liquid_syntax.specs.Templates.{template_nodes, partials_of, positions_of};
-    ghost use Rattle.liquid_syntax.specs.Templates.{tree_of};
+    ghost use Rattle.liquid_syntax.specs.Templates.{kept_source, tree_of};
     ghost use Rattle.liquid_evaluation.specs.Counts.{count_of_nodes};
     ghost use Rattle.liquid_evaluation.specs.Names.{mentioned, nodes_names, run_names};
+
+    /// A template of these nodes, whose bodies nest, and of where each begins in the source. It
+    /// keeps no source.
+    pub fn of_nodes(nodes: Vec<Node>, positions: Vec<Position>) -> Template
+        requires { AreNested (ends_of_nodes nodes.items) }
+        ensures list { template_nodes result ≡ nodes.items }
+        ensures positions { positions_of result ≡ positions.items }
+        ensures source { kept_source result ≡ None }
+    {
+        Template {
+            nodes,
+            positions,
+            source: None,
+        }
+    }
 
     /// The nodes, in source order.
     pub fn nodes(&self) -> &[Node]
@@ -63,7 +78,9 @@ impl Template {
     }
 
     /// The source, where the template keeps it (`parse_with_source`).
-    pub fn source(&self) -> Option<&str> {
+    pub fn source(&self) -> Option<&str>
+        ensures { option_map (λ s. s.now) result ≡ kept_source self.now }
+    {
         match &self.source {
             Some(source) => Some(source.as_str()),
             None => None,
@@ -71,9 +88,10 @@ impl Template {
     }
 
     /// The same template, which keeps its source.
-    pub(crate) fn with_source(self, source: String) -> Template
+    pub fn with_source(self, source: String) -> Template
         ensures list { template_nodes result ≡ template_nodes self }
         ensures positions { positions_of result ≡ positions_of self }
+        ensures source { kept_source result ≡ Some (string_bytes source) }
     {
         let mut template = self;
         template.source = Some(source);

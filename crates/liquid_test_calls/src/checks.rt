@@ -2,7 +2,7 @@
 use crate::faults::no_call;
 use liquid_check::{Finding, Findings, else_items, findings_of};
 use liquid_core::{Location, Result, Value};
-use liquid_syntax::Language;
+use liquid_parser::Language;
 use liquid_test_refusals::{WorkedRow, number};
 use std::alloc::Global;
 

@@ -2,7 +2,8 @@
 //! and the group of a `cycle`.
 use crate::faults::no_call;
 use liquid_core::{Expression, Result, Value};
-use liquid_syntax::{Language, Partials, Template, parse};
+use liquid_parser::{Language, parse};
+use liquid_syntax::{Partials, Template};
 use liquid_test_refusals::{WorkedRow, number, text_member};
 use liquid_uses::{paths_of, uses_of};
 use std::alloc::Global;

@@ -1,7 +1,7 @@
 //! What a page is given beside its source and its data.
 use liquid_core::{Object, Result, Value, look_up};
 use liquid_lib::{Language, Partials, jekyll, language, parse, stdlib};
-use liquid_syntax::{FilterRegistry, Registry, TagKind};
+use liquid_parser::{FilterRegistry, Registry, TagKind};
 use liquid_test_refusals::text_of;
 use std::alloc::Global;
 

@@ -5,7 +5,7 @@ use liquid_filters::FilterKind;
 use liquid_filters::stdlib::Sort;
 use liquid_lib::stdlib::{ForloopObject, IfBlock};
 use liquid_lib::{Language, Partials, language, parse};
-use liquid_syntax::{BlockKind, TagKind};
+use liquid_parser::{BlockKind, TagKind};
 use liquid_test_refusals::{Reporter, WorkedRow, items, text_of};
 use std::alloc::Global;
 

@@ -1,5 +1,5 @@
 -- The parts of a site whose pages are right.
-use Rattle.liquid_lib.specs.Pages.{Shown}
+use Rattle.liquid_engine.specs.Pages.{Shown}
 use Rattle.liquid_site.specs.Contents.{pages_from_scratch}
 use Rattle.liquid_site.specs.PartViews.{site_parts_view}
 use Rattle.liquid_site.specs.Parts.{by_name}

@@ -1,4 +1,4 @@
-use Rattle.liquid_lib.proofs.Renderings.{held_none}
+use Rattle.liquid_engine.proofs.Renderings.{held_none}
 use Rattle.liquid_c.proofs.render.empty_data.Goals as goal
 
 pub returns : goal.returns

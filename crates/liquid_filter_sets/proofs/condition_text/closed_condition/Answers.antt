@@ -1,7 +1,7 @@
 use Rattle.std.proofs.Common.{rules, ◌≡◌, [], None, length, sym, ◌∙◌}
 use Rattle.std.proofs.lemmas.List.{nil_from_length}
 use Rattle.liquid_lexer.specs.Tokens.{tokens_view}
-use Rattle.liquid_syntax.specs.ConditionReading.{condition_of}
+use Rattle.liquid_parser.specs.ConditionReading.{condition_of}
 use Rattle.liquid_filter_sets.proofs.ClosedTexts.{closed_is}
 use Rattle.liquid_filter_sets.proofs.condition_text.closed_condition.Goals as goal
 

@@ -1,7 +1,7 @@
 use Rattle.std.proofs.Common.{◌≡◌, ◌∷◌, ◌+◌, drop, inl, inr, sym, ap, ◌∙◌, subst, string_bytes, arith}
 use Rattle.std.proofs.lemmas.List.{drop_more}
 use Rattle.std.proofs.lemmas.Result.{err_from_is_err_and}
-use Rattle.liquid_syntax.specs.Parsing.{IsOnlyTree, HasNoTree}
+use Rattle.liquid_parser.specs.Parsing.{IsOnlyTree, HasNoTree}
 use Rattle.liquid_language.specs.Entries.{put_entry}
 use Rattle.liquid_syntax.specs.Templates.{tree_of, partials_of}
 use Rattle.liquid_page_texts.specs.Page.{sources_of, ArePartials, HasBadPartial}

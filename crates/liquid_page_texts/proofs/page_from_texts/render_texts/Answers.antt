@@ -1,7 +1,7 @@
 use Rattle.std.proofs.Common.{ap, subst, ◌∙◌}
 use Rattle.liquid_core.specs.States.{merged_layers, new_layers}
 use Rattle.liquid_evaluation.specs.Evaluation.{answers_with}
-use Rattle.liquid_lib.specs.Added.{AppendsPart}
+use Rattle.liquid_engine.specs.Added.{AppendsPart}
 use Rattle.liquid_meaning.specs.Runs.{Nothing, Outcome}
 use Rattle.liquid_page_texts.proofs.PageRuns.{outcome_same}
 use Rattle.liquid_page_texts.proofs.page_from_texts.render_texts.Goals as goal

@@ -4,7 +4,7 @@ use Rattle.liquid_core.specs.Held.{held}
 use Rattle.liquid_language.specs.Entries.{seen}
 use Rattle.liquid_syntax.specs.Templates.{tree_of, partials_of}
 use Rattle.liquid_syntax.specs.declared.template.Template.{Template}
-use Rattle.liquid_lib.specs.Pages.{Shown, page_over}
+use Rattle.liquid_engine.specs.Pages.{Shown, page_over}
 use Rattle.liquid_model.specs.Texts.{Text}
 use Rattle.liquid_site.specs.Contents.{all_pages}
 use Rattle.liquid_site.specs.Parts.{trees_in}

@@ -2,7 +2,7 @@ use Rattle.std.proofs.Common.{◌≡◌, ◌++◌}
 use Rattle.liquid_core.specs.Held.{held}
 use Rattle.liquid_language.specs.Entries.{seen}
 use Rattle.liquid_syntax.specs.Templates.{tree_of, partials_of}
-use Rattle.liquid_lib.specs.Pages.{page_over}
+use Rattle.liquid_engine.specs.Pages.{page_over}
 use Rattle.liquid_site.specs.Contents.{Pages, all_pages}
 use Rattle.liquid_site.specs.Parts.{trees_in}
 use Rattle.liquid_site.specs.ShownPages.{AreShown}

@@ -2,7 +2,7 @@ use Rattle.std.proofs.Common.{◌≡◌, cond, string_bytes, sym, ap, ◌∙◌,
 use Rattle.std.proofs.lemmas.Result.{err_from_is_err_and}
 use Rattle.liquid_model.specs.Texts.{Text}
 use Rattle.liquid_language.specs.Entries.{seen}
-use Rattle.liquid_lib.specs.Pages.{Shown, page_view}
+use Rattle.liquid_engine.specs.Pages.{Shown, page_view}
 use Rattle.liquid_site.specs.Parts.{pages_in}
 use Rattle.liquid_site.specs.Steps.{saturated_sum}
 use Rattle.liquid_site_files.proofs.Disks.{started, moved_on, ended_at, stopped_at}

@@ -1,6 +1,6 @@
 use Rattle.std.proofs.Common.{IfSome}
 use Rattle.liquid_language.specs.Entries.{seen}
-use Rattle.liquid_lib.specs.Pages.{page_view}
+use Rattle.liquid_engine.specs.Pages.{page_view}
 use Rattle.liquid_site.specs.Parts.{pages_in}
 use Rattle.liquid_site_files.proofs.Disks.{Progress}
 use Rattle.liquid_site_files.proofs.written.write_pages.Given as goal

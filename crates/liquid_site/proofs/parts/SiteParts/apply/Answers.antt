@@ -6,7 +6,7 @@ use Rattle.liquid_language.specs.Entries.{put_entry, without}
 use Rattle.liquid_site.specs.Parts.{by_name, trees_in}
 use Rattle.liquid_model.specs.View.{view}
 use Rattle.liquid_model.specs.Maps.{listed}
-use Rattle.liquid_syntax.specs.Parsing.{IsOnlyTree}
+use Rattle.liquid_parser.specs.Parsing.{IsOnlyTree}
 use Rattle.liquid_syntax.specs.Templates.{tree_of, partials_of, slots_of}
 use Rattle.liquid_syntax.specs.declared.template.Template.{Template}
 use Rattle.liquid_language.proofs.Inserted.{named}

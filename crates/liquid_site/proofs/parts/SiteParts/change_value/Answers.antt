@@ -4,7 +4,7 @@ use Rattle.liquid_model.specs.View.{view}
 use Rattle.liquid_core.specs.Held.{held}
 use Rattle.liquid_evaluation.specs.Tree.{Nodes}
 use Rattle.liquid_syntax.specs.Templates.{partials_of}
-use Rattle.liquid_lib.specs.Pages.{page_over}
+use Rattle.liquid_engine.specs.Pages.{page_over}
 use Rattle.liquid_site.specs.PartViews.{site_parts_view}
 use Rattle.liquid_core.specs.DataChanges.{with_value}
 use Rattle.liquid_site.specs.Steps.{saturated_sum}

@@ -4,7 +4,7 @@ use Rattle.std.proofs.lemmas.List.{length-map}
 use Rattle.liquid_core.specs.Held.{held}
 use Rattle.liquid_syntax.specs.Templates.{tree_of, partials_of}
 use Rattle.liquid_syntax.proofs.Held.{ascend_seen}
-use Rattle.liquid_lib.specs.Pages.{page_over}
+use Rattle.liquid_engine.specs.Pages.{page_over}
 use Rattle.liquid_site.specs.Contents.{all_pages, page_of, pages_from_scratch}
 use Rattle.liquid_site.specs.PartViews.{site_parts_view}
 use Rattle.liquid_site.specs.Parts.{by_name, trees_in}

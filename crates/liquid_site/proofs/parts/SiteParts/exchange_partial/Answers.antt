@@ -7,7 +7,7 @@ use Rattle.liquid_language.specs.Entries.{placed}
 use Rattle.liquid_syntax.specs.Slots.{filled}
 use Rattle.liquid_syntax.specs.Templates.{tree_of, partials_of, slots_of}
 use Rattle.liquid_syntax.proofs.Held.{ascend_seen, placed_back}
-use Rattle.liquid_lib.specs.Pages.{page_over}
+use Rattle.liquid_engine.specs.Pages.{page_over}
 use Rattle.liquid_site.specs.Contents.{all_pages, pages_from_scratch}
 use Rattle.liquid_site.specs.PartViews.{site_parts_view}
 use Rattle.liquid_site.specs.Parts.{by_name, trees_in}

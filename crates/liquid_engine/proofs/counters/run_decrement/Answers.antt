@@ -1,0 +1,40 @@
+use Rattle.std.proofs.Common.{rules, ◌≡◌, subst, Ok, FitsSigned, w64}
+use Rattle.std.proofs.lemmas.Int.{to_z-of_z}
+use Rattle.std.proofs.lemmas.Result.{err_from_is_err_and}
+use Rattle.std.specs.Prelude.{pos, ◌-ℤ◌}
+use Rattle.liquid_model.specs.Answer.{Faulted}
+use Rattle.liquid_evaluation.specs.Names.{node_names}
+use Rattle.liquid_engine.specs.inside.Counters.{in_i64, shown_and_stored}
+use Rattle.liquid_engine.specs.Performs.{Performs, configuration_of}
+use Rattle.liquid_engine.proofs.Counting.{counts, counts_too_far, in_i64_is}
+use Rattle.liquid_engine.proofs.Joined.{by_rule}
+use Rattle.liquid_meaning.proofs.Rules.{decrement_rule}
+use Rattle.liquid_engine.proofs.counters.run_decrement.Goals as goal
+
+pub returns-in_err-less-clause-performs : goal.returns-in_err-less-clause-performs
+returns-in_err-less-clause-performs g c =
+    let p = err_from_is_err_and c.from_residual.result c.from_residual.ensures.1 in
+    let n = c.number_of.result in
+    let fits : FitsSigned w64 c.number_of.result = search rules in
+    let e = c.in_err-less.field-0.0 in
+    rw (p.1, p.2) (by_rule (decrement_rule _ _ _) (counts_too_far c.args.name.now (λ n. n -ℤ pos 1) (λ n. n -ℤ pos 1) e n _ c.number_of.ensures (subst (λ z. Faulted e.kind (in_i64 (z -ℤ pos 1))) (to_z-of_z w64 n fits) c.in_err-less.ensures)))
+
+pub returns-clause-performs : goal.returns-clause-performs
+returns-clause-performs g c =
+    let place = configuration_of g.W.CountedWrite.contents g.W.CountedWrite.failure_count in
+    let n = c.number_of.result in
+    let less = c.in_ok-less.less in
+    let fits : FitsSigned w64 c.number_of.result = search rules in
+    let fits_less : FitsSigned w64 c.in_ok-less.less = search rules in
+    let is : in_i64 (n -ℤ pos 1) ≡ Ok less = subst (λ z. in_i64 (z -ℤ pos 1) ≡ Ok less) (to_z-of_z w64 n fits) c.in_ok-less.ensures in
+    let a = place c.args.out.now c.args.state.now in
+    let b = place c.show_and_store.new.out c.show_and_store.new.state in
+    let done : Performs c.show_and_store.result (shown_and_stored c.args.name.now less less) a b =
+    subst (λ z. Performs c.show_and_store.result (shown_and_stored c.args.name.now z z) a b) (to_z-of_z w64 less fits_less) c.show_and_store.ensures.performs in
+    let shown : Performs c.show_and_store.result (shown_and_stored c.args.name.now (n -ℤ pos 1) less) a b =
+    subst (λ z. Performs c.show_and_store.result (shown_and_stored c.args.name.now z less) a b) (in_i64_is (n -ℤ pos 1) less is) done in
+    by_rule (decrement_rule _ _ _) (counts c.args.name.now (λ n. n -ℤ pos 1) (λ n. n -ℤ pos 1) c.show_and_store.result n less a b c.number_of.ensures is shown)
+
+pub returns-clause-kept : goal.returns-clause-kept
+unfolding node_names
+returns-clause-kept g c N within inside = c.show_and_store.ensures.kept N within.0

@@ -1,0 +1,16 @@
+pub mod Added
+pub mod CountedParts
+pub mod Failures
+pub mod Forloop
+pub mod HostedPages
+pub mod LimitedPages
+pub mod LimitedParts
+pub mod Limits
+pub mod Pages
+pub mod Performs
+pub mod Rendered
+pub mod RuntimeView
+pub mod Silent
+pub mod Sinks
+pub mod StateKept
+pub mod inside

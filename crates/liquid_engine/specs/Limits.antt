@@ -1,0 +1,31 @@
+-- What a writer still grants a run: bytes of text, and turns.
+--     Takes n old new      n of those left were taken; where there is no limit, there still is none
+--     is_within_limit n left      at least n are left, or there is no limit
+use Rattle.std.specs.Prelude.{◌≡◌, ℕ, ◌-◌, ◌≤◌, nat_le, Bool, true}
+use Rattle.std.specs.Prelude.{Option, Some, None, Result, Ok, Err}
+use Rattle.liquid_engine.specs.declared.limits.Limits.{Limits}
+
+-- no limit at all
+abbrev pub unlimited : Limits
+unlimited = record { bytes = None; turns = None }
+
+abbrev pub is_within_limit : ℕ → Option ℕ → Bool
+is_within_limit n None = true
+is_within_limit n (Some left) = nat_le n left
+
+abbrev pub Takes : ℕ → Option ℕ → Option ℕ → Type 0
+Takes n None new = new ≡ None
+Takes n (Some left) new = (n ≤ left) × (new ≡ Some (left - n))
+
+-- one turn was taken, and no byte
+abbrev pub TakesTurn : Limits → Limits → Type 0
+TakesTurn old new = Takes 1 old.turns new.turns × (new.bytes ≡ old.bytes)
+
+-- n bytes were taken, and no turn
+abbrev pub TakesBytes : ℕ → Limits → Limits → Type 0
+TakesBytes n old new = Takes n old.bytes new.bytes × (new.turns ≡ old.turns)
+
+-- a write takes the bytes that it answers, and none where it fails
+abbrev pub WriteTakes : {E : Type 0} → Result ℕ E → Limits → Limits → Type 0
+WriteTakes (Ok n) old new = TakesBytes n old new
+WriteTakes (Err e) old new = new ≡ old

@@ -1,0 +1,94 @@
+//! Pages of runs with filters of a host.
+ghost use Rattle.std.specs.Prelude.{◌≡◌, [], IfErr, IfOk, length, string_bytes};
+ghost use Rattle.liquid_core.specs.Held.{held};
+ghost use Rattle.liquid_core.specs.States.{environment_of, loops_of};
+ghost use Rattle.liquid_syntax.specs.Templates.{partials_of, tree_of};
+ghost use Rattle.liquid_engine.specs.HostedPages.{EndsOtherwise, hosted_page};
+ghost use Rattle.liquid_engine.specs.LimitedPages.{PageWithin};
+ghost use Rattle.liquid_engine.specs.Performs.{Performs};
+ghost use Rattle.liquid_engine.specs.inside.Engine.{with_writer, nodes_in};
+
+use crate::borrowed_data::run_with_borrowed_data;
+use crate::context::{Places, RunContext};
+use crate::counted::{CountedWrite, NoWriter};
+use crate::limits::{Limited, Limits};
+use crate::output::Output;
+use crate::rendered_page::{LimitedPage, page_of_end, state_over};
+use liquid_core::{ErrorKind, NamedFilters, Object, Result, State};
+use liquid_syntax::{Partials, Template};
+use std::alloc::Global;
+
+/// What a template is rendered with beside its data and the filters of a host.
+#[derive(Clone, Copy, Drop)]
+pub struct Surroundings<'p> {
+    /// The partials.
+    pub partials: &'p Partials,
+    /// How many partials may be nested.
+    pub depth: u32,
+    /// What the run may take.
+    pub limits: Limits,
+}
+
+/// The page of a template in a new run over this data, with filters of a host and within limits.
+/// The data is borrowed, so that nothing of it is copied.
+///
+/// Where no limit is reached it is the whole page. Else it has a beginning of its text, and tells
+/// which limit ended it. The answer is `Memory` where a growth was refused and where a filter of
+/// the host answers that kind, and no other kind. So no page ends by `Memory`.
+pub fn render_hosted_page<H: NamedFilters>(
+    alloc: Global,
+    template: &Template,
+    host: &H,
+    around: Surroundings<'_>,
+    data: &Object,
+) -> Result<LimitedPage>
+    ensures page { IfOk result (λ p. PageWithin (hosted_page (H.named host.now)
+        around.entry.depth (partials_of around.entry.partials.now) (held «data».now)
+        (tree_of template.now)) p) }
+    ensures ended { IfOk result (λ p. EndsOtherwise p.page) }
+    ensures memory { IfErr result (λ e. e.kind ≡ ErrorKind.Memory) }
+{
+    let mut state = state_over(alloc, data);
+    let context = RunContext {
+        partials: around.partials,
+        host,
+        depth: around.depth,
+        places: Places::of(template),
+    };
+    let mut writer = Limited::new(NoWriter, around.limits);
+    let (text, answer) = text_with(alloc, template, &context, &mut writer, &mut state);
+    let limit = writer.ended_by();
+    let page = page_of_end(text, answer)?;
+    Ok(LimitedPage { page, limit })
+}
+
+/// Runs the nodes of a template into a buffer, while the writer grants it. The text, up to the
+/// first fault or refusal, and how the run ended.
+fn text_with<W: CountedWrite, H: NamedFilters>(
+    alloc: Global,
+    template: &Template,
+    context: &RunContext<'_, H>,
+    writer: &mut W,
+    state: &mut State<'_>,
+) -> (String, Result<()>)
+    requires plain { length (loops_of state.old) ≡ 0 }
+    ensures { Performs result.1 (nodes_in H.named context.now (tree_of template.now))
+        (with_writer W.contents W.failure_count writer.old [] (environment_of state.old))
+        (with_writer W.contents W.failure_count writer.new (string_bytes result.0)
+        (environment_of state.new)) }
+{
+    let mut out = Output {
+        writer,
+        buffer: Some(String::new(alloc)),
+    };
+    let answer = run_with_borrowed_data(alloc, template, context, &mut out, state);
+    let text = out.close(None);
+    let Output {
+        writer: left,
+        buffer,
+    } = out;
+    drop(buffer);
+    // No effect at run time. The proof reads what the writer is from this use.
+    let _ = &*left;
+    (text, answer)
+}

@@ -1,0 +1,38 @@
+//! Runs of templates.
+#![tactic(auto)]
+
+mod blocks;
+mod borrowed_data;
+mod choice;
+mod context;
+mod counted;
+mod counters;
+mod cycle;
+mod engine;
+mod fault_item;
+mod fault_location;
+mod fault_tag;
+mod hosted_page;
+mod ifchanged;
+mod isolated_scope;
+mod limits;
+mod loop_setup;
+mod node_ends;
+mod output;
+mod output_and_assign;
+mod partial;
+mod push_value;
+mod render;
+mod rendered_page;
+mod runtime;
+mod runtime_calls;
+mod similar_partial;
+mod write_all;
+
+pub use blocks::ForloopObject;
+pub use counted::{Counted, CountedWrite};
+pub use hosted_page::{Surroundings, render_hosted_page};
+pub use limits::{LimitReached, Limited, Limits};
+pub use render::Renderable;
+pub use rendered_page::{LimitedPage, Page, render_page, render_page_within};
+pub use runtime::{DEFAULT_DEPTH, Runtime, RuntimeBuilder};

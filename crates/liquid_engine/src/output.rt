@@ -1,0 +1,152 @@
+//! The caller's writer, and the buffers that are open over it.
+ghost use Rattle.std.specs.Prelude.{◌≡◌, [], length, Some, IsSome, OnOk, OnErr};
+ghost use Rattle.std.specs.Option.{option_map};
+ghost use Rattle.std.specs.String.{string_bytes};
+ghost use Rattle.liquid_engine.specs.Failures.{OneFailed};
+ghost use Rattle.liquid_engine.specs.Performs.{Cut, WritesText};
+ghost use Rattle.liquid_engine.specs.Limits.{TakesBytes, TakesTurn};
+ghost use Rattle.liquid_engine.specs.inside.Puts.{Puts};
+ghost use Rattle.liquid_engine.specs.Sinks.{sink_of};
+ghost use Rattle.liquid_engine.specs.declared.output.Put.TheVariants.{All};
+ghost use Rattle.liquid_model.specs.ErrorKinds.{IsKindOrMemory};
+ghost use Rattle.liquid_model.specs.declared.error.ErrorKind.TheVariants.{Write};
+
+use crate::counted::CountedWrite;
+use crate::write_all::write_all;
+use liquid_core::{Error, ErrorKind, Result};
+use std::alloc::{AllocError, Global};
+use std::mem;
+
+/// Where a run writes: the innermost open buffer, or the caller's writer where none is open.
+/// The outer buffers wait with the calls that opened the inner ones.
+#[derive(Drop)]
+pub struct Output<'w, W> {
+    pub writer: &'w mut W,
+    pub buffer: Option<String>,
+}
+
+/// A turn that the writer granted, in which the nodes of one list run. Only [Output::turn] makes
+/// one.
+#[derive(Clone, Copy, Drop)]
+pub struct Turn {
+    granted: (),
+}
+
+/// How a text was added: all of it, or a beginning, since the buffer can't grow, or the writer
+/// failed or refused it.
+#[derive(Clone, Copy, Drop)]
+enum Put {
+    All,
+    NoMemory,
+    NotWritten,
+}
+
+impl<'w, W: CountedWrite> Output<'w, W> {
+    /// Adds a text: `Memory` where the buffer can't grow, `Write` where the writer fails. Then a
+    /// beginning of it was added.
+    pub fn push_text(&mut self, alloc: Global, text: &str) -> Result<()>
+        ensures writes { WritesText result text.now
+            (sink_of W.contents W.failure_count self.old)
+            (sink_of W.contents W.failure_count self.new) }
+        ensures same_writer { self.new.writer.ghost_name ≡ self.old.writer.ghost_name }
+    {
+        match self.put(text) {
+            Put::All => Ok(()),
+            Put::NoMemory => Err(Error::from(AllocError)),
+            Put::NotWritten => Err(not_written(alloc)),
+        }
+    }
+
+    /// `push_text`, with an answer that takes little room.
+    #[inline(never)]
+    fn put(&mut self, text: &str) -> Put
+        ensures puts { Puts result text.now
+            (sink_of W.contents W.failure_count self.old)
+            (sink_of W.contents W.failure_count self.new) }
+        // of a writer with a limit it takes what it adds, in a buffer too
+        ensures takes { result ≡ All → TakesBytes (length text.now)
+            (W.left self.old.writer.now) (W.left self.new.writer.now) }
+        ensures same_writer { self.new.writer.ghost_name ≡ self.old.writer.ghost_name }
+    {
+        match &mut self.buffer {
+            Some(buffer) => {
+                if !self.writer.room(text.len()) {
+                    return Put::NotWritten;
+                }
+                match buffer.push_str(text) {
+                    Ok(()) => Put::All,
+                    Err(_) => Put::NoMemory,
+                }
+            }
+            None => match write_all(self.writer, text.as_bytes()) {
+                Ok(()) => Put::All,
+                Err(_) => Put::NotWritten,
+            },
+        }
+    }
+
+    /// Asks the writer whether the run may go on: `Write` where it refuses.
+    pub fn turn(&mut self, alloc: Global) -> Result<Turn>
+        ensures goes_on { OnOk result (sink_of W.contents W.failure_count self.new ≡
+            sink_of W.contents W.failure_count self.old) }
+        // of a writer with a limit it takes one of the turns that are left
+        ensures takes { OnOk result
+            (TakesTurn (W.left self.old.writer.now) (W.left self.new.writer.now)) }
+        ensures refused { OnErr result (Cut result []
+            (sink_of W.contents W.failure_count self.old)
+            (sink_of W.contents W.failure_count self.new)) }
+        ensures stopped { OnErr result (OneFailed
+            (sink_of W.contents W.failure_count self.old).failures
+            (sink_of W.contents W.failure_count self.new).failures) }
+        ensures same_writer { self.new.writer.ghost_name ≡ self.old.writer.ghost_name }
+    {
+        if self.writer.turn() {
+            return Ok(Turn { granted: () });
+        }
+        Err(refused_turn(alloc))
+    }
+
+    /// Opens a buffer, and gives the one that was innermost, for `close`. It takes no memory.
+    pub fn open(&mut self, alloc: Global) -> Option<String>
+        ensures outer { result ≡ self.old.buffer }
+        ensures empty { option_map string_bytes self.new.buffer ≡ Some [] }
+        ensures writer { self.new.writer ≡ self.old.writer }
+    {
+        mem::replace(&mut self.buffer, Some(String::new(alloc)))
+    }
+
+    /// Closes the innermost buffer, gives its text, and puts back the one that `open` gave. It
+    /// takes no memory.
+    pub fn close(&mut self, outer: Option<String>) -> String
+        requires { IsSome self.old.buffer }
+        ensures text { self.old.buffer ≡ Some result }
+        ensures outer { self.new.buffer ≡ outer }
+        ensures writer { self.new.writer ≡ self.old.writer }
+    {
+        mem::replace(&mut self.buffer, outer).unwrap()
+    }
+}
+
+/// The fault of a writer that failed.
+#[inline(never)]
+fn not_written(alloc: Global) -> Error
+    ensures { IsKindOrMemory Write result.kind }
+{
+    Error::new(
+        alloc,
+        ErrorKind::Write,
+        "the writer failed, or took nothing of what was left to write",
+    )
+}
+
+/// The fault of a writer that grants no turn.
+#[inline(never)]
+fn refused_turn(alloc: Global) -> Error
+    ensures { IsKindOrMemory Write result.kind }
+{
+    Error::new(
+        alloc,
+        ErrorKind::Write,
+        "the writer let the run go on no further",
+    )
+}

@@ -1,0 +1,128 @@
+//! Runs of text, outputs and `assign`.
+ghost use Rattle.std.specs.Prelude.{◌≡◌};
+ghost use Rattle.liquid_core.specs.States.{loops_of};
+ghost use Rattle.liquid_evaluation.specs.ChainView.{chain_view};
+ghost use Rattle.liquid_evaluation.specs.Names.{node_names};
+ghost use Rattle.liquid_evaluation.specs.Tree as tree;
+ghost use Rattle.liquid_engine.specs.inside.Engine.{setting_of, node_in};
+ghost use Rattle.liquid_engine.specs.StateKept.{Keeps};
+ghost use Rattle.liquid_engine.specs.Performs.{Performs, configuration_of};
+
+use crate::context::RunContext;
+use crate::counted::CountedWrite;
+use crate::output::Output;
+use crate::push_value::{push_number, push_value};
+use liquid_core::{DirectValue, NamedFilters, Result, State};
+use liquid_syntax::FilterChain;
+use std::alloc::Global;
+
+/// Writes a text.
+pub(crate) fn run_text<W: CountedWrite, H: NamedFilters>(
+    alloc: Global,
+    context: &RunContext<'_, H>,
+    text: &str,
+    out: &mut Output<'_, W>,
+    state: &mut State<'_>,
+) -> Result<()>
+    ensures performs { Performs result (node_in H.named context.now (tree.plain text.now))
+        (configuration_of W.contents W.failure_count out.old state.old)
+        (configuration_of W.contents W.failure_count out.new state.new) }
+    ensures same_writer { out.new.writer.ghost_name ≡ out.old.writer.ghost_name }
+    ensures kept { Keeps (node_names (tree.plain text.now)) (setting_of H.named context.now)
+        state.old
+        state.new }
+    ensures loops { loops_of state.new ≡ loops_of state.old }
+{
+    out.push_text(alloc, text)
+}
+
+/// Writes the body of a `raw`.
+pub(crate) fn run_raw<W: CountedWrite, H: NamedFilters>(
+    alloc: Global,
+    context: &RunContext<'_, H>,
+    text: &str,
+    out: &mut Output<'_, W>,
+    state: &mut State<'_>,
+) -> Result<()>
+    ensures performs { Performs result (node_in H.named context.now (tree.raw text.now))
+        (configuration_of W.contents W.failure_count out.old state.old)
+        (configuration_of W.contents W.failure_count out.new state.new) }
+    ensures same_writer { out.new.writer.ghost_name ≡ out.old.writer.ghost_name }
+    ensures kept { Keeps (node_names (tree.raw text.now)) (setting_of H.named context.now) state.old
+        state.new }
+    ensures loops { loops_of state.new ≡ loops_of state.old }
+{
+    out.push_text(alloc, text)
+}
+
+/// Writes the text of a chain's value.
+#[inline(never)]
+pub(crate) fn run_output<W: CountedWrite, H: NamedFilters>(
+    alloc: Global,
+    context: &RunContext<'_, H>,
+    chain: &FilterChain,
+    out: &mut Output<'_, W>,
+    state: &mut State<'_>,
+) -> Result<()>
+    ensures performs { Performs result
+        (node_in H.named context.now (tree.output (chain_view chain.now)))
+        (configuration_of W.contents W.failure_count out.old state.old)
+        (configuration_of W.contents W.failure_count out.new state.new) }
+    ensures same_writer { out.new.writer.ghost_name ≡ out.old.writer.ghost_name }
+    ensures kept { Keeps (node_names (tree.output (chain_view chain.now)))
+        (setting_of H.named context.now)
+        state.old state.new }
+    ensures loops { loops_of state.new ≡ loops_of state.old }
+{
+    match chain.direct_value(state) {
+        DirectValue::Held(value) => push_value(alloc, value, out),
+        DirectValue::Number(n) => push_number(alloc, n, out),
+        _ => run_chain(alloc, context, chain, out, state),
+    }
+}
+
+/// Writes the text of a chain's value, which a filter makes, or no value holds.
+#[inline(never)]
+fn run_chain<W: CountedWrite, H: NamedFilters>(
+    alloc: Global,
+    context: &RunContext<'_, H>,
+    chain: &FilterChain,
+    out: &mut Output<'_, W>,
+    state: &mut State<'_>,
+) -> Result<()>
+    ensures performs { Performs result
+        (node_in H.named context.now (tree.output (chain_view chain.now)))
+        (configuration_of W.contents W.failure_count out.old state.old)
+        (configuration_of W.contents W.failure_count out.new state.new) }
+    ensures same_writer { out.new.writer.ghost_name ≡ out.old.writer.ghost_name }
+    ensures kept { Keeps (node_names (tree.output (chain_view chain.now)))
+        (setting_of H.named context.now)
+        state.old state.new }
+    ensures loops { loops_of state.new ≡ loops_of state.old }
+{
+    let value = chain.evaluate_cow(alloc, state, context.host)?;
+    push_value(alloc, value.as_value(), out)
+}
+
+/// Sets an assigned variable to a chain's value.
+#[inline(never)]
+pub(crate) fn run_assign<W: CountedWrite, H: NamedFilters>(
+    alloc: Global,
+    context: &RunContext<'_, H>,
+    name: &str,
+    chain: &FilterChain,
+    out: &mut Output<'_, W>,
+    state: &mut State<'_>,
+) -> Result<()>
+    ensures performs { Performs result
+        (node_in H.named context.now (tree.assign name.now (chain_view chain.now)))
+        (configuration_of W.contents W.failure_count out.old state.old)
+        (configuration_of W.contents W.failure_count out.new state.new) }
+    ensures same_writer { out.new.writer.ghost_name ≡ out.old.writer.ghost_name }
+    ensures kept { Keeps (node_names (tree.assign name.now (chain_view chain.now)))
+        (setting_of H.named context.now) state.old state.new }
+    ensures loops { loops_of state.new ≡ loops_of state.old }
+{
+    let value = chain.evaluate_by(alloc, state, context.host)?;
+    state.assign(alloc, name, value)
+}

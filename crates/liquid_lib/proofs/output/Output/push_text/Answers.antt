@@ -1,8 +1,0 @@
-use Rattle.std.proofs.Common.{rules}
-use Rattle.liquid_lib.proofs.output.Output.push_text.Goals as goal
-
-pub returns-in-NoMemory-clause-writes : goal.returns-in-NoMemory-clause-writes
-returns-in-NoMemory-clause-writes g c = c.in-NoMemory.ensures.puts c.from.result (search rules)
-
-pub returns-in-NotWritten-clause-writes : goal.returns-in-NotWritten-clause-writes
-returns-in-NotWritten-clause-writes g c = c.in-NotWritten.ensures.puts c.not_written.result c.not_written.ensures

@@ -1,6 +1,0 @@
-use Rattle.liquid_lib.proofs.Joined.{by_rule, write_met}
-use Rattle.liquid_meaning.proofs.Rules.{plain_rule}
-use Rattle.liquid_lib.proofs.output_and_assign.run_text.Goals as goal
-
-pub returns-clause-performs : goal.returns-clause-performs
-returns-clause-performs g c = by_rule (plain_rule _ _ c.args.text.now) (write_met c.push_text.result _ _ _ _ c.push_text.ensures.writes)

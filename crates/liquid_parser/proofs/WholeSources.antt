@@ -1,0 +1,50 @@
+-- What is said of whole sources: one without openers is one text, and a source has at most one tree.
+use Rattle.std.proofs.Common.{◌≡◌, ℕ, List, [], ◌∷◌, Bool, true, false, not, ◌==◌, ◌||◌, ◌&&◌, refl, sym, ap, subst, ◌∙◌, append-nil}
+use Rattle.std.proofs.lemmas.Bool.{eqb-true}
+use Rattle.liquid_lexer.specs.Bytes.{plain, open_brace, percent}
+use Rattle.liquid_lexer.specs.Openers.{opener}
+use Rattle.liquid_lexer.specs.Pieces as pieces
+use Rattle.liquid_lexer.specs.Pieces.{last}
+use Rattle.liquid_lexer.specs.Words.{IsRun}
+use Rattle.liquid_lexer.specs.declared.item.Delimiter.{Delimiter}
+use Rattle.liquid_lexer.specs.declared.item.Delimiter.TheVariants.{Output, Tag}
+use Rattle.liquid_lexer.proofs.WordLaws.{from_some}
+use Rattle.liquid_parser.specs.Statements.{is_text}
+use Rattle.liquid_parser.specs.Nesting.{none, is_leaf}
+use Rattle.liquid_parser.specs.Parsing.{IsTemplate}
+use Rattle.liquid_parser.specs.TemplateLaw.{HasNoOpener, PlainSources, AtMostOneTemplate}
+use Rattle.liquid_parser.proofs.TemplateLaws.{template_again}
+
+-- no opener begins at the front
+NoneBegins : List ℕ → Type 0
+NoneBegins t = (k : Delimiter) (following : List ℕ) → t ≡ open_brace ∷ opener k ∷ following → ⊥
+
+not_opened : (b c : ℕ) (cs : List ℕ) (brace second percents : Bool) → (b == open_brace) ≡ brace → (c == open_brace) ≡ second → (c == percent) ≡ percents → NoneBegins (b ∷ c ∷ cs)
+    → not (brace && (second || percents)) ≡ true
+unfolding NoneBegins
+not_opened b c cs false second percents eb ec ep h = refl
+not_opened b c cs true true percents eb ec ep h = absurd (h Output cs (ap (λ x. x ∷ c ∷ cs) (eqb-true b open_brace eb) ∙ ap (λ x. open_brace ∷ x ∷ cs) (eqb-true c open_brace ec)))
+not_opened b c cs true false true eb ec ep h = absurd (h Tag cs (ap (λ x. x ∷ c ∷ cs) (eqb-true b open_brace eb) ∙ ap (λ x. open_brace ∷ x ∷ cs) (eqb-true c percent ep)))
+not_opened b c cs true false false eb ec ep h = refl
+
+alone : (brace : Bool) → not (brace && false) ≡ true
+alone true = refl
+alone false = refl
+
+plain_at : (b : ℕ) (bs : List ℕ) → NoneBegins (b ∷ bs) → plain b bs ≡ true
+unfolding plain
+plain_at b [] h = alone (b == open_brace)
+plain_at b (c ∷ cs) h = not_opened b c cs (b == open_brace) (c == open_brace) (c == percent) refl refl refl h
+
+plain_run : (t : List ℕ) → HasNoOpener t → IsRun plain t []
+unfolding NoneBegins
+plain_run [] h = refl
+plain_run (b ∷ bs) h = (subst (λ r. plain b r ≡ true) (sym (append-nil bs)) (plain_at b bs (λ k following e. h k [] following e)), plain_run bs (λ k front following e. h k (b ∷ front) following (ap (λ r. b ∷ r) e)))
+
+pub plain_sources : PlainSources
+unfolding IsTemplate
+plain_sources l [] h = ([], last (plain_run [] h), none)
+plain_sources l (b ∷ bs) h = (pieces.text (b ∷ bs) ∷ [], last (plain_run (b ∷ bs) h), is_leaf is_text none)
+
+pub at_most_one_template : AtMostOneTemplate
+at_most_one_template l source t u this that = from_some (sym (template_again l t source this) ∙ template_again l u source that)

@@ -1,0 +1,8 @@
+use Rattle.liquid_parser.proofs.WholeSources.{plain_sources, at_most_one_template}
+use Rattle.liquid_parser.proofs.laws.template_laws.Goals as goal
+
+pub returns-clause-plain : goal.returns-clause-plain
+returns-clause-plain c = plain_sources
+
+pub returns-clause-unique : goal.returns-clause-unique
+returns-clause-unique c = at_most_one_template

@@ -1,0 +1,101 @@
+-- The written grammar of a single piece: what it is, where it stands.
+use Rattle.std.specs.Prelude.{◌≡◌, List, [], ◌∷◌, Option, Some}
+use Rattle.liquid_model.specs.Texts.{Text}
+use Rattle.liquid_lexer.specs.Items.{Item}
+use Rattle.liquid_lexer.specs.Pieces as pieces
+use Rattle.liquid_lexer.specs.Tokens.{tokens_of, value, word}
+use Rattle.liquid_lexer.specs.declared.piece.Body.TheVariants.{Raw, Comment}
+use Rattle.liquid_parser.specs.Chains.{IsChain, IsAssign}
+use Rattle.liquid_parser.specs.Conditions.{IsCondition}
+use Rattle.liquid_parser.specs.Cycles.{IsCycle}
+use Rattle.liquid_parser.specs.Loops.{Head, IsLoop, for_node, row_node}
+use Rattle.liquid_language.specs.Registered.{registered_in}
+use Rattle.liquid_parser.specs.Nesting.{of_one, of_two, of_many, Statement, leaf, closed, begins}
+use Rattle.liquid_parser.specs.Nesting.{elsif, arm, otherwise, ends}
+use Rattle.liquid_parser.specs.PartialItems.{IsInclude, IsJekyllInclude, IsRender}
+use Rattle.liquid_language.specs.Roles.{role_of, verbatim_body}
+use Rattle.liquid_evaluation.specs.Tree.{Bindings, Chain, Condition, Source, plain, raw, comment}
+use Rattle.liquid_evaluation.specs.Tree.{output, assign, if_true, unless, capture, case_of}
+use Rattle.liquid_evaluation.specs.Tree.{ifchanged, break_loop, continue_loop, increment, decrement}
+use Rattle.liquid_evaluation.specs.Tree.{cycle, include, jekyll_include, render}
+use Rattle.liquid_evaluation.specs.Groups.{group_of}
+use Rattle.liquid_core.specs.Expression.{Expression}
+use Rattle.liquid_parser.specs.ValueLists.{AreValues}
+use Rattle.liquid_parser.specs.declared.value_items.Separators.TheVariants.{CommasOr}
+use Rattle.liquid_language.specs.declared.block.Block.TheVariants.{If, Unless, Capture, Case}
+use Rattle.liquid_language.specs.declared.block.Block.TheVariants.{IfChanged, For, TableRow}
+use Rattle.liquid_language.specs.declared.block.Control.TheVariants.{Elsif, Else, BareElse, When}
+use Rattle.liquid_language.specs.declared.block.BlockContext.{BlockContext}
+use Rattle.liquid_language.specs.declared.block.Role.TheVariants.{End, Control as Word, Tag}
+use Rattle.liquid_language.specs.declared.block.Role.TheVariants.{Block as Start}
+use Rattle.liquid_language.specs.declared.language.BlockKind.TheVariants as blocks
+use Rattle.liquid_language.specs.declared.language.Language.{Language}
+use Rattle.liquid_language.specs.declared.language.TagKind.TheVariants as tags
+use Rattle.liquid_parser.specs.declared.loop_items.LoopTag.TheVariants.{Each, Rows}
+
+pub data IsStatement (l : Language) (x : BlockContext) : pieces.Piece → Statement → Type 0 where
+  is_text : {t : Text} → IsStatement l x (pieces.text t) (leaf (plain t))
+  is_output : {c : Chain} {is : List Item} → IsChain (registered_in l.filters) c (tokens_of is) →
+      IsStatement l x (pieces.output is) (leaf (output c))
+  -- an end takes no items
+  is_end : {w : Text} → role_of l x w ≡ Some End → IsStatement l x (pieces.tag w []) ends
+  is_elsif : {w : Text} {c : Condition} {is : List Item} → role_of l x w ≡ Some (Word Elsif) →
+      IsCondition c (tokens_of is) →
+      IsStatement l x (pieces.tag w is) (elsif (λ f g. if_true c f g))
+  -- the items of an `else` are ignored
+  is_else : {w : Text} {is : List Item} → role_of l x w ≡ Some (Word Else) →
+      IsStatement l x (pieces.tag w is) otherwise
+  is_assign : {w name : Text} {c : Chain} {is : List Item} → role_of l x w ≡
+      Some (Tag tags.Assign) → IsAssign (registered_in l.filters) name c (tokens_of is) →
+      IsStatement l x (pieces.tag w is) (leaf (assign name c))
+  is_if : {w : Text} {c : Condition} {is : List Item} → role_of l x w ≡ Some (Start blocks.If) →
+      IsCondition c (tokens_of is) →
+      IsStatement l x (pieces.tag w is) (begins (of_two If (λ f g. if_true c f g)))
+  is_unless : {w : Text} {c : Condition} {is : List Item} → role_of l x w ≡
+      Some (Start blocks.Unless) → IsCondition c (tokens_of is) →
+      IsStatement l x (pieces.tag w is) (begins (of_two Unless (λ f g. unless c f g)))
+  -- in a `for` and a `case` an `else` has no items
+  is_bare_else : {w : Text} → role_of l x w ≡ Some (Word BareElse) →
+      IsStatement l x (pieces.tag w []) otherwise
+  is_capture : {w name : Text} {is : List Item} → role_of l x w ≡ Some (Start blocks.Capture) →
+      tokens_of is ≡ word name ∷ [] →
+      IsStatement l x (pieces.tag w is) (begins (of_one Capture (λ f. capture name f)))
+  is_case : {w : Text} {t : Expression} {is : List Item} → role_of l x w ≡
+      Some (Start blocks.Case) → tokens_of is ≡ value t ∷ [] →
+      IsStatement l x (pieces.tag w is) (begins (of_many Case (λ ws o. case_of t ws o)))
+  is_when : {w : Text} {vs : List Expression} {is : List Item} → role_of l x w ≡ Some (Word When) →
+      AreValues CommasOr vs (tokens_of is) → IsStatement l x (pieces.tag w is) (arm vs)
+  is_break : {w : Text} → role_of l x w ≡ Some (Tag tags.Break) →
+      IsStatement l x (pieces.tag w []) (leaf break_loop)
+  is_continue : {w : Text} → role_of l x w ≡ Some (Tag tags.Continue) →
+      IsStatement l x (pieces.tag w []) (leaf continue_loop)
+  is_increment : {w name : Text} {is : List Item} → role_of l x w ≡ Some (Tag tags.Increment) →
+      tokens_of is ≡ word name ∷ [] → IsStatement l x (pieces.tag w is) (leaf (increment name))
+  is_decrement : {w name : Text} {is : List Item} → role_of l x w ≡ Some (Tag tags.Decrement) →
+      tokens_of is ≡ word name ∷ [] → IsStatement l x (pieces.tag w is) (leaf (decrement name))
+  is_cycle : {w : Text} {name : Option Expression} {vs : List Expression} {is : List Item} →
+      role_of l x w ≡ Some (Tag tags.Cycle) → IsCycle name vs (tokens_of is) →
+      IsStatement l x (pieces.tag w is) (leaf (cycle (group_of name vs) vs))
+  is_ifchanged : {w : Text} → role_of l x w ≡ Some (Start blocks.IfChanged) →
+      IsStatement l x (pieces.tag w []) (begins (of_one IfChanged (λ f. ifchanged f)))
+  is_for : {w : Text} {h : Head} {is : List Item} → role_of l x w ≡ Some (Start blocks.For) →
+      IsLoop Each h (tokens_of is) →
+      IsStatement l x (pieces.tag w is) (begins (of_two For (for_node h)))
+  is_tablerow : {w : Text} {h : Head} {is : List Item} → role_of l x w ≡
+      Some (Start blocks.TableRow) → IsLoop Rows h (tokens_of is) →
+      IsStatement l x (pieces.tag w is) (begins (of_one TableRow (row_node h)))
+  is_include : {w : Text} {name : Expression} {ps : Bindings} {is : List Item} → role_of l x w ≡
+      Some (Tag tags.Include) → IsInclude name ps (tokens_of is) →
+      IsStatement l x (pieces.tag w is) (leaf (include name ps))
+  is_jekyll_include : {w name : Text} {ps : Bindings} {is : List Item} → role_of l x w ≡
+      Some (Tag tags.JekyllInclude) → IsJekyllInclude name ps is →
+      IsStatement l x (pieces.tag w is) (leaf (jekyll_include name ps))
+  is_render : {w : Text} {name : Expression} {each : Option (Source × Text)} {ps : Bindings}
+      {is : List Item} → role_of l x w ≡ Some (Tag tags.Render) →
+      IsRender name each ps (tokens_of is) →
+      IsStatement l x (pieces.tag w is) (leaf (render name each ps))
+  -- a block whose body isn't read has no items, and with its body it is a piece of its own
+  is_raw : {w t : Text} → verbatim_body (role_of l x w) ≡ Some Raw →
+      IsStatement l x (pieces.raw w t) (closed (raw t))
+  is_comment : {w : Text} → verbatim_body (role_of l x w) ≡ Some Comment →
+      IsStatement l x (pieces.comment w) (closed comment)

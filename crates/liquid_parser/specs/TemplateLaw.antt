@@ -1,0 +1,29 @@
+-- Laws of whole sources.
+use Rattle.std.specs.Prelude.{◌≡◌, [], ◌∷◌, ◌++◌}
+use Rattle.liquid_model.specs.Texts.{Text}
+use Rattle.liquid_lexer.specs.Bytes.{open_brace}
+use Rattle.liquid_lexer.specs.Openers.{opener}
+use Rattle.liquid_lexer.specs.declared.item.Delimiter.{Delimiter}
+use Rattle.liquid_parser.specs.Parsing.{IsTemplate}
+use Rattle.liquid_language.specs.declared.language.Language.{Language}
+use Rattle.liquid_evaluation.specs.Tree.{Nodes, no_nodes, node, plain}
+
+-- `{{` and `{%` stand nowhere in the text
+abbrev pub HasNoOpener : Text → Type 0
+HasNoOpener t = (k : Delimiter) (front following : Text) →
+    t ≡ front ++ (open_brace ∷ opener k ∷ following) → ⊥
+
+-- the template of one text; the empty text is the empty template
+abbrev pub text_alone : Text → Nodes
+text_alone [] = no_nodes
+text_alone (b ∷ bs) = node (plain (b ∷ bs)) no_nodes
+
+-- a source without an opener is itself: that one text, in every language
+abbrev pub PlainSources : Type 0
+PlainSources = (l : Language) (source : Text) → HasNoOpener source →
+    IsTemplate l (text_alone source) source
+
+-- the written grammar gives a source at most one tree
+abbrev pub AtMostOneTemplate : Type 0
+AtMostOneTemplate = (l : Language) (source : Text) (t u : Nodes) → IsTemplate l t source →
+    IsTemplate l u source → t ≡ u

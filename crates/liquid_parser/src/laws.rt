@@ -1,0 +1,46 @@
+//! Laws of the definitions that contracts speak of.
+ghost use Rattle.liquid_parser.specs.ChainLaw.{ReadsChains, ReadsAssigns};
+ghost use Rattle.liquid_parser.specs.ConditionLaw.{ReadsConditions};
+ghost use Rattle.liquid_parser.specs.StatementLaw.{ReadsStatements};
+ghost use Rattle.liquid_parser.specs.RepeatedLaw.{ReadsLoops, ReadsPairs, ReadsValues};
+ghost use Rattle.liquid_parser.specs.NestingLaw.{ReadsTheGrammar, AtMostOneTree};
+ghost use Rattle.liquid_parser.specs.TemplateLaw.{PlainSources, AtMostOneTemplate};
+
+/// A source without `{{` and `{%` is itself, one text, in every language; and a source has at most
+/// one tree in a language.
+pub fn template_laws()
+    ensures plain { PlainSources }
+    ensures unique { AtMostOneTemplate }
+{}
+
+/// Reading with a stack of open blocks gives a list of pieces the tree of the written grammar, and
+/// there is at most one.
+pub fn nesting_laws()
+    ensures reads { ReadsTheGrammar }
+    ensures unique { AtMostOneTree }
+{}
+
+/// A piece is read as a statement, by the names of a language, exactly where the written grammar
+/// says that it is that.
+pub fn statement_law()
+    ensures { ReadsStatements }
+{}
+
+/// A chain of filters and an `assign` are read exactly where the written grammar says that the
+/// items are it.
+pub fn chain_laws()
+    ensures chains { ReadsChains }
+    ensures assigns { ReadsAssigns }
+{}
+
+/// A condition is read exactly where the written grammar says that the items are it.
+pub fn condition_law()
+    ensures { ReadsConditions }
+{}
+
+/// Values, loops and pairs are read exactly where the written grammar says that the items are it.
+pub fn item_list_laws()
+    ensures values { ReadsValues }
+    ensures loops { ReadsLoops }
+    ensures pairs { ReadsPairs }
+{}

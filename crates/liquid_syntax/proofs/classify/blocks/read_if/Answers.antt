@@ -1,7 +1,0 @@
-use Rattle.std.proofs.Common.{ap, refl}
-use Rattle.std.specs.Option.{option_map}
-use Rattle.liquid_syntax.specs.Classification.{if_node}
-use Rattle.liquid_syntax.proofs.classify.blocks.read_if.Goals as goal
-
-pub returns-clause-node : goal.returns-clause-node
-returns-clause-node c = (ap (option_map if_node) c.in_ok-condition.ensures.condition, (c.open.result.first_end, c.open.result.last_end, refl))
