@@ -85,6 +85,25 @@ def stated_functions(text, path):
     return found
 
 
+def unstated_functions(text, path):
+    """The functions of a file without a contract that aren't of a trait or in a cycle of calls, and that say the type of their answer,
+    without those that a constant or a caller in C may call."""
+    lines, found = text.split("\n"), []
+    for head, line in enumerate(lines):
+        called = FUNCTION.match(line)
+        if not called or called[2] or called[3] == "main" or 'extern "C"' in line:
+            continue
+        indent = called[1]
+        opens = next((at for at in range(head, len(lines)) if lines[at].endswith(("{", ";", "}"))), head)
+        signature = lines[head : opens + 1]
+        name, is_inherent = known_as(lines[: head + 1], path)
+        is_plain = lines[opens].endswith(" {") and (is_inherent or not indent) and not cycle_of(lines[: head + 1])[0]
+        if is_plain and not any(ENSURES.match(it) or "-> impl " in it for it in signature):
+            closes = lines.index(indent + "}", opens)
+            found.append(Stated(path, name, "", is_inherent, False, first_line(lines, head), len(lines), opens, closes))
+    return found
+
+
 def bound_functions(text, path, traits):
     """The functions of a file that have no contract of their own, but one by their trait, without those in a cycle of calls. The traits
     are given by their names, each with the functions for which it states one."""

@@ -1,7 +1,8 @@
 """A copy of a crate in which only some functions are left to prove: each other one is taken at its word.
 
-A proof sees the contracts of the functions that it calls, and not their bodies. So each function that has a contract, its own or
-that of its trait, and isn't to be proved, gets a body with nothing in it, and a proof with a hole, which a check that allows holes goes past.
+A proof sees the contracts of the functions that it calls, and not their bodies. So each function that isn't to be proved gets a body
+with nothing in it, and a proof with a hole, which a check that allows holes goes past: those that have a contract, their own or that of
+their trait, and of the others those that aren't of a trait.
 """
 import functools
 import os
@@ -9,7 +10,7 @@ import re
 import shutil
 
 from edits import sources, text_of
-from functions import Twin, bound_functions, modules, stated_functions, trait_functions
+from functions import Twin, bound_functions, modules, stated_functions, trait_functions, unstated_functions
 
 CRATES = f"{os.path.dirname(os.path.dirname(os.path.dirname(os.path.abspath(__file__))))}/crates"
 
@@ -32,8 +33,8 @@ def stub(crate, folder, proved):
     names, cycles = {it.name for it in proved}, {it.cycle for it in proved if it.cycle}
     for path, text in texts.items():
         lines = text.split("\n")
-        of_traits = bound_functions(text, path, all_traits())
-        for it in sorted(stated_functions(text, path) + of_traits, key=lambda it: -it.opens):
+        others = bound_functions(text, path, all_traits()) + unstated_functions(text, path)
+        for it in sorted(stated_functions(text, path) + others, key=lambda it: -it.opens):
             if it.name not in names and it.cycle not in cycles:
                 empty_body(lines, it)
                 leave_hole(crate, folder, it, homes)

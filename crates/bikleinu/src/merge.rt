@@ -29,7 +29,7 @@ pub fn merge(rt: &HostRuntime, call: &MergeCall<'_>) -> Result<(), Stop> {
         depth: DEFAULT_DEPTH,
         shared: data,
     };
-    let target = match call.out {
+    let mut target = match call.out {
         Some(pattern) => {
             let pattern = read_pattern(rt, pattern)?;
             Target::files(rt, Merge::new(rt.alloc(), job, pattern), call.dry_run)
@@ -38,10 +38,10 @@ pub fn merge(rt: &HostRuntime, call: &MergeCall<'_>) -> Result<(), Stop> {
     };
     let run = Run { rt, call, sources };
     if call.records == "-" {
-        return run.all(target, rt.reader());
+        return run.all(&mut target, rt.reader());
     }
     match fs::open(rt, call.records) {
-        Ok(file) => run.all(target, file),
+        Ok(file) => run.all(&mut target, file),
         Err(refused) => Err(run.unreadable(refused.kind())),
     }
 }
@@ -57,17 +57,29 @@ struct Run<'r> {
 impl Run<'_> {
     /// Merges the records that a reader gives, and prints how many pages there are and how many
     /// records failed.
-    fn all<R: Read + Drop>(&self, target: Target<'_>, reader: R) -> Result<(), Stop> {
+    fn all<R: Read + Drop>(&self, target: &mut Target<'_>, reader: R) -> Result<(), Stop> {
         let mut records = self.records(reader)?;
-        let mut target = target;
         let mut progress = Progress::new(self.rt, self.call.progress);
+        match self.each(target, &mut records, &mut progress) {
+            Ok(()) => progress.end(self.rt),
+            Err(stop) => Err(stop),
+        }
+    }
+
+    /// Merges one record after another, up to the last that is asked for.
+    fn each<R: Read + Drop>(
+        &self,
+        target: &mut Target<'_>,
+        records: &mut Records<R>,
+        progress: &mut Progress,
+    ) -> Result<(), Stop> {
         for _ in 0..u64::MAX {
-            if !self.advance(&mut records)? {
+            if !self.advance(records)? {
                 break;
             }
-            self.one(&mut target, &records, &mut progress)?;
+            self.one(target, records, progress)?;
         }
-        progress.end(self.rt)
+        Ok(())
     }
 
     /// The records that a reader gives. A fault of their head is printed.

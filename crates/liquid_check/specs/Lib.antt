@@ -1,6 +1,5 @@
 pub mod Blanks
-pub mod HtmlPlaces
-pub mod Otherwise
+pub mod Findings
 pub mod Rounds
 pub mod Views
 pub mod inside

@@ -4,8 +4,9 @@ ghost use Rattle.liquid_model.specs.Answer.{IsValueOrMemory};
 ghost use Rattle.liquid_check.specs.Blanks.{blank_for, blanked};
 
 use liquid_core::{Location, Result};
-use liquid_language::{BlockContext, Language, body_after};
-use liquid_lexer::{ParseError, past_byte, read_body, read_markup, text_before};
+use liquid_language::Language;
+use liquid_lexer::{past_byte, text_before};
+use liquid_warnings::past_piece;
 use std::alloc::{AllocError, Global};
 
 /// A source, cut in three.
@@ -116,26 +117,6 @@ fn extent_at(
         from: source.len(),
         past: 0,
     })
-}
-
-/// What follows the output or the tag after a `{`, and its body where that isn't read; nothing
-/// where it can't be read. A body without its end is all that follows.
-pub(crate) fn past_piece<'s>(
-    alloc: Global,
-    language: &Language,
-    inside: &'s str,
-) -> std::result::Result<Option<&'s str>, AllocError> {
-    let (markup, after) = match read_markup(alloc, inside) {
-        Ok(read) => read,
-        Err(ParseError::Fault(_)) => return Ok(None),
-        Err(ParseError::Memory) => return Err(AllocError),
-    };
-    let body = body_after(language, BlockContext::Outside, &markup.piece);
-    match read_body(body, markup, after) {
-        Ok((_, after)) => Ok(Some(after)),
-        Err(ParseError::Fault(_)) => Ok(Some("")),
-        Err(ParseError::Memory) => Err(AllocError),
-    }
 }
 
 impl Part<'_> {

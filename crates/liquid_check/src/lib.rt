@@ -1,17 +1,12 @@
-//! Every fault of a template's source, and not the first alone; and what a source has that is read
-//! otherwise than it looks.
+//! Every fault of a template's source, and not the first alone; and all that is said of a template,
+//! in the order of its places.
 #![tactic(auto)]
 
-mod attributes;
 mod faulty_piece;
 mod findings;
-mod html_place;
 mod left_over;
-mod otherwise;
-mod used_path;
+mod remarks;
 
-pub use attributes::unescaped_attributes;
 pub use findings::{Finding, Findings, MOST_FINDINGS, findings_of};
-pub use html_place::HtmlPlace;
-pub use otherwise::else_items;
-pub use used_path::{UsedPath, asked_paths};
+pub use liquid_warnings::else_items;
+pub use remarks::remarks_of;

@@ -1,11 +1,11 @@
 //! What is printed of a template.
 use crate::files::Checked;
-use liquid_check::MOST_FINDINGS;
+use liquid_check::{MOST_FINDINGS, remarks_of};
 use liquid_command_files::{Stop, print_text};
 use liquid_core::{Location, Origin};
 use liquid_diagnostics::{Diagnostic, DiagnosticFormat, diagnostic_line};
 use liquid_excerpts::{Excerpt, ShownPath};
-use liquid_warnings::{Remark, remarks_of};
+use liquid_warnings::Remark;
 use std::fmt::Write;
 
 /// How much was found in all files.

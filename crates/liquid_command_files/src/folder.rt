@@ -33,18 +33,29 @@ fn add_entries(
     folders: &mut Vec<String>,
 ) -> io::Result<()> {
     for entry in fs::read_dir(rt, path)? {
-        let entry = entry?;
-        if entry.file_name().starts_with('.') {
-            continue;
-        }
-        let mut name = String::from_str(rt.alloc(), inner)?;
-        name.push_str(entry.file_name())?;
-        if entry.file_type()?.is_dir() {
-            name.push('/')?;
-            folders.push(name)?;
-        } else if !is_folder(rt, &entry)? {
-            files.push(name)?;
-        }
+        add_entry(rt, &entry?, inner, files, folders)?;
+    }
+    Ok(())
+}
+
+/// Adds one entry, unless its name begins with a dot or it is a link to a folder.
+fn add_entry(
+    rt: &HostRuntime,
+    entry: &DirEntry,
+    inner: &str,
+    files: &mut Vec<String>,
+    folders: &mut Vec<String>,
+) -> io::Result<()> {
+    if entry.file_name().starts_with('.') {
+        return Ok(());
+    }
+    let mut name = String::from_str(rt.alloc(), inner)?;
+    name.push_str(entry.file_name())?;
+    if entry.file_type()?.is_dir() {
+        name.push('/')?;
+        folders.push(name)?;
+    } else if !is_folder(rt, entry)? {
+        files.push(name)?;
     }
     Ok(())
 }

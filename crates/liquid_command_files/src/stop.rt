@@ -128,39 +128,53 @@ impl fmt::Display for Stop {
         match self {
             Stop::Refused | Stop::Faulted => Ok(()),
             Stop::Usage(message) => f.write_str(message),
-            Stop::Fault(fault) => {
-                let fault = ShownFault { fault };
-                write!(f, "{fault}")
-            }
-            Stop::Lacking(option, word, gap) => {
-                let word = ShownWord {
-                    word: word.as_str(),
-                };
-                let option = *option;
-                write!(f, "{option} {word}: {gap}")
-            }
-            Stop::Unreadable(path, reason) => {
-                let path = shown(path);
-                match reason_words(*reason) {
-                    Some(words) => write!(f, "{path}: {words}"),
-                    None => write!(f, "{path}: {reason}"),
-                }
-            }
-            Stop::NoFolder(path) => {
-                let path = shown(path);
-                write!(f, "{path}: Not a directory; one file is named NAME={path}")
-            }
-            Stop::Unwritten(path, kind) => {
-                let path = shown(path);
-                let words = system_words(*kind);
-                write!(f, "{path}: it can't be written: {words}")
-            }
-            Stop::Output(kind) => {
-                let words = system_words(*kind);
-                write!(f, "standard output: {words}")
-            }
+            Stop::Fault(fault) => write!(f, "{}", ShownFault { fault }),
+            Stop::Lacking(option, word, gap) => write_lacking(f, option, word, *gap),
+            Stop::Unreadable(path, reason) => write_unreadable(f, path, *reason),
+            Stop::NoFolder(path) => write_no_folder(f, path),
+            Stop::Unwritten(path, kind) => write_unwritten(f, path, *kind),
+            Stop::Output(kind) => write!(f, "standard output: {}", system_words(*kind)),
         }
     }
+}
+
+fn write_lacking<W: fmt::Write>(
+    f: &mut fmt::Formatter<W>,
+    option: &str,
+    word: &String,
+    gap: Gap,
+) -> fmt::Result {
+    let word = ShownWord {
+        word: word.as_str(),
+    };
+    write!(f, "{option} {word}: {gap}")
+}
+
+fn write_unreadable<W: fmt::Write>(
+    f: &mut fmt::Formatter<W>,
+    path: &String,
+    reason: Reason,
+) -> fmt::Result {
+    let path = shown(path);
+    match reason_words(reason) {
+        Some(words) => write!(f, "{path}: {words}"),
+        None => write!(f, "{path}: {reason}"),
+    }
+}
+
+fn write_no_folder<W: fmt::Write>(f: &mut fmt::Formatter<W>, path: &String) -> fmt::Result {
+    let path = shown(path);
+    write!(f, "{path}: Not a directory; one file is named NAME={path}")
+}
+
+fn write_unwritten<W: fmt::Write>(
+    f: &mut fmt::Formatter<W>,
+    path: &String,
+    kind: io::ErrorKind,
+) -> fmt::Result {
+    let path = shown(path);
+    let words = system_words(kind);
+    write!(f, "{path}: it can't be written: {words}")
 }
 
 impl From<Error> for Stop {

@@ -1,4 +1,5 @@
--- Why the program ends before its input does, and with which status.
+-- Why the program ends before its input does, and the status that it exits with when it fails.
+--     failure_status failure      2 for a wrong call, else 1
 --     IsMemoryStop stop      memory ran out
 --     IsMissing path stop, IsInside path stop, IsUnreadable path stop      it is about this path,
 --                                         unless memory ran out
@@ -7,19 +8,16 @@ use Rattle.std.specs.declared.io.ErrorKind.{ErrorKind as IoKind}
 use Rattle.liquid_excerpts.specs.declared.unreadable.Reason.{Reason}
 use Rattle.liquid_model.specs.Texts.{Text}
 use Rattle.liquid_model.specs.declared.error.ErrorKind.TheVariants.{Memory}
+use Rattle.liquid_folder.specs.declared.failure.Failure.{Failure}
+use Rattle.liquid_folder.specs.declared.failure.Failure.TheVariants.{Usage, Stopped}
 use Rattle.liquid_folder.specs.declared.stop.FolderStop.{FolderStop}
-use Rattle.liquid_folder.specs.declared.stop.FolderStop.TheVariants.{Usage, Missing, Inside}
+use Rattle.liquid_folder.specs.declared.stop.FolderStop.TheVariants.{Missing, Inside}
 use Rattle.liquid_folder.specs.declared.stop.FolderStop.TheVariants.{Unreadable, Fault, Input}
 use Rattle.liquid_folder.specs.declared.stop.FolderStop.TheVariants.{Output}
 
-abbrev pub folder_stop_status : FolderStop → ℕ
-folder_stop_status Usage = 2
-folder_stop_status (Missing path) = 1
-folder_stop_status (Unreadable path reason) = 1
-folder_stop_status (Inside path) = 1
-folder_stop_status (Fault e) = 1
-folder_stop_status (Input kind) = 1
-folder_stop_status (Output kind) = 1
+abbrev pub failure_status : Failure → ℕ
+failure_status Usage = 2
+failure_status (Stopped stop) = 1
 
 abbrev pub IsMemoryStop : FolderStop → Type 0
 IsMemoryStop (Fault e) = e.kind ≡ Memory

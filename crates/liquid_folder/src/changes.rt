@@ -106,19 +106,36 @@ struct Names {
 
 /// The names of the files in a folder. A folder that isn't there has none.
 fn names_in(rt: &HostRuntime, path: &str) -> std::result::Result<Names, FolderStop> {
-    let mut names = Vec::new(rt.alloc());
-    let mut is_whole = true;
+    let mut found = Names {
+        names: Vec::new(rt.alloc()),
+        is_whole: true,
+    };
     let entries = match fs::read_dir(rt, path) {
         Ok(entries) => entries,
         Err(refused) => match refused.kind() {
-            io::ErrorKind::NotFound => return Ok(Names { names, is_whole }),
+            io::ErrorKind::NotFound => return Ok(found),
             kind => return Err(FolderStop::unreadable_by(rt.alloc(), path, kind)),
         },
     };
     for entry in entries {
+        found.add(rt, path, entry)?;
+    }
+    found.names.sort_unstable();
+    Ok(found)
+}
+
+impl Names {
+    /// Adds the name of a file. One that isn't UTF-8 is mentioned on standard error.
+    fn add(
+        &mut self,
+        rt: &HostRuntime,
+        path: &str,
+        entry: io::Result<DirEntry>,
+    ) -> std::result::Result<(), FolderStop> {
         match entry {
             Ok(entry) => if is_taken(rt, &entry) {
-                names.push(String::from_str(rt.alloc(), entry.file_name())?)?;
+                self.names
+                    .push(String::from_str(rt.alloc(), entry.file_name())?)?;
             },
             Err(refused) => {
                 if refused.kind() != io::ErrorKind::InvalidFilename {
@@ -126,12 +143,11 @@ fn names_in(rt: &HostRuntime, path: &str) -> std::result::Result<Names, FolderSt
                 }
                 let path = ShownPath { path };
                 let _ = eprintln!(rt; "error: Read: {path}: a name in it isn't UTF-8");
-                is_whole = false;
+                self.is_whole = false;
             }
         }
+        Ok(())
     }
-    names.sort_unstable();
-    Ok(Names { names, is_whole })
 }
 
 /// Whether what stands in a folder is a file of the site. A folder, or what is no file, is passed

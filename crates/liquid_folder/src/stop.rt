@@ -2,7 +2,7 @@
 ghost use Rattle.std.specs.Prelude.{◌≡◌};
 ghost use Rattle.std.specs.declared.io.ErrorKind.TheVariants.{OutOfMemory};
 ghost use Rattle.liquid_folder.specs.Stops.{HasReason, IsInput, IsInside, IsMissing, IsUnreadable};
-ghost use Rattle.liquid_folder.specs.Stops.{IsMemoryStop, folder_stop_status};
+ghost use Rattle.liquid_folder.specs.Stops.{IsMemoryStop};
 
 use liquid_core::Error;
 use liquid_excerpts::{Reason, ShownFault, ShownPath, system_words};
@@ -12,8 +12,6 @@ use std::{fmt, io};
 /// Why the program ends before its input does.
 #[derive(Drop)]
 pub enum FolderStop {
-    /// The words are no call.
-    Usage,
     /// The folder of this path isn't there.
     Missing(String),
     /// The file or folder of this path can't be read or made, and why, where that is known.
@@ -81,21 +79,6 @@ impl FolderStop {
             Err(refused) => FolderStop::from(refused),
         }
     }
-
-    /// The status that the program ends with.
-    pub fn status(&self) -> u8
-        ensures { result ≡ folder_stop_status self.now }
-    {
-        match self {
-            FolderStop::Usage => 2,
-            FolderStop::Missing(_)
-            | FolderStop::Unreadable(_, _)
-            | FolderStop::Inside(_)
-            | FolderStop::Fault(_)
-            | FolderStop::Input(_)
-            | FolderStop::Output(_) => 1,
-        }
-    }
 }
 
 fn shown(path: &String) -> ShownPath<'_> {
@@ -108,40 +91,49 @@ fn shown(path: &String) -> ShownPath<'_> {
 impl fmt::Display for FolderStop {
     fn fmt<W: fmt::Write>(&self, f: &mut fmt::Formatter<W>) -> fmt::Result {
         match self {
-            FolderStop::Usage => f.write_str("usage: liquid_folder FOLDER DATA OUT"),
-            FolderStop::Missing(path) => {
-                let path = shown(path);
-                write!(f, "error: Read: {path}\n  there is no such folder")
-            }
-            FolderStop::Unreadable(path, reason) => {
-                let path = shown(path);
-                write!(f, "error: Read: {path}")?;
-                match reason {
-                    Some(reason) => write!(f, "\n  {reason}"),
-                    None => Ok(()),
-                }
-            }
-            FolderStop::Inside(path) => {
-                let path = shown(path);
-                write!(
-                    f,
-                    "error: OUT lies in {path}, where templates are; name another folder"
-                )
-            }
-            FolderStop::Fault(fault) => {
-                let fault = ShownFault { fault };
-                write!(f, "error: {fault}")
-            }
-            FolderStop::Input(kind) => {
-                let words = system_words(*kind);
-                write!(f, "error: standard input: {words}")
-            }
-            FolderStop::Output(kind) => {
-                let words = system_words(*kind);
-                write!(f, "error: standard output: {words}")
-            }
+            FolderStop::Missing(path) => write_missing(f, path),
+            FolderStop::Unreadable(path, reason) => write_unreadable(f, path, *reason),
+            FolderStop::Inside(path) => write_inside(f, path),
+            FolderStop::Fault(fault) => write!(f, "error: {}", ShownFault { fault }),
+            FolderStop::Input(kind) => write_stream(f, "standard input", *kind),
+            FolderStop::Output(kind) => write_stream(f, "standard output", *kind),
         }
     }
+}
+
+fn write_missing<W: fmt::Write>(f: &mut fmt::Formatter<W>, path: &String) -> fmt::Result {
+    let path = shown(path);
+    write!(f, "error: Read: {path}\n  there is no such folder")
+}
+
+fn write_unreadable<W: fmt::Write>(
+    f: &mut fmt::Formatter<W>,
+    path: &String,
+    reason: Option<Reason>,
+) -> fmt::Result {
+    let path = shown(path);
+    write!(f, "error: Read: {path}")?;
+    match reason {
+        Some(reason) => write!(f, "\n  {reason}"),
+        None => Ok(()),
+    }
+}
+
+fn write_inside<W: fmt::Write>(f: &mut fmt::Formatter<W>, path: &String) -> fmt::Result {
+    let path = shown(path);
+    write!(
+        f,
+        "error: OUT lies in {path}, where templates are; name another folder"
+    )
+}
+
+fn write_stream<W: fmt::Write>(
+    f: &mut fmt::Formatter<W>,
+    name: &str,
+    kind: io::ErrorKind,
+) -> fmt::Result {
+    let words = system_words(kind);
+    write!(f, "error: {name}: {words}")
 }
 
 impl From<Error> for FolderStop {

@@ -15,7 +15,8 @@ use crate::classify::{classify, opens};
 use crate::faults::too_nested;
 use crate::positions::Positions;
 use liquid_core::{Error, Result};
-use liquid_language::{Language, body_after, explanation_of};
+use liquid_explanations::explanation_of;
+use liquid_language::{Language, body_after};
 use liquid_lexer::{
     Markup, ParseError, location, past_byte, read_body, read_markup, stripped, text_before,
 };

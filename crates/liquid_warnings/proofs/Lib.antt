@@ -1,3 +1,4 @@
 pub mod AddedRemarks
 pub mod FileWarnings
+pub mod HtmlPlaces
 pub mod SeenLiterals

@@ -1,8 +1,10 @@
 pub mod Calls
-pub mod Findings
+pub mod HtmlPlaces
 pub mod Literals
 pub mod Messages
 pub mod Nodes
+pub mod Otherwise
+pub mod PastPieces
 pub mod Paths
 pub mod Remarks
 pub mod Sorts

@@ -4,8 +4,8 @@ ghost use Rattle.liquid_warnings.specs.Sorts.{IsUnescaped, OnlyWhere};
 ghost use Rattle.liquid_warnings.specs.inside.Added.{AddsRemarks};
 
 use crate::remark::Remark;
+use crate::unescaped::unescaped_attributes;
 use crate::warnings::Given;
-use liquid_check::unescaped_attributes;
 use liquid_core::{ErrorKind, Result};
 use liquid_language::Language;
 use std::alloc::Global;

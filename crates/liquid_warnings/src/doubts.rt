@@ -13,8 +13,8 @@ use crate::path_texts::{
     first_steps, key_before, lack_words, lacking_text, list_before, meant_text, path_text,
 };
 use crate::remark::{Remark, push_found};
+use crate::used_path::{UsedPath, asked_paths};
 use crate::warnings::is_full;
-use liquid_check::{UsedPath, asked_paths};
 use liquid_core::{ErrorKind, Object, Quoted, Result, Value};
 use liquid_data_paths::{DataPath, Doubt, Lack, Want, doubt_of};
 use liquid_syntax::{Position, Template};

@@ -3,8 +3,8 @@ ghost use Rattle.std.specs.Prelude.{◌≡◌, All, IfErr, OnOk};
 ghost use Rattle.liquid_warnings.specs.Sorts.{IsElseIf};
 ghost use Rattle.liquid_warnings.specs.inside.Added.{AddsRemarks};
 
+use crate::otherwise::else_items;
 use crate::remark::Remark;
-use liquid_check::else_items;
 use liquid_core::{ErrorKind, Result};
 use liquid_language::Language;
 use std::alloc::Global;

@@ -1,11 +1,9 @@
 //! What is said of a template.
-ghost use Rattle.std.specs.Prelude.{◌≡◌, ◌++◌, IfOk, OnOk, option_map, string_bytes};
-ghost use Rattle.liquid_warnings.specs.Findings.{fault_said, message_said, fault_place};
+ghost use Rattle.std.specs.Prelude.{◌≡◌, ◌++◌, IfOk, OnOk, string_bytes};
 ghost use Rattle.liquid_warnings.specs.Remarks.{all_said, remark_view, warning, warning_at};
 ghost use Rattle.liquid_warnings.specs.inside.Added.{maybe_said};
 
-use liquid_check::Finding;
-use liquid_core::{Error, Location};
+use liquid_core::Location;
 use liquid_syntax::Position;
 use std::alloc::{AllocError, Global};
 
@@ -52,21 +50,6 @@ impl Remark {
             message: String::from_str(alloc, message)?,
         })
     }
-
-    /// The fault of a finding.
-    pub fn of_finding(alloc: Global, finding: &Finding) -> Result<Remark, AllocError>
-        ensures { IfOk result (λ r. remark_view r ≡ fault_said finding.now) }
-    {
-        let fault = &finding.fault;
-        let (line, column) = place_of(fault);
-        Ok(Remark {
-            line,
-            column,
-            kind: fault.kind.name(),
-            is_warning: false,
-            message: String::from_str(alloc, message_of(fault))?,
-        })
-    }
 }
 
 /// Adds a remark, where there is one.
@@ -80,24 +63,5 @@ pub(crate) fn push_found(remarks: &mut Vec<Remark>, found: Option<Remark>) -> Re
             Ok(())
         }
         None => Ok(()),
-    }
-}
-
-/// The line and the column of a fault; the first of the source where it has no location.
-fn place_of(fault: &Error) -> (usize, usize)
-    ensures { result ≡ fault_place fault.now }
-{
-    match &fault.location {
-        Some(location) => (location.line, location.column),
-        None => (1, 1),
-    }
-}
-
-fn message_of(fault: &Error) -> &str
-    ensures { result.now ≡ message_said (option_map string_bytes fault.now.message) }
-{
-    match &fault.message {
-        Some(message) => message.as_str(),
-        None => "",
     }
 }

@@ -1,0 +1,368 @@
+//! What the pieces of a template ask of its data.
+ghost use Rattle.std.specs.Prelude.{◌≡◌, IfErr};
+
+use liquid_core::{ErrorKind, Expression, Result, Value, Variable};
+use liquid_data_paths::{DataPath, Span, Step, Want};
+use liquid_evaluation::{Atom, Condition, FilterChain, RangeExpression};
+use liquid_syntax::{
+    Arm, Binding, Each, For, Node, Position, TableRow, Template, WindowExpression,
+};
+use std::alloc::{AllocError, Global};
+use std::collections::BTreeSet;
+
+/// A path in the data that a piece asks for.
+#[derive(Drop)]
+pub struct UsedPath {
+    pub path: DataPath,
+    /// Where the piece stands.
+    pub position: Position,
+    pub want: Want,
+}
+
+/// The paths in the data that the pieces of a template ask for, piece after piece. The names are
+/// those that tags of this template or others set or bind: what stands under these is known only
+/// where a loop around the piece binds the name to the items of a path, and paths under other such
+/// names are left out. A path ends before a step that isn't a literal text.
+///
+/// The answer is `Memory` where a growth was refused, and no other kind.
+pub fn asked_paths(
+    alloc: Global,
+    template: &Template,
+    names: &BTreeSet<String>,
+) -> Result<Vec<UsedPath>>
+    ensures memory { IfErr result (λ e. e.kind ≡ ErrorKind.Memory) }
+{
+    let mut asking = Asking {
+        alloc,
+        names,
+        loops: Vec::new(alloc),
+        position: Position { line: 1, column: 1 },
+        found: Vec::new(alloc),
+    };
+    asking.ask_template(template)?;
+    let Asking {
+        alloc: _,
+        names: _,
+        loops: _,
+        position: _,
+        found,
+    } = asking;
+    Ok(found)
+}
+
+/// A loop around the piece that is looked at.
+#[derive(Drop)]
+struct Around<'t> {
+    variable: &'t str,
+    /// The path of its items, where it is known.
+    items: Option<DataPath>,
+    /// Where its body ends.
+    end: usize,
+}
+
+/// The piece that is looked at, and what was found.
+#[derive(Drop)]
+struct Asking<'t> {
+    alloc: Global,
+    names: &'t BTreeSet<String>,
+    /// The innermost is the last.
+    loops: Vec<Around<'t>>,
+    position: Position,
+    found: Vec<UsedPath>,
+}
+
+type Done = std::result::Result<(), AllocError>;
+
+impl<'t> Asking<'t> {
+    /// Forgets the loops whose bodies end before a place.
+    fn leave_loops(&mut self, place: usize) {
+        for _ in 0..self.loops.len() {
+            let is_over = match self.loops.last() {
+                Some(around) => around.end <= place,
+                None => false,
+            };
+            if !is_over {
+                return;
+            }
+            drop(self.loops.pop());
+        }
+    }
+
+    fn ask_template(&mut self, template: &'t Template) -> Done {
+        let nodes = template.nodes().iter().zip(template.positions());
+        for (place, (node, position)) in nodes.enumerate() {
+            self.leave_loops(place);
+            self.position = *position;
+            self.ask_node(node)?;
+        }
+        Ok(())
+    }
+
+    fn ask_node(&mut self, node: &'t Node) -> Done {
+        match node {
+            Node::Output(chain) | Node::Assign(_, chain) => self.ask_chain(chain),
+            Node::If(condition, _) | Node::Unless(condition, _) => self.ask_condition(condition),
+            Node::Case(target, arms, _) => self.ask_case(target, arms),
+            Node::For(head, bodies) => self.ask_for(head, bodies.first_end),
+            Node::TableRow(head, end) => self.ask_tablerow(head, *end),
+            Node::Cycle(_, values) => self.ask_all(values),
+            Node::JekyllInclude(_, pairs) => self.ask_pairs(pairs),
+            Node::Include(name, pairs) | Node::Render(name, pairs) => self.ask_partial(name, pairs),
+            Node::RenderEach(name, each, pairs) => self.ask_render_each(name, each, pairs),
+            _ => Ok(()),
+        }
+    }
+
+    fn ask_for(&mut self, head: &'t For, end: usize) -> Done {
+        self.ask_window(&head.window)?;
+        self.enter(head.variable.as_str(), &head.source, &head.window, end)
+    }
+
+    fn ask_tablerow(&mut self, head: &'t TableRow, end: usize) -> Done {
+        self.ask_window(&head.window)?;
+        self.ask_optional(&head.cols)?;
+        self.enter(head.variable.as_str(), &head.source, &head.window, end)
+    }
+
+    fn ask_render_each(
+        &mut self,
+        name: &'t Expression,
+        each: &'t Each,
+        pairs: &'t [Binding],
+    ) -> Done {
+        self.ask(name, Want::Present)?;
+        self.ask_source(&each.source, WHOLE)?;
+        self.ask_pairs(pairs)
+    }
+
+    fn ask_partial(&mut self, name: &'t Expression, pairs: &'t [Binding]) -> Done {
+        self.ask(name, Want::Present)?;
+        self.ask_pairs(pairs)
+    }
+
+    fn ask_all(&mut self, values: &'t [Expression]) -> Done {
+        for value in values {
+            self.ask(value, Want::Present)?;
+        }
+        Ok(())
+    }
+
+    fn ask_pairs(&mut self, pairs: &'t [Binding]) -> Done {
+        for pair in pairs {
+            self.ask(&pair.value, Want::Present)?;
+        }
+        Ok(())
+    }
+
+    fn ask_optional(&mut self, value: &'t Option<Expression>) -> Done {
+        match value {
+            Some(value) => self.ask(value, Want::Present),
+            None => Ok(()),
+        }
+    }
+
+    fn ask_window(&mut self, window: &'t WindowExpression) -> Done {
+        self.ask_optional(&window.limit)?;
+        self.ask_optional(&window.offset)
+    }
+
+    /// An entry before a filter is nil where it is missing.
+    fn ask_chain(&mut self, chain: &'t FilterChain) -> Done {
+        let want = match chain.filters.first() {
+            None => Want::Present,
+            Some(filter) if is_date_filter(filter.filter.name()) => Want::Date,
+            Some(_) => Want::Perhaps,
+        };
+        self.ask(&chain.entry, want)?;
+        for filter in &chain.filters {
+            self.ask_all(&filter.arguments)?;
+        }
+        Ok(())
+    }
+
+    fn ask_condition(&mut self, condition: &'t Condition) -> Done {
+        for conjunction in &condition.conjunctions {
+            for atom in conjunction {
+                self.ask_atom(atom)?;
+            }
+        }
+        Ok(())
+    }
+
+    fn ask_atom(&mut self, atom: &'t Atom) -> Done {
+        match atom {
+            Atom::Bare(value) => self.ask(value, Want::Perhaps),
+            Atom::Compared(left, _, right) => {
+                self.ask(left, Want::Present)?;
+                self.ask(right, Want::Present)
+            }
+        }
+    }
+
+    fn ask_case(&mut self, target: &'t Expression, arms: &'t [Arm]) -> Done {
+        self.ask(target, Want::Present)?;
+        for arm in arms {
+            self.ask_all(&arm.values)?;
+        }
+        Ok(())
+    }
+
+    /// What a loop goes over, from outside of it; then the loop is around what follows.
+    fn enter(
+        &mut self,
+        variable: &'t str,
+        source: &'t RangeExpression,
+        window: &WindowExpression,
+        end: usize,
+    ) -> Done {
+        let span = Span {
+            offset: number_of(&window.offset),
+            limit: number_of(&window.limit),
+        };
+        self.ask_source(source, span)?;
+        let mut items = match source {
+            RangeExpression::Array(Expression::Variable(variable)) => self.whole_path(variable)?,
+            _ => None,
+        };
+        if let Some(path) = &mut items {
+            path.steps.push(Step::Each)?;
+        }
+        self.loops.push(Around {
+            variable,
+            items,
+            end,
+        })?;
+        Ok(())
+    }
+
+    fn ask_source(&mut self, source: &'t RangeExpression, span: Span) -> Done {
+        match source {
+            RangeExpression::Array(value) => self.ask(value, Want::Items(span)),
+            RangeExpression::Counted(first, last) => {
+                self.ask(first, Want::Present)?;
+                self.ask(last, Want::Present)
+            }
+        }
+    }
+
+    /// An expression, and those in its steps.
+    fn ask(&mut self, value: &'t Expression, want: Want) -> Done {
+        let Expression::Variable(variable) = value else {
+            return Ok(());
+        };
+        self.ask_steps(variable)?;
+        let Some(path) = self.path_of(variable)? else {
+            return Ok(());
+        };
+        let is_whole = literal_steps(variable) == variable.indexes.len();
+        self.found.push(UsedPath {
+            path,
+            position: self.position,
+            want: if is_whole { want } else { Want::Present },
+        })?;
+        Ok(())
+    }
+
+    /// The variables that stand in the steps of another one.
+    fn ask_steps(&mut self, variable: &'t Variable) -> Done {
+        for index in &variable.indexes {
+            if let Expression::Variable(inner) = index {
+                if let Some(path) = self.path_of(inner)? {
+                    self.found.push(UsedPath {
+                        path,
+                        position: self.position,
+                        want: Want::Present,
+                    })?;
+                }
+            }
+        }
+        Ok(())
+    }
+
+    /// The path of a variable, where all of its steps are literal texts and it is known.
+    fn whole_path(&self, variable: &Variable) -> std::result::Result<Option<DataPath>, AllocError> {
+        if literal_steps(variable) < variable.indexes.len() {
+            return Ok(None);
+        }
+        self.path_of(variable)
+    }
+
+    /// The path of a variable up to its first step that isn't a literal text, where it is known.
+    fn path_of(&self, variable: &Variable) -> std::result::Result<Option<DataPath>, AllocError> {
+        let Some(mut path) = self.path_of_name(variable.name.as_str())? else {
+            return Ok(None);
+        };
+        for index in variable.indexes.iter().take(literal_steps(variable)) {
+            if let Expression::Literal(Value::Text(key)) = index {
+                path.steps
+                    .push(Step::Key(String::from_str(self.alloc, key.as_str())?))?;
+            }
+        }
+        Ok(Some(path))
+    }
+
+    /// The path of a name: that of the items of the innermost loop which binds it, or the name
+    /// itself, where no tag sets it.
+    fn path_of_name(&self, name: &str) -> std::result::Result<Option<DataPath>, AllocError> {
+        for around in self.loops.iter().rev() {
+            if around.variable == name {
+                return match &around.items {
+                    Some(path) => Ok(Some(copy_of(self.alloc, path)?)),
+                    None => Ok(None),
+                };
+            }
+        }
+        if self.names.contains(name) {
+            return Ok(None);
+        }
+        Ok(Some(DataPath::of_name(self.alloc, name)?))
+    }
+}
+
+fn copy_of(alloc: Global, path: &DataPath) -> std::result::Result<DataPath, AllocError> {
+    let mut copy = DataPath::of_name(alloc, path.name.as_str())?;
+    for step in &path.steps {
+        copy.steps.push(match step {
+            Step::Key(key) => Step::Key(String::from_str(alloc, key.as_str())?),
+            Step::Each => Step::Each,
+        })?;
+    }
+    Ok(copy)
+}
+
+/// A loop over all of its items.
+const WHOLE: Span = Span {
+    offset: None,
+    limit: None,
+};
+
+/// How many of the first steps are literal texts.
+fn literal_steps(variable: &Variable) -> usize {
+    let mut count = 0_usize;
+    for index in &variable.indexes {
+        if !matches!(index, Expression::Literal(Value::Text(_))) {
+            return count;
+        }
+        count = count.saturating_add(1);
+    }
+    count
+}
+
+fn number_of(value: &Option<Expression>) -> Option<i64> {
+    match value {
+        Some(Expression::Literal(Value::Integer(number))) => Some(*number),
+        _ => None,
+    }
+}
+
+fn is_date_filter(name: &str) -> bool {
+    matches!(
+        name,
+        "date"
+            | "date_in_tz"
+            | "date_to_string"
+            | "date_to_long_string"
+            | "date_to_xmlschema"
+            | "date_to_rfc822"
+    )
+}
