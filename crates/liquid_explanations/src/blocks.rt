@@ -12,7 +12,7 @@ use std::alloc::{AllocError, Global};
 
 /// Of a tag whose name isn't known where it stands: an end or a control word in the wrong place, or
 /// a name that no tag has.
-pub fn unknown_tag<'s>(
+pub(crate) fn unknown_tag<'s>(
     alloc: Global,
     language: &'s Language,
     outline: &Outline<'s>,
@@ -43,7 +43,7 @@ fn is_control(name: &str) -> bool {
 /// Of a source that ends in a block, at the tag that begins it. The name is that of the piece which
 /// the fault is in, if it is in one:
 /// then that piece begins a verbatim body.
-pub fn missing_end<'s>(fault: &Fault, outline: &Outline<'s>, name: &'s str) -> Phrasing<'s> {
+pub(crate) fn missing_end<'s>(fault: &Fault, outline: &Outline<'s>, name: &'s str) -> Phrasing<'s> {
     if !outline.at.is_empty() {
         let words = "`{% … %}` has no `{% ¤ %}`";
         return Phrasing::quoting(outline.at, words, name, words_of(fault.expected).words);

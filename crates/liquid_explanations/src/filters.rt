@@ -25,7 +25,7 @@ struct WrittenFilter<'s> {
 }
 
 /// Of the first filter that isn't registered.
-pub fn unknown_filter<'s>(
+pub(crate) fn unknown_filter<'s>(
     alloc: Global,
     filters: &'s FilterRegistry,
     piece: &PlacedPiece<'s>,
@@ -51,7 +51,7 @@ fn unknown_name<'s>(
 }
 
 /// Of a filter of another language, at the source from its name on.
-pub fn foreign_filter_hint<'s>(
+pub(crate) fn foreign_filter_hint<'s>(
     filters: &FilterRegistry,
     name: &'s str,
     from: &'s str,
@@ -65,7 +65,7 @@ pub fn foreign_filter_hint<'s>(
 }
 
 /// The filter that is meant by a name of another language, where it is registered.
-pub fn meant_here(filters: &FilterRegistry, name: &str) -> Option<&'static str> {
+pub(crate) fn meant_here(filters: &FilterRegistry, name: &str) -> Option<&'static str> {
     match meant_filter(name) {
         Some(meant) if filters.get(meant).is_some() => Some(meant),
         _ => None,
@@ -97,7 +97,7 @@ fn similar_filter<'s>(
 }
 
 /// Of the first filter that doesn't take the number of its arguments.
-pub fn miscounted<'s>(
+pub(crate) fn miscounted<'s>(
     alloc: Global,
     filters: &FilterRegistry,
     piece: &PlacedPiece<'s>,

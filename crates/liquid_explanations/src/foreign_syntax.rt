@@ -49,7 +49,7 @@ pub struct ErrorSite<'s> {
 }
 
 /// What the message says of a habit, where one is met.
-pub fn advice(site: &ErrorSite<'_>) -> Option<&'static str> {
+pub(crate) fn advice(site: &ErrorSite<'_>) -> Option<&'static str> {
     match site.context {
         PieceContext::Name => first_of(NAME, site),
         PieceContext::Output => of_output(site).or(of_any_piece(site)),
@@ -187,7 +187,7 @@ fn of_step(site: &ErrorSite<'_>) -> Option<&'static str> {
 }
 
 /// The context of a piece.
-pub fn context_of(piece: &PlacedPiece<'_>) -> PieceContext {
+pub(crate) fn context_of(piece: &PlacedPiece<'_>) -> PieceContext {
     match piece.kind {
         Delimiter::Output => PieceContext::Output,
         Delimiter::Tag => context_of_tag(piece.name),

@@ -2,6 +2,8 @@
 //! instead. The source is read once more for that, and only then.
 #![tactic(auto)]
 
+ghost use Rattle.std.specs.Prelude.{◌≤◌, IfOk, length};
+
 mod blocks;
 mod characters;
 mod filters;
@@ -34,19 +36,24 @@ pub struct Explanation {
     pub message: String,
 }
 
-/// What the message says of the fault that a source has in a language.
+/// What the message says of the fault that a source has in a language. The place that it is about
+/// lies in the source; which place that is, and the words, are tested.
+///
+/// `AllocError` where a growth was refused, and nowhere else.
 pub fn explanation_of(
     alloc: Global,
     source: &str,
     language: &Language,
     fault: Fault,
-) -> Result<Explanation, AllocError> {
+) -> Result<Explanation, AllocError>
+    ensures place { IfOk result (λ e. e.remaining ≤ length source.now) }
+{
     let outline = outline_at(alloc, source, language, fault.remaining)?;
     let piece = placed_piece(alloc, outline.at)?;
     let phrasing = phrasing_of(alloc, language, &fault, &outline, &piece)?;
     let message = message_of(alloc, source, &phrasing)?;
     Ok(Explanation {
-        remaining: phrasing.from.len(),
+        remaining: phrasing.from.len().min(source.len()),
         message,
     })
 }

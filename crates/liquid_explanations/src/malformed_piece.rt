@@ -17,7 +17,7 @@ use liquid_lexer::{Delimiter, Expectation, Fault, FaultKind, PlacedPiece};
 static LITERALS: [&str; 4] = ["nil", "null", "true", "false"];
 
 /// Of a piece that can't be read.
-pub fn malformed<'s>(
+pub(crate) fn malformed<'s>(
     language: &Language,
     fault: &Fault,
     outline: &Outline<'s>,

@@ -7,7 +7,11 @@ use liquid_language::Language;
 use liquid_lexer::{Delimiter, Expectation, Fault, PlacedItem, PlacedPiece};
 
 /// Of an item that isn't allowed, or of a closer before which one is wanted.
-pub fn misplaced<'s>(language: &Language, fault: &Fault, piece: &PlacedPiece<'s>) -> Phrasing<'s> {
+pub(crate) fn misplaced<'s>(
+    language: &Language,
+    fault: &Fault,
+    piece: &PlacedPiece<'s>,
+) -> Phrasing<'s> {
     let site = site_of(fault, piece);
     if let Some(phrasing) = meant(language, &site, &piece.items) {
         return phrasing;
@@ -44,7 +48,7 @@ fn site_of<'s>(fault: &Fault, piece: &PlacedPiece<'s>) -> ErrorSite<'s> {
 }
 
 /// `found X where W is wanted`
-pub fn not_wanted<'s>(site: &ErrorSite<'s>, found: &'s str) -> Phrasing<'s> {
+pub(crate) fn not_wanted<'s>(site: &ErrorSite<'s>, found: &'s str) -> Phrasing<'s> {
     let wanted = words_of(site.expected);
     let words = match site.kind {
         _ if !wanted.ends_in_closer => "found `…` where ¤ is wanted",
@@ -280,12 +284,12 @@ fn is_adjacent(site: &ErrorSite<'_>, items: &[PlacedItem<'_>]) -> bool {
 }
 
 /// Whether a tag, a block, an end or a control word has the name.
-pub fn is_tag(language: &Language, name: &str) -> bool {
+pub(crate) fn is_tag(language: &Language, name: &str) -> bool {
     language.tags.get(name).is_some() || language.blocks.get(name).is_some()
 }
 
 /// The spelling of the item of the index, or none.
-pub fn spelling_at<'s>(items: &[PlacedItem<'s>], index: usize) -> &'s str {
+pub(crate) fn spelling_at<'s>(items: &[PlacedItem<'s>], index: usize) -> &'s str {
     match items.get(index) {
         Some(placed) => placed.spelling,
         None => "",
@@ -293,7 +297,7 @@ pub fn spelling_at<'s>(items: &[PlacedItem<'s>], index: usize) -> &'s str {
 }
 
 /// The spelling of the item before the index, or `^` where none stands there.
-pub fn spelling_before<'s>(items: &[PlacedItem<'s>], index: usize) -> &'s str {
+pub(crate) fn spelling_before<'s>(items: &[PlacedItem<'s>], index: usize) -> &'s str {
     match index.checked_sub(1) {
         Some(before) => spelling_at(items, before),
         None => "^",
@@ -301,7 +305,7 @@ pub fn spelling_before<'s>(items: &[PlacedItem<'s>], index: usize) -> &'s str {
 }
 
 /// The closer at the front, or an empty text.
-pub fn closer_of(text: &str, kind: Delimiter) -> &str {
+pub(crate) fn closer_of(text: &str, kind: Delimiter) -> &str {
     let inside = text.strip_prefix("-").unwrap_or(text);
     match inside.strip_prefix(closer_word(kind)) {
         Some(after) => front_before(text, after),
@@ -310,12 +314,12 @@ pub fn closer_of(text: &str, kind: Delimiter) -> &str {
 }
 
 /// What a text has before its rest.
-pub fn front_before<'s>(text: &'s str, rest: &str) -> &'s str {
+pub(crate) fn front_before<'s>(text: &'s str, rest: &str) -> &'s str {
     text.get(..text.len().saturating_sub(rest.len()))
         .unwrap_or(text)
 }
 
-pub fn closer_word(kind: Delimiter) -> &'static str {
+pub(crate) fn closer_word(kind: Delimiter) -> &'static str {
     match kind {
         Delimiter::Output => "}}",
         Delimiter::Tag => "%}",

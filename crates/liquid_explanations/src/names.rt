@@ -346,22 +346,22 @@ typeof: what a value is can't be asked
 ";
 
 /// What the message says of a tag of another language.
-pub fn meant_tag(name: &str) -> Option<&'static str> {
+pub(crate) fn meant_tag(name: &str) -> Option<&'static str> {
     words_in(TAGS, name)
 }
 
 /// The filter that is meant by a filter's name of another language.
-pub fn meant_filter(name: &str) -> Option<&'static str> {
+pub(crate) fn meant_filter(name: &str) -> Option<&'static str> {
     words_in(FILTERS, name)
 }
 
 /// What the message says of a filter of another language that has no like here.
-pub fn lacking_filter(name: &str) -> Option<&'static str> {
+pub(crate) fn lacking_filter(name: &str) -> Option<&'static str> {
     words_in(LACKING, name)
 }
 
 /// What the message says of a filter whose name shows of what kind it is elsewhere.
-pub fn kind_of_filter(name: &str) -> Option<&'static str> {
+pub(crate) fn kind_of_filter(name: &str) -> Option<&'static str> {
     if name.ends_with("_tag") {
         return Some("write the element itself, as `<img>`");
     }

@@ -7,7 +7,11 @@ use liquid_lexer::PlacedPiece;
 
 /// Of a number with a fraction: what it is in a smaller unit, where it can be computed with. It
 /// needs the `before` in front of it to be a text that is a number.
-pub fn no_whole<'s>(from: &'s str, before: &'static str, piece: &PlacedPiece<'s>) -> Phrasing<'s> {
+pub(crate) fn no_whole<'s>(
+    from: &'s str,
+    before: &'static str,
+    piece: &PlacedPiece<'s>,
+) -> Phrasing<'s> {
     let number = number_front(from);
     let Some((smaller, unit)) = in_smaller_unit(number) else {
         let words =
@@ -84,7 +88,7 @@ fn in_smaller_unit(number: &str) -> Option<(usize, usize)> {
 }
 
 /// The number at the front, with its fraction.
-pub fn number_front(text: &str) -> &str {
+pub(crate) fn number_front(text: &str) -> &str {
     let unsigned = text.trim_start_matches(is_sign);
     let after = unsigned.trim_start_matches(is_digit);
     let after = match after.strip_prefix(".") {
@@ -96,7 +100,7 @@ pub fn number_front(text: &str) -> &str {
 
 /// Of a number with a `,` and digits directly after it, where that is the first argument of the
 /// filter with whose name the source begins.
-pub fn comma_in_argument(from: &str) -> Option<Phrasing<'_>> {
+pub(crate) fn comma_in_argument(from: &str) -> Option<Phrasing<'_>> {
     let (_, arguments) = from.split_once(':')?;
     let number = arguments.trim_start();
     let after = number.trim_start_matches(is_digit);
@@ -110,7 +114,7 @@ pub fn comma_in_argument(from: &str) -> Option<Phrasing<'_>> {
 }
 
 /// Whether a number begins by a `.`, after no value that this could be a step of.
-pub fn is_fraction(site: &ErrorSite<'_>) -> bool {
+pub(crate) fn is_fraction(site: &ErrorSite<'_>) -> bool {
     match site.rest.strip_prefix(".") {
         Some(after) if site.at_item => {
             after.starts_with(is_digit) && !site.before.ends_with(ends_value)

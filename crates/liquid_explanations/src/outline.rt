@@ -57,7 +57,7 @@ fn is_last(opener: &Opener<'_>) -> bool {
 
 /// What stands around the place `remaining` bytes before the end of the source. The pieces before
 /// it are read from the start of the source on, and each of them can be read.
-pub fn outline_at<'s>(
+pub(crate) fn outline_at<'s>(
     alloc: Global,
     source: &'s str,
     language: &Language,

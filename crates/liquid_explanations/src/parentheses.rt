@@ -8,7 +8,7 @@ use liquid_language::Language;
 use liquid_lexer::PlacedPiece;
 
 /// What is meant by parentheses that hold no range.
-pub fn in_parentheses<'s>(
+pub(crate) fn in_parentheses<'s>(
     language: &Language,
     site: &ErrorSite<'s>,
     piece: &PlacedPiece<'s>,

@@ -26,12 +26,12 @@ pub struct Phrasing<'s> {
 
 impl<'s> Phrasing<'s> {
     /// Words in which no text stands.
-    pub fn plain(from: &'s str, words: &'static str) -> Phrasing<'s> {
+    pub(crate) fn plain(from: &'s str, words: &'static str) -> Phrasing<'s> {
         Phrasing::quoting(from, words, "", "")
     }
 
     /// Words in which two texts stand at most.
-    pub fn quoting(
+    pub(crate) fn quoting(
         from: &'s str,
         words: &'static str,
         first: &'s str,
@@ -60,7 +60,7 @@ impl<'s> Phrasing<'s> {
 }
 
 /// The message that says it.
-pub fn message_of(
+pub(crate) fn message_of(
     alloc: Global,
     source: &str,
     phrasing: &Phrasing<'_>,

@@ -4,7 +4,7 @@ use std::alloc::{AllocError, Global};
 use std::collections::btree_map::Keys;
 
 /// The most similar to a name of those that are registered and one more.
-pub fn most_similar<'n, K: Drop>(
+pub(crate) fn most_similar<'n, K: Drop>(
     alloc: Global,
     names: Keys<'n, String, K>,
     meant: &str,

@@ -11,7 +11,7 @@ pub struct WantedWords {
 }
 
 /// What was expected, in words.
-pub fn words_of(wanted: Expectation) -> WantedWords {
+pub(crate) fn words_of(wanted: Expectation) -> WantedWords {
     match front_of(wanted) {
         Some(words) => WantedWords {
             words,
