@@ -131,7 +131,7 @@ fn is_call(node: &Node) -> bool
 /// Leaves the blocks that have ended at an index.
 #[tactic(auto, using(crate::proofs::Blocks::stays_open, crate::proofs::Blocks::has_ended, crate::proofs::Blocks::none_open))]
 fn close_ended(open: &mut LinkedList<Open>, at: usize)
-    ensures { open.new ≡ still_open at open.old }
+    ensures { «open».new ≡ still_open at «open».old }
 {
     'ended: while let Some(innermost) = open.front() {
         if at < innermost.end {
@@ -143,7 +143,7 @@ fn close_ended(open: &mut LinkedList<Open>, at: usize)
 
 /// Enters the block that a node is, if it is one.
 fn open_block(open: &mut LinkedList<Open>, at: usize, node: &Node) -> Result<()>
-    ensures { IsValueOrMemory (λ _. open.new) result (opened at node.now open.old) }
+    ensures { IsValueOrMemory (λ _. «open».new) result (opened at node.now «open».old) }
 {
     match node {
         Node::If(_, bodies) => {
@@ -167,7 +167,7 @@ fn open_block(open: &mut LinkedList<Open>, at: usize, node: &Node) -> Result<()>
 /// Enters a block that ends at an index, and whose else list begins at another one, where it is an
 /// `if`.
 fn enter(open: &mut LinkedList<Open>, otherwise: usize, end: usize) -> Result<()>
-    ensures { IsValueOrMemory (λ _. open.new) result (block otherwise end open.old) }
+    ensures { IsValueOrMemory (λ _. «open».new) result (block otherwise end «open».old) }
 {
     open.push_front(Open { otherwise, end })?;
     Ok(())
@@ -176,7 +176,7 @@ fn enter(open: &mut LinkedList<Open>, otherwise: usize, end: usize) -> Result<()
 /// Leaves the `if` whose else list is the `if` at an index: that is an `elsif`.
 #[tactic(auto, using(crate::proofs::Blocks::left, crate::proofs::Blocks::not_left, crate::proofs::Blocks::none_left))]
 fn leave_by_elsif(open: &mut LinkedList<Open>, at: usize, end: usize)
-    ensures { open.new ≡ left_by_elsif at end open.old }
+    ensures { «open».new ≡ left_by_elsif at end «open».old }
 {
     if let Some(outer) = open.front() {
         if outer.has_else(at, end) {

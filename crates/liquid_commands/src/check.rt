@@ -2,19 +2,16 @@
 ghost use Rattle.std.specs.Prelude.{◌≡◌, option_map};
 ghost use Rattle.liquid_commands.specs.Words.{format_named, format_of};
 
-use crate::forms::{Forms, with_form_options};
-use crate::inputs::{WordFault, count_from_standard_input, data_of, partials_of};
-use crate::options::{STATUSES, data_option, filters_option, partials_option};
+use crate::arguments::{Argument, command};
+use crate::forms::Forms;
+use crate::inputs::{
+    WordFault, check_standard_input, count_from_standard_input, data_of, is_standard_input,
+    partials_of,
+};
 use crate::words::{DataFile, FilterSet, filter_set};
-use clap::{Arg, ArgMatches, Command};
+use clap::{ArgMatches, Command};
 use liquid_diagnostics::DiagnosticFormat;
 use std::alloc::{AllocError, Global};
-
-/// The words that name a format, the one without a word first.
-static FORMATS: [&str; 3] = ["text", "json", "github"];
-
-/// The warnings that are given only where they are asked for.
-static ASKED: [&str; 1] = ["unescaped-attributes"];
 
 /// A call of `check`.
 #[derive(Drop)]
@@ -34,59 +31,50 @@ pub struct CheckCall<'w> {
     pub attributes: bool,
 }
 
+const ABOUT: &str = "Reports every fault of templates, and what is likely a mistake, without a run";
+
+const ARGUMENTS: &[Argument] = &[
+    Argument::Paths,
+    Argument::Data,
+    Argument::Partials,
+    Argument::Filters,
+    Argument::ReportFormat,
+    Argument::Warn,
+    Argument::Decimals,
+    Argument::Dates,
+    Argument::Now,
+];
+
 /// The command. `AllocError` where there is no room for it, and nowhere else.
-pub fn check_command<'a>(alloc: Global) -> Result<Command<'a>, AllocError> {
-    let paths = Arg::new(alloc, "PATH").required(true).num_args(1..).help(
-        "Templates, and folders of which every file below is one; - is standard input",
-    );
-    let command = Command::new(alloc, "check")
-        .about("Reports every fault of templates, and what is likely a mistake, without a run")
-        .after_help(STATUSES)
-        .arg(paths)?
-        .arg(data_option(alloc))?
-        .arg(partials_option(alloc))?
-        .arg(filters_option(alloc))?
-        .arg(format_option(alloc))?
-        .arg(warn_option(alloc))?;
-    with_form_options(alloc, command)
-}
-
-fn format_option<'a>(alloc: Global) -> Arg<'a> {
-    Arg::new(alloc, "format")
-        .long("format")
-        .value_name("FORMAT")
-        .value_parser(FORMATS.as_slice())
-        .default_value("text")
-        .help("How to write it: for people, as a line of JSON each, or for the pages of GitHub")
-}
-
-fn warn_option<'a>(alloc: Global) -> Arg<'a> {
-    Arg::new(alloc, "warn")
-        .long("warn")
-        .value_name("KIND")
-        .value_parser(ASKED.as_slice())
-        .help("Also warns of outputs in attributes of HTML that nothing escapes")
+pub(crate) fn check_command<'a>(alloc: Global) -> Result<Command<'a>, AllocError> {
+    command(alloc, "check", ABOUT, ARGUMENTS)
 }
 
 /// What the words of `check` ask for.
 pub fn check_call<'w>(alloc: Global, given: &ArgMatches<'w>) -> Result<CheckCall<'w>, WordFault> {
-    let call = CheckCall {
-        paths: paths_of(alloc, given)?,
-        data: data_of(alloc, given, false)?,
+    let paths = paths_of(alloc, given)?;
+    let data = data_of(alloc, given, false)?;
+    let partials = partials_of(alloc, given)?;
+    let count = count_from_standard_input(&data, &partials).saturating_add(own_count(&paths));
+    check_standard_input(count)?;
+    Ok(CheckCall {
+        paths,
+        data,
         forms: Forms::given(given),
-        partials: partials_of(alloc, given)?,
+        partials,
         filters: filter_set(given.get_str("filters")),
         format: format_of(given.get_str("format")),
         attributes: given.get_str("warn").is_some(),
-    };
-    let mut count = count_from_standard_input(&call.data, &call.partials);
-    for path in &call.paths {
-        count = count.saturating_add((*path == "-") as usize);
+    })
+}
+
+/// How many of the paths are standard input.
+fn own_count(paths: &[&str]) -> usize {
+    let mut count: usize = 0;
+    for path in paths {
+        count = count.saturating_add(is_standard_input(*path) as usize);
     }
-    if count > 1 {
-        return Err(WordFault::Wrong("standard input can be read only once: name - once"));
-    }
-    Ok(call)
+    count
 }
 
 fn paths_of<'w>(alloc: Global, given: &ArgMatches<'w>) -> Result<Vec<&'w str>, WordFault> {

@@ -9,8 +9,38 @@ use std::alloc::{AllocError, Global};
 /// The version of the repository, which the file VERSION holds.
 const VERSION: &str = "0.1.0";
 
+/// A command of the program.
+#[derive(Clone, Copy, Drop)]
+enum CommandName {
+    Render,
+    Merge,
+    Check,
+    Paths,
+}
+
 /// The program with its commands. `AllocError` where there is no room for it, and nowhere else.
 pub fn program<'a>(alloc: Global) -> Result<Command<'a>, AllocError> {
+    let mut program = without_commands(alloc);
+    for name in &[
+        CommandName::Render,
+        CommandName::Merge,
+        CommandName::Check,
+        CommandName::Paths,
+    ] {
+        program = with_command(alloc, program, *name)?;
+    }
+    Ok(program)
+}
+
+fn with_command<'a>(
+    alloc: Global,
+    program: Command<'a>,
+    name: CommandName,
+) -> Result<Command<'a>, AllocError> {
+    program.subcommand(command_named(alloc, name)?)
+}
+
+fn without_commands<'a>(alloc: Global) -> Command<'a> {
     Command::new(alloc, "bikleinu")
         .version(VERSION)
         .about(
@@ -18,8 +48,13 @@ pub fn program<'a>(alloc: Global) -> Result<Command<'a>, AllocError> {
         )
         .subcommand_required(true)
         .arg_required_else_help(true)
-        .subcommand(render_command(alloc)?)?
-        .subcommand(merge_command(alloc)?)?
-        .subcommand(check_command(alloc)?)?
-        .subcommand(paths_command(alloc)?)
+}
+
+fn command_named<'a>(alloc: Global, name: CommandName) -> Result<Command<'a>, AllocError> {
+    match name {
+        CommandName::Render => render_command(alloc),
+        CommandName::Merge => merge_command(alloc),
+        CommandName::Check => check_command(alloc),
+        CommandName::Paths => paths_command(alloc),
+    }
 }

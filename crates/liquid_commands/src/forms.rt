@@ -1,6 +1,5 @@
-//! The options that say how data is read.
-use clap::{Arg, ArgAction, ArgMatches, Command};
-use std::alloc::{AllocError, Global};
+//! How data is read.
+use clap::ArgMatches;
 
 /// How data is read.
 #[derive(Clone, Copy, Drop)]
@@ -11,33 +10,6 @@ pub struct Forms<'w> {
     pub dates: bool,
     /// The instant that has the name `now`.
     pub now: Option<&'w str>,
-}
-
-/// What a number that isn't whole may be.
-const DECIMALS: &[&str] = &["fault", "text"];
-
-/// Adds the options that say how data is read.
-pub fn with_form_options<'a>(
-    alloc: Global,
-    command: Command<'a>,
-) -> Result<Command<'a>, AllocError> {
-    let decimals = Arg::new(alloc, "decimals")
-        .long("decimals")
-        .value_name("HOW")
-        .value_parser(DECIMALS)
-        .default_value("fault")
-        .help(
-            "What a number that isn't whole is: a fault of the data, or the text of its spelling",
-        );
-    let dates = Arg::new(alloc, "dates")
-        .long("dates")
-        .action(ArgAction::SetTrue)
-        .help("Gives dates of ISO 8601 in the data the spelling that the filter date reads");
-    let now = Arg::new(alloc, "now")
-        .long("now")
-        .value_name("INSTANT")
-        .help("Gives the name now to an instant of ISO 8601, such as 2026-11-27T04:34:00Z");
-    command.arg(decimals)?.arg(dates)?.arg(now)
 }
 
 impl<'w> Forms<'w> {

@@ -54,40 +54,55 @@ pub(crate) fn inputs_of<'w>(
     given: &ArgMatches<'w>,
     records: Option<&'w str>,
 ) -> Result<Inputs<'w>, WordFault> {
-    let Some(template) = given.get_str("TEMPLATE") else {
-        return Err(WordFault::Wrong("a template is needed"));
-    };
-    if template.is_empty() {
-        return Err(WordFault::Wrong("the path of the template is empty"));
-    }
+    let template = template_of(given)?;
     if records.is_some_and(str::is_empty) {
         return Err(WordFault::Wrong("the path of the records is empty"));
     }
-    let inputs = Inputs {
+    let inputs = files_of(alloc, given, template, records.is_none())?;
+    let others = records.is_some_and(is_standard_input) as usize;
+    check_standard_input(inputs.from_standard_input().saturating_add(others))?;
+    Ok(inputs)
+}
+
+fn files_of<'w>(
+    alloc: Global,
+    given: &ArgMatches<'w>,
+    template: &'w str,
+    has_own_data: bool,
+) -> Result<Inputs<'w>, WordFault> {
+    Ok(Inputs {
         template,
-        data: data_of(alloc, given, records.is_none())?,
+        data: data_of(alloc, given, has_own_data)?,
         forms: Forms::given(given),
         partials: partials_of(alloc, given)?,
         filters: filter_set(given.get_str("filters")),
-    };
-    let others = (records == Some("-")) as usize;
-    if inputs.from_standard_input().saturating_add(others) > 1 {
+    })
+}
+
+fn template_of<'w>(given: &ArgMatches<'w>) -> Result<&'w str, WordFault> {
+    match given.get_str("TEMPLATE") {
+        Some("") => Err(WordFault::Wrong("the path of the template is empty")),
+        Some(template) => Ok(template),
+        None => Err(WordFault::Wrong("a template is needed")),
+    }
+}
+
+/// Refuses a call in which more than one file is standard input.
+pub(crate) fn check_standard_input(count: usize) -> Result<(), WordFault> {
+    if count > 1 {
         return Err(WordFault::Wrong("standard input can be read only once: name - once"));
     }
-    Ok(inputs)
+    Ok(())
 }
 
 pub(crate) fn data_of<'w>(
     alloc: Global,
     given: &ArgMatches<'w>,
-    has_own: bool,
+    has_own_data: bool,
 ) -> Result<Vec<DataFile<'w>>, WordFault> {
     let mut data = Vec::new(alloc);
-    if has_own {
-        if let Some(path) = given.get_str("DATA") {
-            if path.is_empty() {
-                return Err(WordFault::Wrong("the path of the data is empty"));
-            }
+    if has_own_data {
+        if let Some(path) = own_data_of(given)? {
             data.push(DataFile { name: None, path })?;
         }
     }
@@ -96,6 +111,14 @@ pub(crate) fn data_of<'w>(
         data.push(data_file(word))?;
     }
     Ok(data)
+}
+
+/// The file of data that stands in a call by itself; it has a name.
+fn own_data_of<'w>(given: &ArgMatches<'w>) -> Result<Option<&'w str>, WordFault> {
+    match given.get_str("DATA") {
+        Some("") => Err(WordFault::Wrong("the path of the data is empty")),
+        path => Ok(path),
+    }
 }
 
 /// Refuses a word FILE or NAME=FILE after an option that lacks something.
@@ -122,8 +145,13 @@ impl Inputs<'_> {
     /// How many of the files are standard input.
     fn from_standard_input(&self) -> usize {
         let others = count_from_standard_input(&self.data, &self.partials);
-        others.saturating_add((self.template == "-") as usize)
+        others.saturating_add(is_standard_input(self.template) as usize)
     }
+}
+
+/// Whether the path of a file stands for standard input.
+pub(crate) fn is_standard_input(path: &str) -> bool {
+    path == "-"
 }
 
 /// The file that a page goes to; it has a name.
@@ -138,7 +166,7 @@ pub(crate) fn out_of<'w>(given: &ArgMatches<'w>) -> Result<Option<&'w str>, Word
 pub(crate) fn count_from_standard_input(data: &[DataFile<'_>], partials: &[&str]) -> usize {
     let mut count: usize = 0;
     for file in data {
-        count = count.saturating_add((file.path == "-") as usize);
+        count = count.saturating_add(is_standard_input(file.path) as usize);
     }
     for word in partials {
         count = count.saturating_add(word.ends_with("=-") as usize);

@@ -1,9 +1,8 @@
 //! The words of `merge`.
-use crate::forms::with_form_options;
+use crate::arguments::{Argument, command};
 use crate::inputs::{Inputs, WordFault, inputs_of, out_of};
-use crate::options::{STATUSES, data_option, flag, limit_option, partials_option, template_word};
 use crate::words::are_in_csv;
-use clap::{Arg, ArgMatches, Command};
+use clap::{ArgMatches, Command};
 use std::alloc::{AllocError, Global};
 
 /// A call of `merge`.
@@ -22,64 +21,29 @@ pub struct MergeCall<'w> {
     pub progress: bool,
 }
 
-/// How records may be written.
-const FORMATS: &[&str] = &["csv", "jsonl"];
+const ABOUT: &str =
+    "Writes the page of a template for each record, each into a file of its own or to standard output";
+
+const ARGUMENTS: &[Argument] = &[
+    Argument::Template,
+    Argument::Records,
+    Argument::FilePattern,
+    Argument::Data,
+    Argument::Partials,
+    Argument::RecordsFormat,
+    Argument::Separator,
+    Argument::From,
+    Argument::Count,
+    Argument::DryRun,
+    Argument::Progress,
+    Argument::Decimals,
+    Argument::Dates,
+    Argument::Now,
+];
 
 /// The command. `AllocError` where there is no room for it, and nowhere else.
-pub fn merge_command<'a>(alloc: Global) -> Result<Command<'a>, AllocError> {
-    let records = Arg::new(alloc, "RECORDS").required(true).help(
-        "The records: a JSON object on each line, or CSV; - is standard input",
-    );
-    let command = Command::new(alloc, "merge")
-        .about(
-            "Writes the page of a template for each record, each into a file of its own or to standard output",
-        )
-        .after_help(STATUSES)
-        .arg(template_word(alloc))?
-        .arg(records)?
-        .arg(pattern_option(alloc))?
-        .arg(data_option(alloc))?
-        .arg(partials_option(alloc))?;
-    with_form_options(alloc, with_record_options(alloc, command)?)
-}
-
-fn pattern_option<'a>(alloc: Global) -> Arg<'a> {
-    Arg::new(alloc, "out")
-        .short('o')
-        .long("out")
-        .value_name("PATTERN")
-        .help(
-            "A template of the name of a record's file, as 'mails/{{ id }}.eml'; without it pages go to standard output",
-        )
-}
-
-/// Adds the options that say which records, and what becomes of their pages.
-fn with_record_options<'a>(alloc: Global, command: Command<'a>) -> Result<Command<'a>, AllocError> {
-    let separator = Arg::new(alloc, "separator")
-        .long("separator")
-        .value_name("TEXT")
-        .allow_hyphen_values(true)
-        .default_value("\n")
-        .help("What to write after each page on standard output");
-    command
-        .arg(format_option(alloc))?
-        .arg(separator)?
-        .arg(limit_option(alloc, "from", "Begins with this record; the first is 1"))?
-        .arg(limit_option(alloc, "count", "Takes so many records at most"))?
-        .arg(flag(alloc, "dry-run", "Writes no file: prints the name of each"))?
-        .arg(flag(
-            alloc,
-            "progress",
-            "Prints each second how many pages there are",
-        ))
-}
-
-fn format_option<'a>(alloc: Global) -> Arg<'a> {
-    Arg::new(alloc, "records-format")
-        .long("records-format")
-        .value_name("FORMAT")
-        .value_parser(FORMATS)
-        .help("How RECORDS are written: by default csv where the name ends in .csv, else jsonl")
+pub(crate) fn merge_command<'a>(alloc: Global) -> Result<Command<'a>, AllocError> {
+    command(alloc, "merge", ABOUT, ARGUMENTS)
 }
 
 /// What the words of `merge` ask for.

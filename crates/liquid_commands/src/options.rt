@@ -1,65 +1,262 @@
-//! The options and words that several commands have.
+//! What each word and each option of a command is.
 use clap::{Arg, ArgAction, value_parser};
 use std::alloc::Global;
 
-/// What each command's help ends with.
-pub const STATUSES: &str =
-    "Exit status: 0 done, 1 a fault was reported, 2 the command line is wrong.";
+pub(crate) fn template<'a>(alloc: Global) -> Arg<'a> {
+    word(alloc, "TEMPLATE", "The template; - is standard input").required(true)
+}
+
+pub(crate) fn page_data<'a>(alloc: Global) -> Arg<'a> {
+    word(
+        alloc,
+        "DATA",
+        "The data, a JSON object, or TOML where its name ends in .toml; - is standard input",
+    )
+}
+
+pub(crate) fn records<'a>(alloc: Global) -> Arg<'a> {
+    word(
+        alloc,
+        "RECORDS",
+        "The records: a JSON object on each line, or CSV; - is standard input",
+    )
+    .required(true)
+}
+
+pub(crate) fn paths<'a>(alloc: Global) -> Arg<'a> {
+    word(
+        alloc,
+        "PATH",
+        "Templates, and folders of which every file below is one; - is standard input",
+    )
+    .required(true)
+    .num_args(1..)
+}
+
+pub(crate) fn data<'a>(alloc: Global) -> Arg<'a> {
+    option(
+        alloc,
+        "data",
+        "[NAME=]FILE",
+        "More data, a JSON object, or TOML where FILE ends in .toml: its members are added, or it stands under NAME; the later wins",
+    )
+    .short('d')
+    .action(ArgAction::Append)
+}
+
+pub(crate) fn partials<'a>(alloc: Global) -> Arg<'a> {
+    option(
+        alloc,
+        "partials",
+        "DIR|NAME=FILE",
+        "Partials: the files below DIR by their paths, also without their suffix, or one FILE by NAME; the later wins",
+    )
+    .short('p')
+    .action(ArgAction::Append)
+}
+
+pub(crate) fn filters<'a>(alloc: Global) -> Arg<'a> {
+    option(
+        alloc,
+        "filters",
+        "SET",
+        "Reads templates as those of Jekyll or Shopify, with the filters that these call",
+    )
+    .value_parser(SETS)
+}
+
+pub(crate) fn page_file<'a>(alloc: Global) -> Arg<'a> {
+    option(
+        alloc,
+        "out",
+        "OUT",
+        "Writes the page to this file, once all of it is there, in place of standard output",
+    )
+    .short('o')
+}
+
+pub(crate) fn file_pattern<'a>(alloc: Global) -> Arg<'a> {
+    option(
+        alloc,
+        "out",
+        "PATTERN",
+        "A template of the name of a record's file, as 'mails/{{ id }}.eml'; without it pages go to standard output",
+    )
+    .short('o')
+}
+
+pub(crate) fn missing<'a>(alloc: Global) -> Arg<'a> {
+    option(
+        alloc,
+        "missing",
+        "VALUE",
+        "What the template asks for and the data lack: a fault, or nil, which writes nothing",
+    )
+    .value_parser(MISSING)
+    .default_value("fault")
+}
+
+pub(crate) fn max_bytes<'a>(alloc: Global) -> Arg<'a> {
+    number(
+        alloc,
+        "max-bytes",
+        "Ends a page that would write more bytes of text",
+    )
+}
+
+pub(crate) fn max_turns<'a>(alloc: Global) -> Arg<'a> {
+    number(
+        alloc,
+        "max-turns",
+        "Ends a page that would run more bodies of tags",
+    )
+}
+
+pub(crate) fn records_format<'a>(alloc: Global) -> Arg<'a> {
+    option(
+        alloc,
+        "records-format",
+        "FORMAT",
+        "How RECORDS are written: by default csv where the name ends in .csv, else jsonl",
+    )
+    .value_parser(RECORDS_FORMATS)
+}
+
+pub(crate) fn separator<'a>(alloc: Global) -> Arg<'a> {
+    option(
+        alloc,
+        "separator",
+        "TEXT",
+        "What to write after each page on standard output",
+    )
+    .allow_hyphen_values(true)
+    .default_value("\n")
+}
+
+pub(crate) fn from<'a>(alloc: Global) -> Arg<'a> {
+    number(alloc, "from", "Begins with this record; the first is 1")
+}
+
+pub(crate) fn count<'a>(alloc: Global) -> Arg<'a> {
+    number(alloc, "count", "Takes so many records at most")
+}
+
+pub(crate) fn dry_run<'a>(alloc: Global) -> Arg<'a> {
+    flag(alloc, "dry-run", "Writes no file: prints the name of each")
+}
+
+pub(crate) fn progress<'a>(alloc: Global) -> Arg<'a> {
+    flag(
+        alloc,
+        "progress",
+        "Prints each second how many pages there are",
+    )
+}
+
+pub(crate) fn report_format<'a>(alloc: Global) -> Arg<'a> {
+    option(
+        alloc,
+        "format",
+        "FORMAT",
+        "How to write it: for people, as a line of JSON each, or for the pages of GitHub",
+    )
+    .value_parser(REPORT_FORMATS)
+    .default_value("text")
+}
+
+pub(crate) fn warn<'a>(alloc: Global) -> Arg<'a> {
+    option(
+        alloc,
+        "warn",
+        "KIND",
+        "Also warns of outputs in attributes of HTML that nothing escapes",
+    )
+    .value_parser(WARNINGS)
+}
+
+pub(crate) fn paths_format<'a>(alloc: Global) -> Arg<'a> {
+    option(
+        alloc,
+        "format",
+        "FORMAT",
+        "A path on each line, or a JSON Schema that has each path as a property",
+    )
+    .value_parser(PATHS_FORMATS)
+    .default_value("text")
+}
+
+pub(crate) fn decimals<'a>(alloc: Global) -> Arg<'a> {
+    option(
+        alloc,
+        "decimals",
+        "HOW",
+        "What a number that isn't whole is: a fault of the data, or the text of its spelling",
+    )
+    .value_parser(DECIMALS)
+    .default_value("fault")
+}
+
+pub(crate) fn dates<'a>(alloc: Global) -> Arg<'a> {
+    flag(
+        alloc,
+        "dates",
+        "Gives dates of ISO 8601 in the data the spelling that the filter date reads",
+    )
+}
+
+pub(crate) fn now<'a>(alloc: Global) -> Arg<'a> {
+    option(
+        alloc,
+        "now",
+        "INSTANT",
+        "Gives the name now to an instant of ISO 8601, such as 2026-11-27T04:34:00Z",
+    )
+}
 
 /// The names of the sets of filters.
-const SETS: [&str; 2] = ["jekyll", "shopify"];
+const SETS: &[&str] = &["jekyll", "shopify"];
 
-/// The word that names the template.
-pub fn template_word<'a>(alloc: Global) -> Arg<'a> {
-    Arg::new(alloc, "TEMPLATE")
-        .required(true)
-        .help("The template; - is standard input")
+/// What a missing value may be.
+const MISSING: &[&str] = &["fault", "nil"];
+
+/// How records may be written.
+const RECORDS_FORMATS: &[&str] = &["csv", "jsonl"];
+
+/// How a report may be written, the format without a word first.
+const REPORT_FORMATS: &[&str] = &["text", "json", "github"];
+
+/// The warnings that are given only where they are asked for.
+const WARNINGS: &[&str] = &["unescaped-attributes"];
+
+/// How paths may be printed.
+const PATHS_FORMATS: &[&str] = &["text", "json-schema"];
+
+/// What a number that isn't whole may be.
+const DECIMALS: &[&str] = &["fault", "text"];
+
+fn word<'a>(alloc: Global, name: &'static str, help: &'static str) -> Arg<'a> {
+    Arg::new(alloc, name).help(help)
 }
 
-/// The option `--data`.
-pub fn data_option<'a>(alloc: Global) -> Arg<'a> {
-    Arg::new(alloc, "data")
-        .short('d')
-        .long("data")
-        .value_name("[NAME=]FILE")
-        .action(ArgAction::Append)
-        .help(
-            "More data, a JSON object, or TOML where FILE ends in .toml: its members are added, or it stands under NAME; the later wins",
-        )
-}
-
-/// The option `--partials`.
-pub fn partials_option<'a>(alloc: Global) -> Arg<'a> {
-    Arg::new(alloc, "partials")
-        .short('p')
-        .long("partials")
-        .value_name("DIR|NAME=FILE")
-        .action(ArgAction::Append)
-        .help(
-            "Partials: the files below DIR by their paths, also without their suffix, or one FILE by NAME; the later wins",
-        )
-}
-
-/// The option `--filters`.
-pub fn filters_option<'a>(alloc: Global) -> Arg<'a> {
-    Arg::new(alloc, "filters")
-        .long("filters")
-        .value_name("SET")
-        .value_parser(SETS.as_slice())
-        .help("Reads templates as those of Jekyll or Shopify, with the filters that these call")
-}
-
-/// An option whose value is a number.
-pub fn limit_option<'a>(alloc: Global, name: &'static str, help: &'static str) -> Arg<'a> {
+fn option<'a>(
+    alloc: Global,
+    name: &'static str,
+    value: &'static str,
+    help: &'static str,
+) -> Arg<'a> {
     Arg::new(alloc, name)
         .long(name)
-        .value_name("N")
-        .value_parser(value_parser!(u64))
+        .value_name(value)
         .help(help)
 }
 
+/// An option whose value is a number.
+fn number<'a>(alloc: Global, name: &'static str, help: &'static str) -> Arg<'a> {
+    option(alloc, name, "N", help).value_parser(value_parser!(u64))
+}
+
 /// An option without a value.
-pub fn flag<'a>(alloc: Global, name: &'static str, help: &'static str) -> Arg<'a> {
+fn flag<'a>(alloc: Global, name: &'static str, help: &'static str) -> Arg<'a> {
     Arg::new(alloc, name)
         .long(name)
         .action(ArgAction::SetTrue)

@@ -1,7 +1,7 @@
 //! The words of `paths`.
+use crate::arguments::{Argument, command};
 use crate::inputs::{Inputs, WordFault, inputs_of};
-use crate::options::{STATUSES, filters_option, partials_option, template_word};
-use clap::{Arg, ArgMatches, Command};
+use clap::{ArgMatches, Command};
 use std::alloc::{AllocError, Global};
 
 /// A call of `paths`.
@@ -20,23 +20,18 @@ pub enum PathsFormat {
     JsonSchema,
 }
 
-static FORMATS: [&str; 2] = ["text", "json-schema"];
+const ABOUT: &str = "Prints what a template asks of its data";
+
+const ARGUMENTS: &[Argument] = &[
+    Argument::Template,
+    Argument::Partials,
+    Argument::Filters,
+    Argument::PathsFormat,
+];
 
 /// The command. `AllocError` where there is no room for it, and nowhere else.
-pub fn paths_command<'a>(alloc: Global) -> Result<Command<'a>, AllocError> {
-    let format = Arg::new(alloc, "format")
-        .long("format")
-        .value_name("FORMAT")
-        .value_parser(FORMATS.as_slice())
-        .default_value("text")
-        .help("A path on each line, or a JSON Schema that has each path as a property");
-    Command::new(alloc, "paths")
-        .about("Prints what a template asks of its data")
-        .after_help(STATUSES)
-        .arg(template_word(alloc))?
-        .arg(partials_option(alloc))?
-        .arg(filters_option(alloc))?
-        .arg(format)
+pub(crate) fn paths_command<'a>(alloc: Global) -> Result<Command<'a>, AllocError> {
+    command(alloc, "paths", ABOUT, ARGUMENTS)
 }
 
 /// What the words of `paths` ask for.

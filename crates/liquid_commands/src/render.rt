@@ -1,11 +1,8 @@
 //! The words of `render`.
-use crate::forms::with_form_options;
+use crate::arguments::{Argument, command};
 use crate::inputs::{Inputs, WordFault, inputs_of, out_of};
-use crate::options::{
-    STATUSES, data_option, filters_option, limit_option, partials_option, template_word,
-};
 use crate::words::{Missing, missing_of};
-use clap::{Arg, ArgMatches, Command};
+use clap::{ArgMatches, Command};
 use std::alloc::{AllocError, Global};
 
 /// A call of `render`.
@@ -19,57 +16,24 @@ pub struct RenderCall<'w> {
     pub missing: Missing,
 }
 
-/// What a missing value may be.
-static MISSING: [&str; 2] = ["fault", "nil"];
+const ARGUMENTS: &[Argument] = &[
+    Argument::Template,
+    Argument::PageData,
+    Argument::Data,
+    Argument::Partials,
+    Argument::Filters,
+    Argument::PageFile,
+    Argument::Missing,
+    Argument::MaxBytes,
+    Argument::MaxTurns,
+    Argument::Decimals,
+    Argument::Dates,
+    Argument::Now,
+];
 
 /// The command. `AllocError` where there is no room for it, and nowhere else.
-pub fn render_command<'a>(alloc: Global) -> Result<Command<'a>, AllocError> {
-    let data = Arg::new(alloc, "DATA").help(
-        "The data, a JSON object, or TOML where its name ends in .toml; - is standard input",
-    );
-    let command = Command::new(alloc, "render")
-        .about("Writes the page of a template")
-        .after_help(STATUSES)
-        .arg(template_word(alloc))?
-        .arg(data)?
-        .arg(data_option(alloc))?
-        .arg(partials_option(alloc))?
-        .arg(filters_option(alloc))?;
-    with_form_options(alloc, with_page_options(alloc, command)?)
-}
-
-/// Adds the options of a page.
-fn with_page_options<'a>(alloc: Global, command: Command<'a>) -> Result<Command<'a>, AllocError> {
-    command
-        .arg(out_option(alloc))?
-        .arg(missing_option(alloc))?
-        .arg(limit_option(
-            alloc,
-            "max-bytes",
-            "Ends a page that would write more bytes of text",
-        ))?
-        .arg(limit_option(
-            alloc,
-            "max-turns",
-            "Ends a page that would run more bodies of tags",
-        ))
-}
-
-fn out_option<'a>(alloc: Global) -> Arg<'a> {
-    Arg::new(alloc, "out")
-        .short('o')
-        .long("out")
-        .value_name("OUT")
-        .help("Writes the page to this file, once all of it is there, in place of standard output")
-}
-
-fn missing_option<'a>(alloc: Global) -> Arg<'a> {
-    Arg::new(alloc, "missing")
-        .long("missing")
-        .value_name("VALUE")
-        .value_parser(MISSING.as_slice())
-        .default_value("fault")
-        .help("What the template asks for and the data lack: a fault, or nil, which writes nothing")
+pub(crate) fn render_command<'a>(alloc: Global) -> Result<Command<'a>, AllocError> {
+    command(alloc, "render", "Writes the page of a template", ARGUMENTS)
 }
 
 /// What the words of `render` ask for.

@@ -18,13 +18,20 @@ pub fn command_fault(alloc: Global, words: &[String]) -> Result<Option<Error>, A
     if !is_template_path(first.as_str()) {
         return Ok(None);
     }
+    let message = with_tip(alloc, first.as_str(), words)?;
+    Ok(Some(no_command(alloc, message.as_str())?))
+}
+
+/// Says that a word is no command, and how to render a template with these words.
+fn with_tip(alloc: Global, word: &str, words: &[String]) -> Result<String, AllocError> {
     let call = render_call(alloc, words)?;
-    let first = first.as_str();
-    let message = format!(in alloc;
-        "unrecognized subcommand '{first}'\n\n  tip: to render a template, write '{call}'"
-    )?;
-    let mut program = program(alloc)?;
-    Ok(Some(program.error(ErrorKind::InvalidSubcommand, message.as_str())?))
+    format!(in alloc;
+        "unrecognized subcommand '{word}'\n\n  tip: to render a template, write '{call}'"
+    )
+}
+
+fn no_command(alloc: Global, message: &str) -> Result<Error, AllocError> {
+    program(alloc)?.error(ErrorKind::InvalidSubcommand, message)
 }
 
 /// The call of `render` with these words.

@@ -148,7 +148,7 @@ impl<'t> Whole<'t> {
         remarks: &mut Vec<Remark>,
     ) -> Result<(), AllocError>
         ensures { OnOk result (AddsRemarks
-            (AreOfNames (is_some data.entry)) remarks.old.items remarks.new.items) }
+            (AreOfNames (is_some «data».entry)) remarks.old.items remarks.new.items) }
     {
         let Some(Some(names)) = self.names.get(place) else {
             return Ok(());
@@ -167,7 +167,7 @@ impl<'t> Whole<'t> {
         remarks: &mut Vec<Remark>,
     ) -> Result<(), AllocError>
         ensures { OnOk result (AddsRemarks
-            (OnlyWhere (is_some data.entry) (All IsUnknownName))
+            (OnlyWhere (is_some «data».entry) (All IsUnknownName))
             remarks.old.items remarks.new.items) }
     {
         match data {
@@ -233,7 +233,7 @@ impl<'t> Whole<'t> {
         remarks: &mut Vec<Remark>,
     ) -> liquid_core::Result<()>
         ensures added { OnOk result (AddsRemarks
-            (OnlyWhere (is_some data.entry) (All IsDoubt)) remarks.old.items remarks.new.items) }
+            (OnlyWhere (is_some «data».entry) (All IsDoubt)) remarks.old.items remarks.new.items) }
         ensures memory { IfErr result (λ e. e.kind ≡ ErrorKind.Memory) }
     {
         match (template, data) {
