@@ -30,7 +30,7 @@ pub record WithIncludeAndSort (l : Language) : Type 0 where
   pub blocks : listed (kinds_of l.blocks) ≡ bind_each standard_blocks (listed [])
   pub filters : listed (registered_in l.filters) ≡
       insert (with_filters (listed []) standard_filters) (codes "sort")
-      (Kind (JekyllSort (record {})))
+      (Kind JekyllSort)
 
 -- that language, or memory ran out
 abbrev pub MakesIncludeAndSort : Result Content Refusal → Type 0

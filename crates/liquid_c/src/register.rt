@@ -45,7 +45,7 @@ fn with_include_and_sort(alloc: Global) -> Answer<Language>
     let sort = String::from_str(alloc, "sort")?;
     language
         .filters
-        .register(sort, FilterKind::JekyllSort(jekyll::Sort))?;
+        .register(sort, FilterKind::JekyllSort)?;
     Ok(language)
 }
 

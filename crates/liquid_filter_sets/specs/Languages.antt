@@ -44,7 +44,7 @@ pub record IsJekyll (l : Language) : Type 0 where
   pub blocks : listed (kinds_of l.blocks) ≡ bind_each standard_blocks (listed [])
   pub filters : listed (registered_in l.filters) ≡ with_jekyll_filters
       (insert (with_filters (listed []) standard_filters) (codes "sort")
-      (Kind (JekyllSort (record {}))))
+      (Kind JekyllSort))
 
 -- ---- Shopify's
 

@@ -29,7 +29,7 @@ pub fn jekyll_language(alloc: Global) -> Result<Language>
     let name = String::from_str(alloc, "sort")?;
     language
         .filters
-        .register(name, FilterKind::JekyllSort(jekyll_filters::Sort))?;
+        .register(name, FilterKind::JekyllSort)?;
     register_jekyll_filters(alloc, &mut language.filters)?;
     Ok(language)
 }

@@ -5,385 +5,385 @@ ghost use Rattle.liquid_filters.specs.declared.kind.FilterKind.{FilterKind};
 use crate::{FilterKind, stdlib};
 
 impl From<stdlib::Join> for FilterKind {
-    ghost from_gives = { λ filter kind. kind ≡ FilterKind.Join filter };
+    ghost from_gives = { λ _ kind. kind ≡ FilterKind.Join };
 
-    fn from(filter: stdlib::Join) -> FilterKind {
-        FilterKind::Join(filter)
+    fn from(_filter: stdlib::Join) -> FilterKind {
+        FilterKind::Join
     }
 }
 
 impl From<stdlib::Sort> for FilterKind {
-    ghost from_gives = { λ filter kind. kind ≡ FilterKind.Sort filter };
+    ghost from_gives = { λ _ kind. kind ≡ FilterKind.Sort };
 
-    fn from(filter: stdlib::Sort) -> FilterKind {
-        FilterKind::Sort(filter)
+    fn from(_filter: stdlib::Sort) -> FilterKind {
+        FilterKind::Sort
     }
 }
 
 impl From<stdlib::SortNatural> for FilterKind {
-    ghost from_gives = { λ filter kind. kind ≡ FilterKind.SortNatural filter };
+    ghost from_gives = { λ _ kind. kind ≡ FilterKind.SortNatural };
 
-    fn from(filter: stdlib::SortNatural) -> FilterKind {
-        FilterKind::SortNatural(filter)
+    fn from(_filter: stdlib::SortNatural) -> FilterKind {
+        FilterKind::SortNatural
     }
 }
 
 impl From<stdlib::Where> for FilterKind {
-    ghost from_gives = { λ filter kind. kind ≡ FilterKind.Where filter };
+    ghost from_gives = { λ _ kind. kind ≡ FilterKind.Where };
 
-    fn from(filter: stdlib::Where) -> FilterKind {
-        FilterKind::Where(filter)
+    fn from(_filter: stdlib::Where) -> FilterKind {
+        FilterKind::Where
     }
 }
 
 impl From<stdlib::Uniq> for FilterKind {
-    ghost from_gives = { λ filter kind. kind ≡ FilterKind.Uniq filter };
+    ghost from_gives = { λ _ kind. kind ≡ FilterKind.Uniq };
 
-    fn from(filter: stdlib::Uniq) -> FilterKind {
-        FilterKind::Uniq(filter)
+    fn from(_filter: stdlib::Uniq) -> FilterKind {
+        FilterKind::Uniq
     }
 }
 
 impl From<stdlib::Reverse> for FilterKind {
-    ghost from_gives = { λ filter kind. kind ≡ FilterKind.Reverse filter };
+    ghost from_gives = { λ _ kind. kind ≡ FilterKind.Reverse };
 
-    fn from(filter: stdlib::Reverse) -> FilterKind {
-        FilterKind::Reverse(filter)
+    fn from(_filter: stdlib::Reverse) -> FilterKind {
+        FilterKind::Reverse
     }
 }
 
 impl From<stdlib::Map> for FilterKind {
-    ghost from_gives = { λ filter kind. kind ≡ FilterKind.Map filter };
+    ghost from_gives = { λ _ kind. kind ≡ FilterKind.Map };
 
-    fn from(filter: stdlib::Map) -> FilterKind {
-        FilterKind::Map(filter)
+    fn from(_filter: stdlib::Map) -> FilterKind {
+        FilterKind::Map
     }
 }
 
 impl From<stdlib::Compact> for FilterKind {
-    ghost from_gives = { λ filter kind. kind ≡ FilterKind.Compact filter };
+    ghost from_gives = { λ _ kind. kind ≡ FilterKind.Compact };
 
-    fn from(filter: stdlib::Compact) -> FilterKind {
-        FilterKind::Compact(filter)
+    fn from(_filter: stdlib::Compact) -> FilterKind {
+        FilterKind::Compact
     }
 }
 
 impl From<stdlib::Concat> for FilterKind {
-    ghost from_gives = { λ filter kind. kind ≡ FilterKind.Concat filter };
+    ghost from_gives = { λ _ kind. kind ≡ FilterKind.Concat };
 
-    fn from(filter: stdlib::Concat) -> FilterKind {
-        FilterKind::Concat(filter)
+    fn from(_filter: stdlib::Concat) -> FilterKind {
+        FilterKind::Concat
     }
 }
 
 impl From<stdlib::First> for FilterKind {
-    ghost from_gives = { λ filter kind. kind ≡ FilterKind.First filter };
+    ghost from_gives = { λ _ kind. kind ≡ FilterKind.First };
 
-    fn from(filter: stdlib::First) -> FilterKind {
-        FilterKind::First(filter)
+    fn from(_filter: stdlib::First) -> FilterKind {
+        FilterKind::First
     }
 }
 
 impl From<stdlib::Last> for FilterKind {
-    ghost from_gives = { λ filter kind. kind ≡ FilterKind.Last filter };
+    ghost from_gives = { λ _ kind. kind ≡ FilterKind.Last };
 
-    fn from(filter: stdlib::Last) -> FilterKind {
-        FilterKind::Last(filter)
+    fn from(_filter: stdlib::Last) -> FilterKind {
+        FilterKind::Last
     }
 }
 
 impl From<stdlib::Abs> for FilterKind {
-    ghost from_gives = { λ filter kind. kind ≡ FilterKind.Abs filter };
+    ghost from_gives = { λ _ kind. kind ≡ FilterKind.Abs };
 
-    fn from(filter: stdlib::Abs) -> FilterKind {
-        FilterKind::Abs(filter)
+    fn from(_filter: stdlib::Abs) -> FilterKind {
+        FilterKind::Abs
     }
 }
 
 impl From<stdlib::AtLeast> for FilterKind {
-    ghost from_gives = { λ filter kind. kind ≡ FilterKind.AtLeast filter };
+    ghost from_gives = { λ _ kind. kind ≡ FilterKind.AtLeast };
 
-    fn from(filter: stdlib::AtLeast) -> FilterKind {
-        FilterKind::AtLeast(filter)
+    fn from(_filter: stdlib::AtLeast) -> FilterKind {
+        FilterKind::AtLeast
     }
 }
 
 impl From<stdlib::AtMost> for FilterKind {
-    ghost from_gives = { λ filter kind. kind ≡ FilterKind.AtMost filter };
+    ghost from_gives = { λ _ kind. kind ≡ FilterKind.AtMost };
 
-    fn from(filter: stdlib::AtMost) -> FilterKind {
-        FilterKind::AtMost(filter)
+    fn from(_filter: stdlib::AtMost) -> FilterKind {
+        FilterKind::AtMost
     }
 }
 
 impl From<stdlib::Plus> for FilterKind {
-    ghost from_gives = { λ filter kind. kind ≡ FilterKind.Plus filter };
+    ghost from_gives = { λ _ kind. kind ≡ FilterKind.Plus };
 
-    fn from(filter: stdlib::Plus) -> FilterKind {
-        FilterKind::Plus(filter)
+    fn from(_filter: stdlib::Plus) -> FilterKind {
+        FilterKind::Plus
     }
 }
 
 impl From<stdlib::Minus> for FilterKind {
-    ghost from_gives = { λ filter kind. kind ≡ FilterKind.Minus filter };
+    ghost from_gives = { λ _ kind. kind ≡ FilterKind.Minus };
 
-    fn from(filter: stdlib::Minus) -> FilterKind {
-        FilterKind::Minus(filter)
+    fn from(_filter: stdlib::Minus) -> FilterKind {
+        FilterKind::Minus
     }
 }
 
 impl From<stdlib::Times> for FilterKind {
-    ghost from_gives = { λ filter kind. kind ≡ FilterKind.Times filter };
+    ghost from_gives = { λ _ kind. kind ≡ FilterKind.Times };
 
-    fn from(filter: stdlib::Times) -> FilterKind {
-        FilterKind::Times(filter)
+    fn from(_filter: stdlib::Times) -> FilterKind {
+        FilterKind::Times
     }
 }
 
 impl From<stdlib::DividedBy> for FilterKind {
-    ghost from_gives = { λ filter kind. kind ≡ FilterKind.DividedBy filter };
+    ghost from_gives = { λ _ kind. kind ≡ FilterKind.DividedBy };
 
-    fn from(filter: stdlib::DividedBy) -> FilterKind {
-        FilterKind::DividedBy(filter)
+    fn from(_filter: stdlib::DividedBy) -> FilterKind {
+        FilterKind::DividedBy
     }
 }
 
 impl From<stdlib::Modulo> for FilterKind {
-    ghost from_gives = { λ filter kind. kind ≡ FilterKind.Modulo filter };
+    ghost from_gives = { λ _ kind. kind ≡ FilterKind.Modulo };
 
-    fn from(filter: stdlib::Modulo) -> FilterKind {
-        FilterKind::Modulo(filter)
+    fn from(_filter: stdlib::Modulo) -> FilterKind {
+        FilterKind::Modulo
     }
 }
 
 impl From<stdlib::Round> for FilterKind {
-    ghost from_gives = { λ filter kind. kind ≡ FilterKind.Round filter };
+    ghost from_gives = { λ _ kind. kind ≡ FilterKind.Round };
 
-    fn from(filter: stdlib::Round) -> FilterKind {
-        FilterKind::Round(filter)
+    fn from(_filter: stdlib::Round) -> FilterKind {
+        FilterKind::Round
     }
 }
 
 impl From<stdlib::Ceil> for FilterKind {
-    ghost from_gives = { λ filter kind. kind ≡ FilterKind.Ceil filter };
+    ghost from_gives = { λ _ kind. kind ≡ FilterKind.Ceil };
 
-    fn from(filter: stdlib::Ceil) -> FilterKind {
-        FilterKind::Ceil(filter)
+    fn from(_filter: stdlib::Ceil) -> FilterKind {
+        FilterKind::Ceil
     }
 }
 
 impl From<stdlib::Floor> for FilterKind {
-    ghost from_gives = { λ filter kind. kind ≡ FilterKind.Floor filter };
+    ghost from_gives = { λ _ kind. kind ≡ FilterKind.Floor };
 
-    fn from(filter: stdlib::Floor) -> FilterKind {
-        FilterKind::Floor(filter)
+    fn from(_filter: stdlib::Floor) -> FilterKind {
+        FilterKind::Floor
     }
 }
 
 impl From<stdlib::Size> for FilterKind {
-    ghost from_gives = { λ filter kind. kind ≡ FilterKind.Size filter };
+    ghost from_gives = { λ _ kind. kind ≡ FilterKind.Size };
 
-    fn from(filter: stdlib::Size) -> FilterKind {
-        FilterKind::Size(filter)
+    fn from(_filter: stdlib::Size) -> FilterKind {
+        FilterKind::Size
     }
 }
 
 impl From<stdlib::Default> for FilterKind {
-    ghost from_gives = { λ filter kind. kind ≡ FilterKind.Default filter };
+    ghost from_gives = { λ _ kind. kind ≡ FilterKind.Default };
 
-    fn from(filter: stdlib::Default) -> FilterKind {
-        FilterKind::Default(filter)
+    fn from(_filter: stdlib::Default) -> FilterKind {
+        FilterKind::Default
     }
 }
 
 impl From<stdlib::Slice> for FilterKind {
-    ghost from_gives = { λ filter kind. kind ≡ FilterKind.Slice filter };
+    ghost from_gives = { λ _ kind. kind ≡ FilterKind.Slice };
 
-    fn from(filter: stdlib::Slice) -> FilterKind {
-        FilterKind::Slice(filter)
+    fn from(_filter: stdlib::Slice) -> FilterKind {
+        FilterKind::Slice
     }
 }
 
 impl From<stdlib::Split> for FilterKind {
-    ghost from_gives = { λ filter kind. kind ≡ FilterKind.Split filter };
+    ghost from_gives = { λ _ kind. kind ≡ FilterKind.Split };
 
-    fn from(filter: stdlib::Split) -> FilterKind {
-        FilterKind::Split(filter)
+    fn from(_filter: stdlib::Split) -> FilterKind {
+        FilterKind::Split
     }
 }
 
 impl From<stdlib::Replace> for FilterKind {
-    ghost from_gives = { λ filter kind. kind ≡ FilterKind.Replace filter };
+    ghost from_gives = { λ _ kind. kind ≡ FilterKind.Replace };
 
-    fn from(filter: stdlib::Replace) -> FilterKind {
-        FilterKind::Replace(filter)
+    fn from(_filter: stdlib::Replace) -> FilterKind {
+        FilterKind::Replace
     }
 }
 
 impl From<stdlib::ReplaceFirst> for FilterKind {
-    ghost from_gives = { λ filter kind. kind ≡ FilterKind.ReplaceFirst filter };
+    ghost from_gives = { λ _ kind. kind ≡ FilterKind.ReplaceFirst };
 
-    fn from(filter: stdlib::ReplaceFirst) -> FilterKind {
-        FilterKind::ReplaceFirst(filter)
+    fn from(_filter: stdlib::ReplaceFirst) -> FilterKind {
+        FilterKind::ReplaceFirst
     }
 }
 
 impl From<stdlib::Remove> for FilterKind {
-    ghost from_gives = { λ filter kind. kind ≡ FilterKind.Remove filter };
+    ghost from_gives = { λ _ kind. kind ≡ FilterKind.Remove };
 
-    fn from(filter: stdlib::Remove) -> FilterKind {
-        FilterKind::Remove(filter)
+    fn from(_filter: stdlib::Remove) -> FilterKind {
+        FilterKind::Remove
     }
 }
 
 impl From<stdlib::RemoveFirst> for FilterKind {
-    ghost from_gives = { λ filter kind. kind ≡ FilterKind.RemoveFirst filter };
+    ghost from_gives = { λ _ kind. kind ≡ FilterKind.RemoveFirst };
 
-    fn from(filter: stdlib::RemoveFirst) -> FilterKind {
-        FilterKind::RemoveFirst(filter)
+    fn from(_filter: stdlib::RemoveFirst) -> FilterKind {
+        FilterKind::RemoveFirst
     }
 }
 
 impl From<stdlib::Append> for FilterKind {
-    ghost from_gives = { λ filter kind. kind ≡ FilterKind.Append filter };
+    ghost from_gives = { λ _ kind. kind ≡ FilterKind.Append };
 
-    fn from(filter: stdlib::Append) -> FilterKind {
-        FilterKind::Append(filter)
+    fn from(_filter: stdlib::Append) -> FilterKind {
+        FilterKind::Append
     }
 }
 
 impl From<stdlib::Prepend> for FilterKind {
-    ghost from_gives = { λ filter kind. kind ≡ FilterKind.Prepend filter };
+    ghost from_gives = { λ _ kind. kind ≡ FilterKind.Prepend };
 
-    fn from(filter: stdlib::Prepend) -> FilterKind {
-        FilterKind::Prepend(filter)
+    fn from(_filter: stdlib::Prepend) -> FilterKind {
+        FilterKind::Prepend
     }
 }
 
 impl From<stdlib::Strip> for FilterKind {
-    ghost from_gives = { λ filter kind. kind ≡ FilterKind.Strip filter };
+    ghost from_gives = { λ _ kind. kind ≡ FilterKind.Strip };
 
-    fn from(filter: stdlib::Strip) -> FilterKind {
-        FilterKind::Strip(filter)
+    fn from(_filter: stdlib::Strip) -> FilterKind {
+        FilterKind::Strip
     }
 }
 
 impl From<stdlib::Lstrip> for FilterKind {
-    ghost from_gives = { λ filter kind. kind ≡ FilterKind.Lstrip filter };
+    ghost from_gives = { λ _ kind. kind ≡ FilterKind.Lstrip };
 
-    fn from(filter: stdlib::Lstrip) -> FilterKind {
-        FilterKind::Lstrip(filter)
+    fn from(_filter: stdlib::Lstrip) -> FilterKind {
+        FilterKind::Lstrip
     }
 }
 
 impl From<stdlib::Rstrip> for FilterKind {
-    ghost from_gives = { λ filter kind. kind ≡ FilterKind.Rstrip filter };
+    ghost from_gives = { λ _ kind. kind ≡ FilterKind.Rstrip };
 
-    fn from(filter: stdlib::Rstrip) -> FilterKind {
-        FilterKind::Rstrip(filter)
+    fn from(_filter: stdlib::Rstrip) -> FilterKind {
+        FilterKind::Rstrip
     }
 }
 
 impl From<stdlib::StripNewlines> for FilterKind {
-    ghost from_gives = { λ filter kind. kind ≡ FilterKind.StripNewlines filter };
+    ghost from_gives = { λ _ kind. kind ≡ FilterKind.StripNewlines };
 
-    fn from(filter: stdlib::StripNewlines) -> FilterKind {
-        FilterKind::StripNewlines(filter)
+    fn from(_filter: stdlib::StripNewlines) -> FilterKind {
+        FilterKind::StripNewlines
     }
 }
 
 impl From<stdlib::Downcase> for FilterKind {
-    ghost from_gives = { λ filter kind. kind ≡ FilterKind.Downcase filter };
+    ghost from_gives = { λ _ kind. kind ≡ FilterKind.Downcase };
 
-    fn from(filter: stdlib::Downcase) -> FilterKind {
-        FilterKind::Downcase(filter)
+    fn from(_filter: stdlib::Downcase) -> FilterKind {
+        FilterKind::Downcase
     }
 }
 
 impl From<stdlib::Upcase> for FilterKind {
-    ghost from_gives = { λ filter kind. kind ≡ FilterKind.Upcase filter };
+    ghost from_gives = { λ _ kind. kind ≡ FilterKind.Upcase };
 
-    fn from(filter: stdlib::Upcase) -> FilterKind {
-        FilterKind::Upcase(filter)
+    fn from(_filter: stdlib::Upcase) -> FilterKind {
+        FilterKind::Upcase
     }
 }
 
 impl From<stdlib::Capitalize> for FilterKind {
-    ghost from_gives = { λ filter kind. kind ≡ FilterKind.Capitalize filter };
+    ghost from_gives = { λ _ kind. kind ≡ FilterKind.Capitalize };
 
-    fn from(filter: stdlib::Capitalize) -> FilterKind {
-        FilterKind::Capitalize(filter)
+    fn from(_filter: stdlib::Capitalize) -> FilterKind {
+        FilterKind::Capitalize
     }
 }
 
 impl From<stdlib::Truncate> for FilterKind {
-    ghost from_gives = { λ filter kind. kind ≡ FilterKind.Truncate filter };
+    ghost from_gives = { λ _ kind. kind ≡ FilterKind.Truncate };
 
-    fn from(filter: stdlib::Truncate) -> FilterKind {
-        FilterKind::Truncate(filter)
+    fn from(_filter: stdlib::Truncate) -> FilterKind {
+        FilterKind::Truncate
     }
 }
 
 impl From<stdlib::TruncateWords> for FilterKind {
-    ghost from_gives = { λ filter kind. kind ≡ FilterKind.TruncateWords filter };
+    ghost from_gives = { λ _ kind. kind ≡ FilterKind.TruncateWords };
 
-    fn from(filter: stdlib::TruncateWords) -> FilterKind {
-        FilterKind::TruncateWords(filter)
+    fn from(_filter: stdlib::TruncateWords) -> FilterKind {
+        FilterKind::TruncateWords
     }
 }
 
 impl From<stdlib::Escape> for FilterKind {
-    ghost from_gives = { λ filter kind. kind ≡ FilterKind.Escape filter };
+    ghost from_gives = { λ _ kind. kind ≡ FilterKind.Escape };
 
-    fn from(filter: stdlib::Escape) -> FilterKind {
-        FilterKind::Escape(filter)
+    fn from(_filter: stdlib::Escape) -> FilterKind {
+        FilterKind::Escape
     }
 }
 
 impl From<stdlib::EscapeOnce> for FilterKind {
-    ghost from_gives = { λ filter kind. kind ≡ FilterKind.EscapeOnce filter };
+    ghost from_gives = { λ _ kind. kind ≡ FilterKind.EscapeOnce };
 
-    fn from(filter: stdlib::EscapeOnce) -> FilterKind {
-        FilterKind::EscapeOnce(filter)
+    fn from(_filter: stdlib::EscapeOnce) -> FilterKind {
+        FilterKind::EscapeOnce
     }
 }
 
 impl From<stdlib::StripHtml> for FilterKind {
-    ghost from_gives = { λ filter kind. kind ≡ FilterKind.StripHtml filter };
+    ghost from_gives = { λ _ kind. kind ≡ FilterKind.StripHtml };
 
-    fn from(filter: stdlib::StripHtml) -> FilterKind {
-        FilterKind::StripHtml(filter)
+    fn from(_filter: stdlib::StripHtml) -> FilterKind {
+        FilterKind::StripHtml
     }
 }
 
 impl From<stdlib::NewlineToBr> for FilterKind {
-    ghost from_gives = { λ filter kind. kind ≡ FilterKind.NewlineToBr filter };
+    ghost from_gives = { λ _ kind. kind ≡ FilterKind.NewlineToBr };
 
-    fn from(filter: stdlib::NewlineToBr) -> FilterKind {
-        FilterKind::NewlineToBr(filter)
+    fn from(_filter: stdlib::NewlineToBr) -> FilterKind {
+        FilterKind::NewlineToBr
     }
 }
 
 impl From<stdlib::UrlEncode> for FilterKind {
-    ghost from_gives = { λ filter kind. kind ≡ FilterKind.UrlEncode filter };
+    ghost from_gives = { λ _ kind. kind ≡ FilterKind.UrlEncode };
 
-    fn from(filter: stdlib::UrlEncode) -> FilterKind {
-        FilterKind::UrlEncode(filter)
+    fn from(_filter: stdlib::UrlEncode) -> FilterKind {
+        FilterKind::UrlEncode
     }
 }
 
 impl From<stdlib::UrlDecode> for FilterKind {
-    ghost from_gives = { λ filter kind. kind ≡ FilterKind.UrlDecode filter };
+    ghost from_gives = { λ _ kind. kind ≡ FilterKind.UrlDecode };
 
-    fn from(filter: stdlib::UrlDecode) -> FilterKind {
-        FilterKind::UrlDecode(filter)
+    fn from(_filter: stdlib::UrlDecode) -> FilterKind {
+        FilterKind::UrlDecode
     }
 }
 
 impl From<stdlib::Date> for FilterKind {
-    ghost from_gives = { λ filter kind. kind ≡ FilterKind.Date filter };
+    ghost from_gives = { λ _ kind. kind ≡ FilterKind.Date };
 
-    fn from(filter: stdlib::Date) -> FilterKind {
-        FilterKind::Date(filter)
+    fn from(_filter: stdlib::Date) -> FilterKind {
+        FilterKind::Date
     }
 }

@@ -5,73 +5,73 @@ ghost use Rattle.liquid_filters.specs.declared.kind.FilterKind.{FilterKind};
 use crate::{FilterKind, extra, jekyll, shopify};
 
 impl From<jekyll::Sort> for FilterKind {
-    ghost from_gives = { λ filter kind. kind ≡ FilterKind.JekyllSort filter };
+    ghost from_gives = { λ _ kind. kind ≡ FilterKind.JekyllSort };
 
-    fn from(filter: jekyll::Sort) -> FilterKind {
-        FilterKind::JekyllSort(filter)
+    fn from(_filter: jekyll::Sort) -> FilterKind {
+        FilterKind::JekyllSort
     }
 }
 
 impl From<jekyll::Push> for FilterKind {
-    ghost from_gives = { λ filter kind. kind ≡ FilterKind.Push filter };
+    ghost from_gives = { λ _ kind. kind ≡ FilterKind.Push };
 
-    fn from(filter: jekyll::Push) -> FilterKind {
-        FilterKind::Push(filter)
+    fn from(_filter: jekyll::Push) -> FilterKind {
+        FilterKind::Push
     }
 }
 
 impl From<jekyll::Unshift> for FilterKind {
-    ghost from_gives = { λ filter kind. kind ≡ FilterKind.Unshift filter };
+    ghost from_gives = { λ _ kind. kind ≡ FilterKind.Unshift };
 
-    fn from(filter: jekyll::Unshift) -> FilterKind {
-        FilterKind::Unshift(filter)
+    fn from(_filter: jekyll::Unshift) -> FilterKind {
+        FilterKind::Unshift
     }
 }
 
 impl From<jekyll::Pop> for FilterKind {
-    ghost from_gives = { λ filter kind. kind ≡ FilterKind.Pop filter };
+    ghost from_gives = { λ _ kind. kind ≡ FilterKind.Pop };
 
-    fn from(filter: jekyll::Pop) -> FilterKind {
-        FilterKind::Pop(filter)
+    fn from(_filter: jekyll::Pop) -> FilterKind {
+        FilterKind::Pop
     }
 }
 
 impl From<jekyll::Shift> for FilterKind {
-    ghost from_gives = { λ filter kind. kind ≡ FilterKind.Shift filter };
+    ghost from_gives = { λ _ kind. kind ≡ FilterKind.Shift };
 
-    fn from(filter: jekyll::Shift) -> FilterKind {
-        FilterKind::Shift(filter)
+    fn from(_filter: jekyll::Shift) -> FilterKind {
+        FilterKind::Shift
     }
 }
 
 impl From<jekyll::ArrayToSentenceString> for FilterKind {
-    ghost from_gives = { λ filter kind. kind ≡ FilterKind.ArrayToSentenceString filter };
+    ghost from_gives = { λ _ kind. kind ≡ FilterKind.ArrayToSentenceString };
 
-    fn from(filter: jekyll::ArrayToSentenceString) -> FilterKind {
-        FilterKind::ArrayToSentenceString(filter)
+    fn from(_filter: jekyll::ArrayToSentenceString) -> FilterKind {
+        FilterKind::ArrayToSentenceString
     }
 }
 
 impl From<jekyll::Slugify> for FilterKind {
-    ghost from_gives = { λ filter kind. kind ≡ FilterKind.Slugify filter };
+    ghost from_gives = { λ _ kind. kind ≡ FilterKind.Slugify };
 
-    fn from(filter: jekyll::Slugify) -> FilterKind {
-        FilterKind::Slugify(filter)
+    fn from(_filter: jekyll::Slugify) -> FilterKind {
+        FilterKind::Slugify
     }
 }
 
 impl From<shopify::Pluralize> for FilterKind {
-    ghost from_gives = { λ filter kind. kind ≡ FilterKind.Pluralize filter };
+    ghost from_gives = { λ _ kind. kind ≡ FilterKind.Pluralize };
 
-    fn from(filter: shopify::Pluralize) -> FilterKind {
-        FilterKind::Pluralize(filter)
+    fn from(_filter: shopify::Pluralize) -> FilterKind {
+        FilterKind::Pluralize
     }
 }
 
 impl From<extra::DateInTz> for FilterKind {
-    ghost from_gives = { λ filter kind. kind ≡ FilterKind.DateInTz filter };
+    ghost from_gives = { λ _ kind. kind ≡ FilterKind.DateInTz };
 
-    fn from(filter: extra::DateInTz) -> FilterKind {
-        FilterKind::DateInTz(filter)
+    fn from(_filter: extra::DateInTz) -> FilterKind {
+        FilterKind::DateInTz
     }
 }

@@ -249,26 +249,26 @@ by_argument v answer f xs e arguments is k c d a = at (literal_first_argument xs
 
 kind_respects : (kind : FilterKind) (xs : List Expression) (v : Use) (e : Environment) (arguments : List Datum) → all_required xs e ≡ Ok arguments
     → (c d : Datum) → AlikeAs (kind_needs kind xs v) c d → Both (AlikeAs v) (kind_answer kind c arguments) (kind_answer kind d arguments)
-kind_respects (Size f) xs v e arguments is c d a = answers_same v _ _ (ap (λ n. Ok (counted n)) (same_size nothing c d a))
-kind_respects (First f) xs v e arguments is c d a = first_respects v arguments c d a
-kind_respects (Last f) xs v e arguments is c d a = last_respects v arguments c d a
-kind_respects (Reverse f) xs v e arguments is c d a = reverse_respects v arguments c d a
-kind_respects (Concat f) xs v e arguments is c d a = concat_respects v arguments c d a
-kind_respects (Map f) xs v e arguments is c d a = by_argument v map_answer _ xs e arguments is
+kind_respects Size xs v e arguments is c d a = answers_same v _ _ (ap (λ n. Ok (counted n)) (same_size nothing c d a))
+kind_respects First xs v e arguments is c d a = first_respects v arguments c d a
+kind_respects Last xs v e arguments is c d a = last_respects v arguments c d a
+kind_respects Reverse xs v e arguments is c d a = reverse_respects v arguments c d a
+kind_respects Concat xs v e arguments is c d a = concat_respects v arguments c d a
+kind_respects Map xs v e arguments is c d a = by_argument v map_answer _ xs e arguments is
     (λ name no_length first others h c d a. subst (λ t. Both (AlikeAs v) (of_list (mapped_property t) c) (of_list (mapped_property t) d)) (sym h) (map_respects name v c d no_length a)) c d a
-kind_respects (Where f) xs v e arguments is c d a = by_argument v where_answer _ xs e arguments is
+kind_respects Where xs v e arguments is c d a = by_argument v where_answer _ xs e arguments is
     (λ name no_length first others h c d a. subst (λ t. Both (AlikeAs v) (where_by t (first_of others) c) (where_by t (first_of others) d)) (sym h) (where_respects name v no_length (first_of others) c d a)) c d a
-kind_respects (Sort f) xs v e arguments is c d a = by_argument v sort_answer _ xs e arguments is
+kind_respects Sort xs v e arguments is c d a = by_argument v sort_answer _ xs e arguments is
     (λ name no_length first others h c d a. subst (λ t. Both (AlikeAs v) (sort_named key_of t c) (sort_named key_of t d)) (sym h)
     (sort_respects name v no_length key_of (λ d e p. ap (option_and_then sort_key) p) c d a)) c d a
-kind_respects (SortNatural f) xs v e arguments is c d a = by_argument v sort_natural_answer _ xs e arguments is
+kind_respects SortNatural xs v e arguments is c d a = by_argument v sort_natural_answer _ xs e arguments is
     (λ name no_length first others h c d a. subst (λ t. Both (AlikeAs v) (sort_named natural_key_of t c) (sort_named natural_key_of t d)) (sym h)
     (sort_respects name v no_length natural_key_of (λ d e p. ap (λ o. option_map (λ x. text (lower_case (text_of x))) (option_and_then sort_key o)) p) c d a)) c d a
-kind_respects (Compact f) [] v e arguments is c d a =
+kind_respects Compact [] v e arguments is c d a =
     subst (λ zs. Both (AlikeAs v) (compact_answer c zs) (compact_answer d zs)) (no_arguments e arguments is) (compact_respects v c d a)
-kind_respects (Compact f) (x ∷ xs) v e arguments is c d a = by_argument v compact_answer _ (x ∷ xs) e arguments is
+kind_respects Compact (x ∷ xs) v e arguments is c d a = by_argument v compact_answer _ (x ∷ xs) e arguments is
     (λ name no_length first others h c d a. subst (λ t. Both (AlikeAs v) (compact_by t c) (compact_by t d)) (sym h) (given_respects v name no_length c d a)) c d a
-kind_respects (Default f) xs v e arguments is c d a = default_respects v arguments c d a
+kind_respects Default xs v e arguments is c d a = default_respects v arguments c d a
 kind_respects kind xs v e arguments is c d a = answers_same v _ _ (ap (λ o. kind_answer kind (unwrap_or o nil) arguments) a)
 
 respected : (named : Text → FilterAnswer) (filter : Filter) (xs : List Expression) (v : Use) (e : Environment) (arguments : List Datum) → all_required xs e ≡ Ok arguments

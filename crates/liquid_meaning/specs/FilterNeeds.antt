@@ -61,24 +61,24 @@ compact_needs (x ∷ xs) v =
     (λ name. items_each (with_field name there (items_wanted v)))
 
 abbrev pub kind_needs : FilterKind → List Expression → Use → Use
-kind_needs (Size f) arguments v = items_each nothing
-kind_needs (First f) arguments v = one_field (codes "first") v
-kind_needs (Last f) arguments v = one_field (codes "last") v
-kind_needs (Reverse f) arguments v = items_each (items_wanted v)
-kind_needs (Concat f) arguments v = items_each (items_wanted v)
-kind_needs (Map f) arguments v =
+kind_needs Size arguments v = items_each nothing
+kind_needs First arguments v = one_field (codes "first") v
+kind_needs Last arguments v = one_field (codes "last") v
+kind_needs Reverse arguments v = items_each (items_wanted v)
+kind_needs Concat arguments v = items_each (items_wanted v)
+kind_needs Map arguments v =
     by_property (literal_first_argument arguments)
     (λ name. items_each (one_field name (present (items_wanted v))))
-kind_needs (Where f) arguments v = by_property (literal_first_argument arguments)
+kind_needs Where arguments v = by_property (literal_first_argument arguments)
     (λ name. items_or_itself (with_field name everything (items_wanted v)))
-kind_needs (Sort f) arguments v =
+kind_needs Sort arguments v =
     by_property (literal_first_argument arguments)
     (λ name. items_or_itself (with_field name everything (items_wanted v)))
-kind_needs (SortNatural f) arguments v =
+kind_needs SortNatural arguments v =
     by_property (literal_first_argument arguments)
     (λ name. items_or_itself (with_field name everything (items_wanted v)))
-kind_needs (Compact f) arguments v = compact_needs arguments v
-kind_needs (Default f) arguments v = join (items_each nothing) v
+kind_needs Compact arguments v = compact_needs arguments v
+kind_needs Default arguments v = join (items_each nothing) v
 kind_needs _ arguments v = everything
 
 abbrev pub filter_needs : Filter → List Expression → Use → Use

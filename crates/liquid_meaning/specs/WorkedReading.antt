@@ -169,11 +169,11 @@ pub record WorkedReading : Type 0 where
   -- {{ a | map: 't' }} and {{ a | size }}
   pub a_map : (f : _) → covered_by_filters (("a", of_each (with_members (("t", everything) ∷ []))) ∷
       [])
-      (output (through "a" (Map f) (text_literal "t" ∷ [])) ∷ []) ≡ true
+      (output (through "a" Map (text_literal "t" ∷ [])) ∷ []) ≡ true
   pub a_map_asks_its_property : (f : _) → covered_by_filters (("a", of_each there) ∷ [])
-      (output (through "a" (Map f) (text_literal "t" ∷ [])) ∷ []) ≡ false
+      (output (through "a" Map (text_literal "t" ∷ [])) ∷ []) ≡ false
   pub a_number_of_items : (f : _) → covered_by_filters (("a", of_each nothing) ∷ [])
-      (output (through "a" (Size f) []) ∷ []) ≡ true
+      (output (through "a" Size []) ∷ []) ≡ true
   -- {% assign x = a | where: 't' %}{{ x.size }}
   pub a_choice : (f : _) → covered_by_filters ((
     "a",
@@ -181,12 +181,12 @@ pub record WorkedReading : Type 0 where
         (every (with_members (("t", everything) ∷ []))),
   ) ∷
       ("x", with_members (("size", everything) ∷ [])) ∷ [])
-      (assign (codes "x") (through "a" (Where f) (text_literal "t" ∷ [])) ∷
+      (assign (codes "x") (through "a" Where (text_literal "t" ∷ [])) ∷
       show (variable_property "x" "size") ∷ []) ≡ true
   -- {% assign x = a | compact %}{{ x.size }}
   pub a_nil_is_a_kind : (f : _) → covered_by_filters (("a", of_each there) ∷
       ("x", with_members (("size", everything) ∷ [])) ∷ [])
-      (assign (codes "x") (through "a" (Compact f) []) ∷ show (variable_property "x" "size") ∷ []) ≡
+      (assign (codes "x") (through "a" Compact []) ∷ show (variable_property "x" "size") ∷ []) ≡
       true
   -- {% assign x = a | default: 'n' %}{{ x.t }}
   pub a_default : (f : _) → covered_by_filters ((
@@ -194,12 +194,12 @@ pub record WorkedReading : Type 0 where
     parts (fields (("t", everything) ∷ []))
         (every nothing),
   ) ∷ ("x", with_members (("t", everything) ∷ [])) ∷ [])
-      (assign (codes "x") (through "a" (Default f) (text_literal "n" ∷ [])) ∷
+      (assign (codes "x") (through "a" Default (text_literal "n" ∷ [])) ∷
       show (variable_property "x" "t") ∷ []) ≡ true
   pub a_default_asks_how_many : (f : _) → covered_by_filters
       (("a", with_members (("t", everything) ∷ [])) ∷
       ("x", with_members (("t", everything) ∷ [])) ∷ [])
-      (assign (codes "x") (through "a" (Default f) (text_literal "n" ∷ [])) ∷
+      (assign (codes "x") (through "a" Default (text_literal "n" ∷ [])) ∷
       show (variable_property "x" "t") ∷ []) ≡ false
   -- what is left
   pub items_with_one_member : projected (of_each title) two_products ≡

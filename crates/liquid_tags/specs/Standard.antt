@@ -57,21 +57,21 @@ standard_blocks =
 -- Jekyll
 abbrev pub standard_filters : List FilterKind
 standard_filters =
-    Join (record {}) ∷ Sort (record {}) ∷ SortNatural (record {}) ∷ Where (record {}) ∷
-    Uniq (record {}) ∷ Reverse (record {}) ∷ Map (record {}) ∷ Compact (record {}) ∷
-    Concat (record {}) ∷ First (record {}) ∷ Last (record {}) ∷ Abs (record {}) ∷
-    AtLeast (record {}) ∷ AtMost (record {}) ∷ Plus (record {}) ∷ Minus (record {}) ∷
-    Times (record {}) ∷ DividedBy (record {}) ∷ Modulo (record {}) ∷ Round (record {}) ∷
-    Ceil (record {}) ∷ Floor (record {}) ∷ Size (record {}) ∷ Default (record {}) ∷
-    Slice (record {}) ∷ Split (record {}) ∷ Replace (record {}) ∷ ReplaceFirst (record {}) ∷
-    Remove (record {}) ∷ RemoveFirst (record {}) ∷ Append (record {}) ∷ Prepend (record {}) ∷
-    Strip (record {}) ∷ Lstrip (record {}) ∷ Rstrip (record {}) ∷ StripNewlines (record {}) ∷
-    Downcase (record {}) ∷ Upcase (record {}) ∷ Capitalize (record {}) ∷ Truncate (record {}) ∷
-    TruncateWords (record {}) ∷ Escape (record {}) ∷ EscapeOnce (record {}) ∷
-    StripHtml (record {}) ∷ NewlineToBr (record {}) ∷ UrlEncode (record {}) ∷
-    UrlDecode (record {}) ∷ Date (record {}) ∷ Push (record {}) ∷ Unshift (record {}) ∷
-    Pop (record {}) ∷ Shift (record {}) ∷ ArrayToSentenceString (record {}) ∷
-    Slugify (record {}) ∷ Pluralize (record {}) ∷ DateInTz (record {}) ∷ []
+    Join ∷ Sort ∷ SortNatural ∷ Where ∷
+    Uniq ∷ Reverse ∷ Map ∷ Compact ∷
+    Concat ∷ First ∷ Last ∷ Abs ∷
+    AtLeast ∷ AtMost ∷ Plus ∷ Minus ∷
+    Times ∷ DividedBy ∷ Modulo ∷ Round ∷
+    Ceil ∷ Floor ∷ Size ∷ Default ∷
+    Slice ∷ Split ∷ Replace ∷ ReplaceFirst ∷
+    Remove ∷ RemoveFirst ∷ Append ∷ Prepend ∷
+    Strip ∷ Lstrip ∷ Rstrip ∷ StripNewlines ∷
+    Downcase ∷ Upcase ∷ Capitalize ∷ Truncate ∷
+    TruncateWords ∷ Escape ∷ EscapeOnce ∷
+    StripHtml ∷ NewlineToBr ∷ UrlEncode ∷
+    UrlDecode ∷ Date ∷ Push ∷ Unshift ∷
+    Pop ∷ Shift ∷ ArrayToSentenceString ∷
+    Slugify ∷ Pluralize ∷ DateInTz ∷ []
 
 -- each filter at its own name, the later of one name winning
 abbrev pub with_filters : maps.Map RegisteredFilter → List FilterKind → maps.Map RegisteredFilter

@@ -9,12 +9,12 @@ use liquid_test_refusals::{Reporter, WorkedRow, items};
 use std::alloc::Global;
 
 /// Jekyll's `sort`, which the standard language lacks: its filter of that name is another.
-const JEKYLL_SORT: FilterKind = FilterKind::JekyllSort(jekyll::Sort);
+const JEKYLL_SORT: FilterKind = FilterKind::JekyllSort;
 
 /// The name of a filter in rows: Liquid's, but for Jekyll's `sort`.
 fn name_in_rows(filter: FilterKind) -> &'static str {
     match filter {
-        FilterKind::JekyllSort(_) => "jekyll sort",
+        FilterKind::JekyllSort => "jekyll sort",
         _ => filter.name(),
     }
 }

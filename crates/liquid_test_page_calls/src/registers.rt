@@ -101,7 +101,7 @@ fn put(
         "blocks.register" => language
             .blocks
             .register(key, BlockKind::from(IfBlock::new())),
-        "filters.register" => language.filters.register(key, FilterKind::Sort(Sort)),
+        "filters.register" => language.filters.register(key, FilterKind::Sort),
         "filters.register_host" => language.filters.register_host(key, 0, 2),
         _ => partials.insert(key, parse(alloc, "x{{ y }}", language)?),
     }

@@ -92,17 +92,17 @@ impl<'u> ChainPlace<'u> {
         ensures { KindPasses self.entry kind (map expression_view arguments.now) result }
     {
         match kind {
-            FilterKind::Size(_) => self.after_size(),
-            FilterKind::First(_) => self.after_end("first"),
-            FilterKind::Last(_) => self.after_end("last"),
-            FilterKind::Reverse(_) => ChainPlace::Items(self.items()),
-            FilterKind::Concat(_) => ChainPlace::Items(self.items()),
-            FilterKind::Map(_) => self.after_map(arguments),
-            FilterKind::Where(_) => self.after_order(arguments),
-            FilterKind::Sort(_) => self.after_order(arguments),
-            FilterKind::SortNatural(_) => self.after_order(arguments),
-            FilterKind::Compact(_) => self.after_compact(arguments),
-            FilterKind::Default(_) => self.after_default(),
+            FilterKind::Size => self.after_size(),
+            FilterKind::First => self.after_end("first"),
+            FilterKind::Last => self.after_end("last"),
+            FilterKind::Reverse => ChainPlace::Items(self.items()),
+            FilterKind::Concat => ChainPlace::Items(self.items()),
+            FilterKind::Map => self.after_map(arguments),
+            FilterKind::Where => self.after_order(arguments),
+            FilterKind::Sort => self.after_order(arguments),
+            FilterKind::SortNatural => self.after_order(arguments),
+            FilterKind::Compact => self.after_compact(arguments),
+            FilterKind::Default => self.after_default(),
             _ => ChainPlace::refused(),
         }
     }

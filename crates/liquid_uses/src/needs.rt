@@ -37,7 +37,7 @@ fn is_order(filter: &StoredFilter) -> bool {
     match filter {
         StoredFilter::Kind(kind) => matches!(
             kind,
-            FilterKind::Where(_) | FilterKind::Sort(_) | FilterKind::SortNatural(_)
+            FilterKind::Where | FilterKind::Sort | FilterKind::SortNatural
         ),
         StoredFilter::Host(_) => false,
     }
@@ -70,17 +70,17 @@ fn before_kind(
 ) -> Needed {
     let alloc = demands.alloc;
     match kind {
-        FilterKind::Size(_) => of_each(alloc, Use::Nothing),
-        FilterKind::First(_) if !is_ordered => of_member(alloc, "first", asked),
-        FilterKind::Last(_) if !is_ordered => of_member(alloc, "last", asked),
-        FilterKind::Reverse(_) | FilterKind::Concat(_) => of_each(alloc, item_need(alloc, asked)?),
-        FilterKind::Map(_) => before_map(alloc, arguments, item_need(alloc, asked)?),
-        FilterKind::Where(_) | FilterKind::Sort(_) | FilterKind::SortNatural(_) => {
+        FilterKind::Size => of_each(alloc, Use::Nothing),
+        FilterKind::First if !is_ordered => of_member(alloc, "first", asked),
+        FilterKind::Last if !is_ordered => of_member(alloc, "last", asked),
+        FilterKind::Reverse | FilterKind::Concat => of_each(alloc, item_need(alloc, asked)?),
+        FilterKind::Map => before_map(alloc, arguments, item_need(alloc, asked)?),
+        FilterKind::Where | FilterKind::Sort | FilterKind::SortNatural => {
             let item = item_need(alloc, asked)?;
             before_order(demands, arguments, item)
         }
-        FilterKind::Compact(_) => before_compact(alloc, arguments, item_need(alloc, asked)?),
-        FilterKind::Default(_) => joined(alloc, of_each(alloc, Use::Nothing)?, asked),
+        FilterKind::Compact => before_compact(alloc, arguments, item_need(alloc, asked)?),
+        FilterKind::Default => joined(alloc, of_each(alloc, Use::Nothing)?, asked),
         _ => Ok(Use::Everything),
     }
 }
