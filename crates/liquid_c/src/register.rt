@@ -13,7 +13,7 @@ use crate::handle::Handle;
 use crate::handle_content::HandleContent;
 use crate::refusal::{Refusal, store_result};
 use liquid_core::{ErrorKind, Result as Answer};
-use liquid_filters::{FilterKind, jekyll};
+use liquid_filters::FilterKind;
 use liquid_language::{Language, TagKind};
 use liquid_tags::language;
 use std::alloc::Global;
@@ -43,9 +43,7 @@ fn with_include_and_sort(alloc: Global) -> Answer<Language>
     let include = String::from_str(alloc, "include")?;
     language.tags.register(include, TagKind::JekyllInclude)?;
     let sort = String::from_str(alloc, "sort")?;
-    language
-        .filters
-        .register(sort, FilterKind::JekyllSort)?;
+    language.filters.register(sort, FilterKind::JekyllSort)?;
     Ok(language)
 }
 

@@ -8,7 +8,7 @@ ghost use Rattle.liquid_filter_sets.specs.Languages.{IsJekyll, IsShopify, with_j
 ghost use Rattle.liquid_filter_sets.specs.Languages.{with_kinds, with_shopify_filters, with_sites};
 
 use liquid_core::{ErrorKind, Result};
-use liquid_filters::{FilterKind, jekyll as jekyll_filters};
+use liquid_filters::FilterKind;
 use liquid_jekyll_host_filters::{JEKYLL_FILTERS, JekyllFilter};
 use liquid_language::{FilterRegistry, Language, TagKind};
 use liquid_shopify_host_filters::{SHOPIFY_FILTERS, ShopifyKind};
@@ -27,9 +27,7 @@ pub fn jekyll_language(alloc: Global) -> Result<Language>
     let name = String::from_str(alloc, include.tag())?;
     language.tags.register(name, TagKind::from(include))?;
     let name = String::from_str(alloc, "sort")?;
-    language
-        .filters
-        .register(name, FilterKind::JekyllSort)?;
+    language.filters.register(name, FilterKind::JekyllSort)?;
     register_jekyll_filters(alloc, &mut language.filters)?;
     Ok(language)
 }

@@ -16,7 +16,7 @@ use crate::stdlib::{
     TableRowBlock, UnlessBlock,
 };
 use liquid_core::{ErrorKind, Result};
-use liquid_filters::{FilterKind, extra, jekyll, shopify, stdlib};
+use liquid_filters::FilterKind;
 use liquid_language::{BlockKind, FilterRegistry, Language, Registry, TagKind};
 use std::alloc::Global;
 

@@ -2,7 +2,7 @@
 //! arguments it accepts, and which filters no row calls.
 use crate::faults::{no_call, unknown};
 use liquid_core::{Expression, Filter, Object, Result, State, Value};
-use liquid_filters::{FilterKind, jekyll};
+use liquid_filters::FilterKind;
 use liquid_lib::STANDARD_FILTERS;
 use liquid_syntax::{FilterCall, apply_filters};
 use liquid_test_refusals::{Reporter, WorkedRow, items};

@@ -2,7 +2,6 @@
 use crate::given::number_or;
 use liquid_core::{Result, Value};
 use liquid_filters::FilterKind;
-use liquid_filters::stdlib::Sort;
 use liquid_lib::stdlib::{ForloopObject, IfBlock};
 use liquid_lib::{Language, Partials, language, parse};
 use liquid_parser::{BlockKind, TagKind};

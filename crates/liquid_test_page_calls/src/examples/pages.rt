@@ -74,6 +74,6 @@ pub(crate) fn language_of_ones_own(alloc: Global) -> Result<String> {
 fn small_language(alloc: Global) -> Result<Language> {
     let name = String::from_str(alloc, "upcase")?;
     let mut small = Language::new(alloc);
-    small.filters.register(name, FilterKind::Upcase)?;
+    small.filters.register(name, FilterKind::from(Upcase))?;
     Ok(small)
 }
