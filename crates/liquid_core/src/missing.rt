@@ -290,18 +290,18 @@ fn push_keys(words: &mut String, map: Option<&Object>) -> Result<(), AllocError>
             "; it has `first`, `index`, `index0`, `last`, `length`, `parentloop`, `rindex` and `rindex0`",
         );
     };
+    if object.is_empty() {
+        return words.push_str(CHECK_SPELLING);
+    }
     for (count, name) in object.keys().enumerate() {
         if count == MOST_KEYS {
             return words.push_str(" and others");
         }
+        let before = if count == 0 { "; it has `" } else { ", `" };
         let quoted = Quoted {
             text: name.as_str(),
         };
-        words.push_str(if count == 0 { "; it has `" } else { ", `" })?;
-        write!(words, "{quoted}`")?;
-    }
-    if object.is_empty() {
-        words.push_str(CHECK_SPELLING)?;
+        write!(words, "{before}{quoted}`")?;
     }
     Ok(())
 }
@@ -317,27 +317,50 @@ fn look_in_state<'n>(
     search: &mut Search<'n, '_>,
     state: &'n State<'_>,
 ) -> Result<(), AllocError> {
+    look_at_words(alloc, search)?;
+    for scope in state.frames() {
+        look_in_scope(alloc, search, scope)?;
+    }
+    look_in_objects(alloc, search, state)
+}
+
+/// Looks at the words that are values, and at the name of a loop's object.
+fn look_at_words(alloc: Global, search: &mut Search<'_, '_>) -> Result<(), AllocError> {
     for word in &["true", "false", "nil", "null"] {
         if word.eq_ignore_ascii_case(search.meant) {
             search.look(alloc, *word)?;
         }
     }
-    if search.meant != "forloop" {
-        search.look(alloc, "forloop")?;
+    if search.meant == "forloop" {
+        return Ok(());
     }
-    for scope in state.frames() {
-        match scope {
-            Scope::Names(object) => search.look_in(alloc, object)?,
-            Scope::Borrowed(name, _) => search.look(alloc, *name)?,
-            Scope::LoopFrame(frame) => look_in_frame(alloc, search, frame)?,
-        }
-    }
+    search.look(alloc, "forloop")
+}
+
+/// Looks at the names of the objects that a state holds.
+fn look_in_objects<'n>(
+    alloc: Global,
+    search: &mut Search<'n, '_>,
+    state: &'n State<'_>,
+) -> Result<(), AllocError> {
     for object in state.scopes() {
         search.look_in(alloc, object)?;
     }
     search.look_in(alloc, state.assigned())?;
     search.look_in(alloc, state.counters())?;
     search.look_in(alloc, state.data())
+}
+
+fn look_in_scope<'n>(
+    alloc: Global,
+    search: &mut Search<'n, '_>,
+    scope: &'n Scope<'_>,
+) -> Result<(), AllocError> {
+    match scope {
+        Scope::Names(object) => search.look_in(alloc, object),
+        Scope::Borrowed(name, _) => search.look(alloc, *name),
+        Scope::LoopFrame(frame) => look_in_frame(alloc, search, frame),
+    }
 }
 
 fn look_in_frame<'n>(
