@@ -167,15 +167,15 @@ pub record WorkedReading : Type 0 where
   -- {% increment n %}
   pub a_counter : covered (("n", there) ∷ []) [] (increment (codes "n") ∷ []) ≡ true
   -- {{ a | map: 't' }} and {{ a | size }}
-  pub a_map : (f : _) → covered_by_filters (("a", of_each (with_members (("t", everything) ∷ []))) ∷
+  pub a_map : covered_by_filters (("a", of_each (with_members (("t", everything) ∷ []))) ∷
       [])
       (output (through "a" Map (text_literal "t" ∷ [])) ∷ []) ≡ true
-  pub a_map_asks_its_property : (f : _) → covered_by_filters (("a", of_each there) ∷ [])
+  pub a_map_asks_its_property : covered_by_filters (("a", of_each there) ∷ [])
       (output (through "a" Map (text_literal "t" ∷ [])) ∷ []) ≡ false
-  pub a_number_of_items : (f : _) → covered_by_filters (("a", of_each nothing) ∷ [])
+  pub a_number_of_items : covered_by_filters (("a", of_each nothing) ∷ [])
       (output (through "a" Size []) ∷ []) ≡ true
   -- {% assign x = a | where: 't' %}{{ x.size }}
-  pub a_choice : (f : _) → covered_by_filters ((
+  pub a_choice : covered_by_filters ((
     "a",
     parts (fields (("t", everything) ∷ []))
         (every (with_members (("t", everything) ∷ []))),
@@ -184,19 +184,19 @@ pub record WorkedReading : Type 0 where
       (assign (codes "x") (through "a" Where (text_literal "t" ∷ [])) ∷
       show (variable_property "x" "size") ∷ []) ≡ true
   -- {% assign x = a | compact %}{{ x.size }}
-  pub a_nil_is_a_kind : (f : _) → covered_by_filters (("a", of_each there) ∷
+  pub a_nil_is_a_kind : covered_by_filters (("a", of_each there) ∷
       ("x", with_members (("size", everything) ∷ [])) ∷ [])
       (assign (codes "x") (through "a" Compact []) ∷ show (variable_property "x" "size") ∷ []) ≡
       true
   -- {% assign x = a | default: 'n' %}{{ x.t }}
-  pub a_default : (f : _) → covered_by_filters ((
+  pub a_default : covered_by_filters ((
     "a",
     parts (fields (("t", everything) ∷ []))
         (every nothing),
   ) ∷ ("x", with_members (("t", everything) ∷ [])) ∷ [])
       (assign (codes "x") (through "a" Default (text_literal "n" ∷ [])) ∷
       show (variable_property "x" "t") ∷ []) ≡ true
-  pub a_default_asks_how_many : (f : _) → covered_by_filters
+  pub a_default_asks_how_many : covered_by_filters
       (("a", with_members (("t", everything) ∷ [])) ∷
       ("x", with_members (("t", everything) ∷ [])) ∷ [])
       (assign (codes "x") (through "a" Default (text_literal "n" ∷ [])) ∷
