@@ -74,9 +74,12 @@ rounded_to places d =
     else unrounded_of (whole d) (is_decimal_text d))
 
 -- the places are read before the input is looked at
+abbrev pub rounded_by : Datum → Datum → Answer
+rounded_by d e = whole_or_fault e >>= λ places. rounded_to places d
+
 abbrev pub round : Datum → List Datum → Answer
 round d [] = rounded Nearest d
-round d (e ∷ es) = whole_or_fault e >>= λ places. rounded_to places d
+round d (e ∷ es) = rounded_by d e
 
 -- what the code looks at: a digit of 5 or more after the point, any digit but 0 there
 abbrev pub goes_away : Rounding → Bool → List ℕ → Bool

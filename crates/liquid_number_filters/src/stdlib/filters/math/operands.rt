@@ -1,11 +1,12 @@
 //! The whole numbers that a filter over numbers computes with.
-ghost use Rattle.std.specs.Prelude.{false, ◌≡◌};
+ghost use Rattle.std.specs.Prelude.{false, ◌≡◌, ◌&&◌};
 ghost use Rattle.liquid_model.specs.Answer.{Answers, TakesNoMemory};
 ghost use Rattle.liquid_model.specs.ErrorKinds.{IsKindOrMemory};
 ghost use Rattle.liquid_model.specs.View.{view};
 ghost use Rattle.liquid_model.specs.declared.error.ErrorKind.TheVariants.{Float};
 ghost use Rattle.liquid_number_filters.specs.Decimals.{is_decimal_text};
-ghost use Rattle.liquid_number_filters.specs.Numbers.{operands, is_numeric, unlike, or_range};
+ghost use Rattle.liquid_number_filters.specs.Numbers.{operands, is_numeric, is_zero, or_range};
+ghost use Rattle.liquid_number_filters.specs.Numbers.{unlike};
 
 use super::decimal::Decimal;
 use liquid_core::{Error, ErrorKind, Quoted, Result, Value};
@@ -45,13 +46,19 @@ pub fn operands(alloc: Global, input: &Value, operand: &Value, divides: bool) ->
         return Err(invalid_argument(alloc, "a number", operand));
     }
     let second = operand.to_integer();
-    if divides && matches!(second, Some(0)) {
+    if divides_by_zero(divides, second) {
         return Err(Error::new(alloc, ErrorKind::DivideByZero, "the divisor must not be 0"));
     }
-    match (input.to_integer(), second) {
-        (Some(a), Some(b)) => Ok((a, b)),
-        _ => Err(unlike(alloc, input, operand)),
+    match input.to_integer().zip(second) {
+        Some(both) => Ok(both),
+        None => Err(unlike(alloc, input, operand)),
     }
+}
+
+fn divides_by_zero(divides: bool, operand: Option<i64>) -> bool
+    ensures { result ≡ (divides && is_zero operand) }
+{
+    divides && matches!(operand, Some(0))
 }
 
 /// Why two scalars that haven't both a whole number are refused.

@@ -8,7 +8,7 @@ ghost use Rattle.liquid_number_filters.specs.Numbers.{of_none};
 ghost use Rattle.liquid_number_filters.specs.declared.stdlib.filters.math.decimal.Rounding.TheVariants.{Nearest};
 ghost use Rattle.liquid_number_filters.specs.declared.stdlib.filters.math.decimal.Rounding.TheVariants.{Up};
 ghost use Rattle.liquid_number_filters.specs.declared.stdlib.filters.math.decimal.Rounding.TheVariants.{Down};
-ghost use Rattle.liquid_number_filters.specs.Rounding.{round, rounded, rounded_to};
+ghost use Rattle.liquid_number_filters.specs.Rounding.{round, rounded, rounded_by, rounded_to};
 ghost use Rattle.liquid_number_filters.specs.RoundingLaws.{IsRounded, Rounds};
 
 use super::decimal::{Decimal, Rounding};
@@ -56,9 +56,18 @@ fn round_answer(alloc: Global, input: &Value, args: &[Value]) -> Result<Value>
     ensures no_memory { TakesNoMemory result (round (view input.now) (map view args.now)) }
 {
     match args.first() {
-        Some(places) => rounded_to(alloc, input, whole_argument(alloc, places)?),
+        Some(places) => rounded_by(alloc, input, places),
         None => rounded(alloc, input, Rounding::Nearest),
     }
+}
+
+/// The input brought to the places that the argument says.
+fn rounded_by(alloc: Global, input: &Value, places: &Value) -> Result<Value>
+    ensures answer { Answers view result (rounded_by (view input.now) (view places.now)) }
+    ensures no_memory { TakesNoMemory result (rounded_by (view input.now) (view places.now)) }
+{
+    let places = whole_argument(alloc, places)?;
+    rounded_to(alloc, input, places)
 }
 
 /// `ceil`: a decimal text brought to the least whole number that isn't below; a whole number stays.
