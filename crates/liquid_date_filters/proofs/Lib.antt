@@ -1,3 +1,4 @@
+pub mod Arguments
 pub mod Clocks
 pub mod Dated
 pub mod Days

@@ -1,5 +1,5 @@
 //! The filter that prints a date at another offset.
-ghost use Rattle.std.specs.Prelude.{◌≡◌, ◌*ℤ◌, pos, nat_eq, true, Some};
+ghost use Rattle.std.specs.Prelude.{◌≡◌, ◌*ℤ◌, pos, nat_eq, true, Some, [], ◌∷◌};
 ghost use Rattle.liquid_model.specs.Answer.{Answers};
 ghost use Rattle.liquid_model.specs.View.{view};
 ghost use Rattle.liquid_date_filters.specs.Clock.{instant};
@@ -34,10 +34,17 @@ impl Filter for DateInTz {
     /// is no date, then `TimezoneRange` where the hours aren't from -23 to 23, then `DateFormat`
     /// where the pattern is refused.
     fn evaluate(&self, alloc: Global, input: &Value, args: &[Value]) -> Result<Value> {
-        let pattern = text_of(alloc, &args[0])?;
-        let hours = whole_argument(alloc, &args[1])?;
-        in_zone(alloc, input, pattern.as_str(), hours)
+        shifted(alloc, input, &args[0], &args[1])
     }
+}
+
+fn shifted(alloc: Global, input: &Value, pattern: &Value, hours: &Value) -> Result<Value>
+    ensures { Answers view result
+        (date_in_tz_answer (view input.now) (view pattern.now ∷ view hours.now ∷ [])) }
+{
+    let pattern = text_of(alloc, pattern)?;
+    let hours = whole_argument(alloc, hours)?;
+    in_zone(alloc, input, pattern.as_str(), hours)
 }
 
 fn in_zone(alloc: Global, input: &Value, pattern: &str, hours: i64) -> Result<Value>
