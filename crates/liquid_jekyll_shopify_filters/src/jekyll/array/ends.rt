@@ -1,6 +1,6 @@
 //! The filters that add or take an item at an end of a list.
 ghost use Rattle.std.specs.Prelude.{◌++◌, ◌∷◌, [], drop, map, nat_eq};
-ghost use Rattle.liquid_model.specs.Answer.{IsValueOrMemory};
+ghost use Rattle.liquid_model.specs.Answer.{Answers, IsValueOrMemory};
 ghost use Rattle.liquid_model.specs.Lists.{list_of};
 ghost use Rattle.liquid_model.specs.View.{view, items_view};
 ghost use Rattle.liquid_jekyll_shopify_filters.specs.Ends.{pop_answer, push_answer, shift_answer};
@@ -26,10 +26,16 @@ impl Filter for Push {
 
     /// `InvalidInput` where the input is no list.
     fn evaluate(&self, alloc: Global, input: &Value, args: &[Value]) -> Result<Value> {
-        match input {
-            Value::Array(items) => Ok(Value::Array(pushed(alloc, items, &args[0])?)),
-            _ => Err(invalid_input(alloc, "a list", input)),
-        }
+        with_last(alloc, input, &args[0])
+    }
+}
+
+fn with_last(alloc: Global, input: &Value, item: &Value) -> Result<Value>
+    ensures { Answers view result (push_answer (view input.now) (view item.now ∷ [])) }
+{
+    match input {
+        Value::Array(items) => Ok(Value::Array(pushed(alloc, items, item)?)),
+        _ => Err(invalid_input(alloc, "a list", input)),
     }
 }
 
@@ -48,10 +54,16 @@ impl Filter for Unshift {
 
     /// `InvalidInput` where the input is no list.
     fn evaluate(&self, alloc: Global, input: &Value, args: &[Value]) -> Result<Value> {
-        match input {
-            Value::Array(items) => Ok(Value::Array(unshifted(alloc, items, &args[0])?)),
-            _ => Err(invalid_input(alloc, "a list", input)),
-        }
+        with_first(alloc, input, &args[0])
+    }
+}
+
+fn with_first(alloc: Global, input: &Value, item: &Value) -> Result<Value>
+    ensures { Answers view result (unshift_answer (view input.now) (view item.now ∷ [])) }
+{
+    match input {
+        Value::Array(items) => Ok(Value::Array(unshifted(alloc, items, item)?)),
+        _ => Err(invalid_input(alloc, "a list", input)),
     }
 }
 
