@@ -2,6 +2,7 @@ pub mod Arguments
 pub mod Clocks
 pub mod Dated
 pub mod Days
+pub mod Existing
 pub mod Faults
 pub mod Instants
 pub mod Moves
