@@ -5,7 +5,7 @@ ghost use Rattle.liquid_model.specs.Lists.{list_of};
 ghost use Rattle.liquid_model.specs.View.{view, items_view};
 ghost use Rattle.liquid_filter_base.specs.Satisfies.{Satisfies, WithFirst};
 ghost use Rattle.liquid_list_filters.specs.Laws.{Concats, Reverses};
-ghost use Rattle.liquid_list_filters.specs.Rows.{concat_answer, reverse_answer};
+ghost use Rattle.liquid_list_filters.specs.Rows.{concat_answer, concat_by, reverse_answer};
 
 use liquid_core::{Filter, Result, Value};
 use liquid_filter_base::{invalid_argument, invalid_input};
@@ -91,7 +91,14 @@ fn concat_answer(alloc: Global, input: &Value, args: &[Value]) -> Result<Value>
     requires { IsTrue (nat_eq (length args.now) 1) }
     ensures { Answers view result (concat_answer (view input.now) (map view args.now)) }
 {
-    match (input, &args[0]) {
+    followed(alloc, input, &args[0])
+}
+
+/// The input's items, and after them those of the other list.
+fn followed(alloc: Global, input: &Value, more: &Value) -> Result<Value>
+    ensures { Answers view result (concat_by (view input.now) (view more.now)) }
+{
+    match (input, more) {
         (Value::Array(items), Value::Array(more)) => {
             Ok(Value::Array(concatenated(alloc, items, more)?))
         }
