@@ -1,5 +1,5 @@
--- Where a text may be cut after ASCII characters.
-use Rattle.std.proofs.Common.{◌≡◌, ℕ, zero, suc, ◌+◌, ◌-◌, ◌<◌, ◌≤◌, Bool, true, false, ◌&&◌, ◌||◌, ◌==◌, nat_le, List, [], ◌∷◌, length, drop, get_or, ap, refl, sym, subst, ◌∙◌, arith, if◌then◌else◌}
+-- Where a text may be cut after ASCII characters, and the number at its front.
+use Rattle.std.proofs.Common.{◌≡◌, ◌≢◌, ℕ, zero, suc, ◌+◌, ◌-◌, ◌<◌, ◌≤◌, ℤ, pos, Bool, true, false, ◌&&◌, ◌||◌, ◌==◌, nat_le, List, [], ◌∷◌, length, take, take_all, drop, length-drop, get_or, Result, Ok, ap, refl, sym, subst, ◌∙◌, arith, if◌then◌else◌}
 use Rattle.std.proofs.lemmas.Bool.Decides.{nat_tests}
 use Rattle.std.proofs.lemmas.List.{get_or-drop}
 use Rattle.std.proofs.lemmas.List.Sums.{prefix_len_passes}
@@ -8,7 +8,9 @@ use Rattle.std.specs.Char.{is_ascii_digit, is_ascii_whitespace}
 use Rattle.std.specs.List.{prefix_len}
 use Rattle.std.specs.Prelude.{nat_lt}
 use Rattle.std.specs.Str.{IsCharBoundary, IsUtf8}
-use Rattle.liquid_jekyll_host_filters.specs.Numbers.{sign_bytes}
+use Rattle.liquid_model.specs.Whole.{whole_text}
+use Rattle.liquid_model.specs.declared.error.ErrorKind.{ErrorKind}
+use Rattle.liquid_jekyll_host_filters.specs.Numbers.{front_number, number_or_range, sign_bytes}
 
 true_not_false : (t : Bool) → t ≡ true → t ≡ false → ⊥
 true_not_false true h k = cc
@@ -64,3 +66,27 @@ front_low bs n d k false e s l g h =
 
 pub front_boundary : (bs : List ℕ) (n d : ℕ) → IsUtf8 bs → n + d ≤ length bs → n ≡ sign_bytes bs → n ≤ 1 → d ≡ prefix_len is_ascii_digit (drop n bs) → IsCharBoundary bs (n + d)
 front_boundary bs n d u l s o g = boundary bs (n + d) u l (λ k i. front_low bs n d k (nat_lt k n) refl s o g i)
+
+-- ---- the number of a front
+pub digits_front : (text bytes : List ℕ) (sign digits : ℕ) → bytes ≡ text → digits ≡ prefix_len is_ascii_digit (take (length bytes - sign) (drop sign bytes)) → digits ≡ prefix_len is_ascii_digit (drop sign text)
+digits_front text bytes sign digits same e =
+    e ∙ ap (prefix_len is_ascii_digit) (take_all (length bytes - sign) (drop sign bytes) (omega (arith, length-drop sign bytes)) ∙ ap (drop sign) same)
+
+abbrev number_by : (s : List ℕ) (n d : ℕ) → Result ℤ ErrorKind
+number_by s n d = if d == 0 then Ok (pos 0) else number_or_range (whole_text (take (n + d) s))
+
+by_lengths : (s : List ℕ) (n d : ℕ) → n ≡ sign_bytes s → d ≡ prefix_len is_ascii_digit (drop n s) → number_by s n d ≡ front_number s
+by_lengths s n d e f =
+    ap (number_by s n) f ∙ ap (λ (k : ℕ). number_by s k (prefix_len is_ascii_digit (drop k s))) e
+
+pub no_digits : (s : List ℕ) (n d : ℕ) → n ≡ sign_bytes s → d ≡ prefix_len is_ascii_digit (drop n s) → d ≡ 0 → front_number s ≡ Ok (pos 0)
+no_digits s n d e f z = sym (by_lengths s n d e f) ∙ ap (number_by s n) z
+
+not_zero : (d : ℕ) (t : Bool) → (d == 0) ≡ t → d ≢ 0 → t ≡ false
+not_zero d true e h = absurd (h (grind (arith, nat_tests)))
+not_zero d false e h = refl
+
+pub some_digits : (s front : List ℕ) (n d : ℕ) → n ≡ sign_bytes s → d ≡ prefix_len is_ascii_digit (drop n s) → d ≢ 0 → front ≡ take (n + d) s → number_or_range (whole_text front) ≡ front_number s
+some_digits s front n d e f h t =
+    let given : (d == 0) ≡ false = not_zero d (d == 0) refl h in
+    ap (λ (u : List ℕ). number_or_range (whole_text u)) t ∙ sym (ap (λ (b : Bool). if b then Ok (pos 0) else number_or_range (whole_text (take (n + d) s))) given) ∙ by_lengths s n d e f

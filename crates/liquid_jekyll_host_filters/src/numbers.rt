@@ -4,9 +4,10 @@ ghost use Rattle.std.specs.List.{prefix_len};
 ghost use Rattle.std.specs.Prelude.{◌≡◌, ◌≤◌, length, nat_eq};
 ghost use Rattle.liquid_model.specs.Answer.{Answers};
 ghost use Rattle.liquid_model.specs.View.{view};
+ghost use Rattle.liquid_model.specs.Whole.{whole_text};
 ghost use Rattle.liquid_jekyll_host_filters.specs.Numbers.{front_number, jekyll_integer};
-ghost use Rattle.liquid_jekyll_host_filters.specs.Numbers.{leading_number, sign_bytes};
-ghost use Rattle.liquid_jekyll_host_filters.specs.Numbers.{to_integer_answer};
+ghost use Rattle.liquid_jekyll_host_filters.specs.Numbers.{leading_number, number_or_range};
+ghost use Rattle.liquid_jekyll_host_filters.specs.Numbers.{sign_bytes, to_integer_answer};
 
 use liquid_core::{Error, ErrorKind, Filter, Result, Value, whole_of};
 use liquid_filter_base::invalid_input;
@@ -63,7 +64,14 @@ fn front_number(alloc: Global, text: &str) -> Result<i64>
         return Ok(0);
     }
     let (front, _rest) = text.split_at(sign + digits);
-    match whole_of(front) {
+    number_of(alloc, front)
+}
+
+/// The number of digits with a sign or none.
+fn number_of(alloc: Global, digits: &str) -> Result<i64>
+    ensures { Answers (λ n. n) result (number_or_range (whole_text digits.now)) }
+{
+    match whole_of(digits) {
         Some(number) => Ok(number),
         None => Err(Error::new(
             alloc,
