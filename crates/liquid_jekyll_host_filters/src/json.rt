@@ -1,5 +1,5 @@
 //! The filter that prints a value as JSON.
-ghost use Rattle.std.specs.Prelude.{◌++◌, nat_eq, string_bytes};
+ghost use Rattle.std.specs.Prelude.{◌++◌, codes, nat_eq, string_bytes};
 ghost use Rattle.liquid_model.specs.Answer.{IsValueOrMemory};
 ghost use Rattle.liquid_model.specs.View.{view, items_view, pairs_view};
 ghost use Rattle.liquid_jekyll_host_filters.specs.Json.{json_list, json_map, json_text};
@@ -69,13 +69,22 @@ fn push_pairs(pairs: &Object, out: &mut String) -> Result<()>
     out.push_str("{")?;
     let mut before = "";
     for (key, value) in pairs.iter() {
-        out.push_str(before)?;
-        push_quoted(out, key.as_str())?;
-        out.push_str(":")?;
+        push_key(out, before, key.as_str())?;
         push_json(value, out)?;
         before = ",";
     }
     out.push_str("}")?;
+    Ok(())
+}
+
+/// Appends the key of a pair after what stands before it.
+fn push_key(out: &mut String, before: &str, key: &str) -> Result<()>
+    ensures { IsValueOrMemory (λ _. string_bytes out.new) result (string_bytes out.old ++
+        (before.now ++ (json_quoted key.now ++ codes ":"))) }
+{
+    out.push_str(before)?;
+    push_quoted(out, key)?;
+    out.push_str(":")?;
     Ok(())
 }
 
