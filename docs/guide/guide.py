@@ -223,13 +223,13 @@ def standard_names():
     bodies = {name: body.split("\n\n")[0] for name, body in zip(parts[::2], parts[1::2])}
     tags, blocks = (re.findall(r'codes "(\w+)"', bodies[name]) for name in ("standard_tags", "standard_blocks"))
     names = names_of_filters()
-    return {"tag": tags, "block": blocks, "filter": [names[kind] for kind in re.findall(r"(\w+) \(record", bodies["standard_filters"])]}
+    return {"tag": tags, "block": blocks, "filter": [names[kind] for kind in re.findall(r"([A-Z]\w*) ∷", bodies["standard_filters"])]}
 
 
 def names_of_filters():
     """The name of each kind of filter, as its definition has it."""
     with open(FILTER_KINDS, encoding="utf-8") as file:
-        return dict(re.findall(r'^kind_name \((\w+) \w+\) = codes "(\w+)"$', file.read(), flags=re.M))
+        return dict(re.findall(r'^kind_name ([A-Z]\w*) = codes "(\w+)"$', file.read(), flags=re.M))
 
 
 def kinds_of_faults():

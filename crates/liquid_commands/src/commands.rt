@@ -44,7 +44,8 @@ fn without_commands<'a>(alloc: Global) -> Command<'a> {
     Command::new(alloc, "bikleinu")
         .version(VERSION)
         .about(
-            "Renders Liquid templates: a page is what the rules of the language say, or ends at its first fault.",
+            "Renders Liquid templates: a page is what the rules of the language say, \
+             or ends at its first fault.",
         )
         .subcommand_required(true)
         .arg_required_else_help(true)

@@ -21,8 +21,8 @@ pub struct MergeCall<'w> {
     pub progress: bool,
 }
 
-const ABOUT: &str =
-    "Writes the page of a template for each record, each into a file of its own or to standard output";
+const ABOUT: &str = "Writes the page of a template for each record, \
+    each into a file of its own or to standard output";
 
 const ARGUMENTS: &[Argument] = &[
     Argument::Template,

@@ -38,7 +38,8 @@ pub(crate) fn data<'a>(alloc: Global) -> Arg<'a> {
         alloc,
         "data",
         "[NAME=]FILE",
-        "More data, a JSON object, or TOML where FILE ends in .toml: its members are added, or it stands under NAME; the later wins",
+        "More data, a JSON object, or TOML where FILE ends in .toml: its members are added, \
+         or it stands under NAME; the later wins",
     )
     .short('d')
     .action(ArgAction::Append)
@@ -49,7 +50,8 @@ pub(crate) fn partials<'a>(alloc: Global) -> Arg<'a> {
         alloc,
         "partials",
         "DIR|NAME=FILE",
-        "Partials: the files below DIR by their paths, also without their suffix, or one FILE by NAME; the later wins",
+        "Partials: the files below DIR by their paths, also without their suffix, \
+         or one FILE by NAME; the later wins",
     )
     .short('p')
     .action(ArgAction::Append)
@@ -80,7 +82,8 @@ pub(crate) fn file_pattern<'a>(alloc: Global) -> Arg<'a> {
         alloc,
         "out",
         "PATTERN",
-        "A template of the name of a record's file, as 'mails/{{ id }}.eml'; without it pages go to standard output",
+        "A template of the name of a record's file, as 'mails/{{ id }}.eml'; \
+         without it pages go to standard output",
     )
     .short('o')
 }
