@@ -6,7 +6,7 @@ use Rattle.liquid_model.specs.Texts.{Text}
 use Rattle.liquid_model.specs.UseViews.{uses_view}
 use Rattle.liquid_model.specs.View.{pairs_view}
 use Rattle.liquid_model.proofs.Alike.{alike_same}
-use Rattle.liquid_core.specs.FilterAnswers.{FilterAnswer}
+use Rattle.liquid_filter_base.specs.FilterAnswers.{FilterAnswer}
 use Rattle.liquid_core.specs.Held.{Outer, map_of}
 use Rattle.liquid_core.specs.Hosts.{no_host}
 use Rattle.liquid_evaluation.specs.Tree.{Nodes}

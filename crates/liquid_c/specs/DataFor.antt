@@ -7,7 +7,7 @@ use Rattle.liquid_model.specs.Skipping.{AlikeKeys}
 use Rattle.liquid_model.specs.Texts.{Text}
 use Rattle.liquid_model.specs.UseViews.{uses_view}
 use Rattle.liquid_model.specs.View.{pairs_view}
-use Rattle.liquid_core.specs.FilterAnswers.{FilterAnswer}
+use Rattle.liquid_filter_base.specs.FilterAnswers.{FilterAnswer}
 use Rattle.liquid_core.specs.Held.{map_of}
 use Rattle.liquid_evaluation.specs.Tree.{Nodes}
 use Rattle.liquid_json.specs.Json.{data_of}

@@ -4,8 +4,8 @@ use crate::paths::{Paths, checked_paths};
 use crate::print::{Counts, print_counts, print_file};
 use liquid_command_files::{Stop, read_data};
 use liquid_commands::CheckCall;
-use liquid_core::Object;
 use liquid_language::Language;
+use liquid_model::Object;
 use liquid_warnings::{Given, Warnings, warnings_of};
 use std::alloc::Global;
 

@@ -2,9 +2,9 @@
 use crate::paths::CheckedPath;
 use liquid_check::{Finding, Findings, findings_of};
 use liquid_command_files::{Stop, bytes_at, called, text_of};
-use liquid_core::Result as Answer;
 use liquid_excerpts::Reason;
 use liquid_language::Language;
+use liquid_model::Result as Answer;
 use liquid_syntax::Template;
 use liquid_warnings::CheckedFile;
 use std::alloc::{AllocError, Global};

@@ -2,9 +2,9 @@
 use crate::files::Checked;
 use liquid_check::{MOST_FINDINGS, remarks_of};
 use liquid_command_files::{Stop, print_text};
-use liquid_core::{Location, Origin};
 use liquid_diagnostics::{Diagnostic, DiagnosticFormat, diagnostic_line};
 use liquid_excerpts::{Excerpt, ShownPath};
+use liquid_model::{Location, Origin};
 use liquid_warnings::Remark;
 use std::fmt::Write;
 

@@ -4,7 +4,7 @@ use crate::forms::{added, data_of_file, form_of, with_time};
 use crate::input::{called, text_at};
 use crate::stop::Stop;
 use liquid_commands::{DataFile, Forms, is_yaml};
-use liquid_core::Object;
+use liquid_model::Object;
 
 /// The data of all files: the members of each, or its object under its name; the later wins. The
 /// name `now` is given last. A fault of a file is printed.

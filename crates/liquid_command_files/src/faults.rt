@@ -1,6 +1,6 @@
 //! What is printed of a fault in a text.
-use liquid_core::Error;
 use liquid_excerpts::{Excerpt, ShownFault, ShownPath};
+use liquid_model::Error;
 
 /// Prints a fault in one line, and the line of the text that it is in. What standard error refuses
 /// is lost.

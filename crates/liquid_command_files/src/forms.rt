@@ -9,8 +9,8 @@ ghost use Rattle.liquid_command_files.specs.Stops.{IsTimeRefused};
 
 use crate::stop::Stop;
 use liquid_commands::{Forms, is_toml};
-use liquid_core::{Object, Result};
 use liquid_data_forms::{DataForm, data_in_form, in_form, with_members, with_named, with_now};
+use liquid_model::{Object, Result};
 use liquid_toml::data_from_toml;
 use std::alloc::Global;
 

@@ -7,8 +7,8 @@ use crate::faults::print_excerpt;
 use crate::folder::files_below;
 use crate::input::{called, text_at};
 use crate::stop::Stop;
-use liquid_core::{Error, Location, Origin};
 use liquid_excerpts::ShownPath;
+use liquid_model::{Error, Location, Origin};
 use liquid_partial_names::{PartialNames, joined_path, named_file};
 
 /// A text, and the path that it is from.

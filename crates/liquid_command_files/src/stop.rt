@@ -5,8 +5,8 @@ ghost use Rattle.liquid_command_files.specs.Stops.{IsNotWritten, RanOutOfMemory,
 ghost use Rattle.liquid_command_files.specs.declared.stop.Stop.TheVariants.{Fault};
 
 use liquid_commands::{Gap, WordFault};
-use liquid_core::Error;
 use liquid_excerpts::{Reason, ShownFault, ShownPath, reason_words, system_words};
+use liquid_model::Error;
 use std::alloc::{AllocError, AllocFailed, Global};
 use std::{fmt, io};
 

@@ -5,7 +5,6 @@ pub mod Environment
 pub mod Expression
 pub mod ExpressionView
 pub mod Expressions
-pub mod FilterAnswers
 pub mod Held
 pub mod Hosts
 pub mod Laws

@@ -4,7 +4,6 @@
 
 mod append_written;
 mod expression;
-mod filter;
 mod foreign_name;
 mod frame;
 mod frame_names;
@@ -21,10 +20,10 @@ mod step_kind;
 mod written;
 
 pub use expression::{Expression, Variable};
-pub use filter::Filter;
 pub use frame::{Columns, Items, LoopFrame, LoopKind, Scope};
 pub use host_filters::{HostFilters, NamedFilters};
 pub use interrupt::Interrupt;
+pub use liquid_filter_base::Filter;
 pub use liquid_model::{
     Error, ErrorKind, Found, ItemUse, Location, Object, Origin, Quoted, Result, Use, Uses, Value,
     ValueCow, copy_items, excerpt, line_of, look_up, member_of, store, whole_of,

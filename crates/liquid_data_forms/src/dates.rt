@@ -5,7 +5,7 @@ ghost use Rattle.liquid_model.specs.View.{view, items_view, pairs_view};
 ghost use Rattle.liquid_data_forms.specs.Dates as spec;
 
 use crate::instant::date_spelling;
-use liquid_core::{Object, Result, Value};
+use liquid_model::{Object, Result, Value};
 use std::alloc::Global;
 use std::collections::BTreeMap;
 

@@ -7,8 +7,8 @@ ghost use Rattle.liquid_data_forms.specs.Decimals.{spelled_data};
 
 use crate::reader::{MAX_DEPTH, NoValue, read};
 use json::{Reader, Scratch};
-use liquid_core::{Object, Result, Value};
 use liquid_json::data_from_json;
+use liquid_model::{Object, Result, Value};
 use std::alloc::{AllocError, Global};
 
 /// The data that a text of JSON gives, where a number that isn't whole, or is past 64 bits, is the

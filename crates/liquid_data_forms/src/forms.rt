@@ -10,8 +10,8 @@ ghost use Rattle.liquid_data_forms.specs.Forms.{with_now};
 use crate::dates::dated;
 use crate::decimals::data_with_decimals;
 use crate::instant::date_spelling;
-use liquid_core::{Object, Result, Value, store};
 use liquid_json::data_from_json;
+use liquid_model::{Object, Result, Value, store};
 use std::alloc::Global;
 
 /// How data is read.

@@ -6,8 +6,8 @@ ghost use Rattle.liquid_model.specs.Answer.{IsValueOrMemory};
 ghost use Rattle.liquid_data_forms.specs.Instants as spec;
 ghost use Rattle.liquid_data_forms.specs.Instants.{cut_view};
 
-use liquid_core::Result;
 use liquid_date_filters::read_date;
+use liquid_model::Result;
 use std::alloc::Global;
 
 /// The spelling that the filter `date` reads, of a text that is a day or an instant of ISO 8601:

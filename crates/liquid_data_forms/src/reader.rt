@@ -8,7 +8,7 @@ ghost use Rattle.liquid_data_forms.specs.declared.reader.NoValue.TheVariants.{Me
 
 use crate::whole::integer_of;
 use json::{Invalid, Reader, Token};
-use liquid_core::{Object, Value};
+use liquid_model::{Object, Value};
 use std::alloc::{AllocError, AllocFailed, Global};
 use std::collections::BTreeMap;
 

@@ -9,7 +9,7 @@ ghost use Rattle.liquid_data_paths.specs.DataPaths.{of_each_item, of_found, valu
 ghost use Rattle.liquid_data_paths.specs.DataPaths.{values_at_path};
 ghost use Rattle.liquid_data_paths.specs.Views.{lack_view, values_view};
 
-use liquid_core::{Object, Result, Value, look_up};
+use liquid_model::{Object, Result, Value, look_up};
 use std::alloc::{AllocError, Global};
 
 /// A step of a path in data.

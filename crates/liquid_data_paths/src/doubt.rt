@@ -10,8 +10,8 @@ ghost use Rattle.liquid_data_paths.specs.Doubts.{items_doubt, passes_end, span_d
 ghost use Rattle.liquid_data_paths.specs.Doubts.{unlisted_doubt, value_doubt};
 
 use crate::data_path::{DataPath, Lack, lacking, values_at};
-use liquid_core::{Object, Result, Value};
 use liquid_date_filters::read_date;
+use liquid_model::{Object, Result, Value};
 use std::alloc::Global;
 
 /// What is wanted of the values at a path.

@@ -19,7 +19,7 @@ use jiff_core::error::Part;
 use jiff_core::{Offset, Timestamp};
 use jiff_strtime::{BrokenDownTime, Config, Meridiem};
 use jiff_tz::TimeZone;
-use liquid_core::{Error, ErrorKind, Quoted, Result, Value};
+use liquid_model::{Error, ErrorKind, Quoted, Result, Value};
 use std::alloc::Global;
 
 /// The text of a date, at its offset, by a pattern: `DateFormat` where the pattern is refused.

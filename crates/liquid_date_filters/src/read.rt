@@ -10,7 +10,7 @@ use crate::spelling::{Day, Offset, Spelled, Time, read_spelled};
 use jiff::tz::{Offset as FixedOffset, TimeZone};
 use jiff::{Timestamp, Zoned};
 use jiff_core::civil;
-use liquid_core::{Result, Value};
+use liquid_model::{Result, Value};
 
 /// The date that a text is, or none where it is no date: the whole text in one of the two
 /// spellings, as `13 Jun 2016 02:30:00 +0300` or `2016-06-13 02:30:00 +0300`, in the years 0001 to

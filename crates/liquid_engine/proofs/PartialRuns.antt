@@ -27,7 +27,7 @@ use Rattle.liquid_meaning.specs.Runs as runs
 use Rattle.liquid_meaning.specs.Runs.{Nothing, Outcome, Run, apart, done, evaluate, fault, go_on, with_scope}
 use Rattle.liquid_meaning.specs.Within.{Within}
 use Rattle.liquid_meaning.proofs.Rules.{include_rule, jekyll_rule, render_rule}
-use Rattle.liquid_core.specs.FilterAnswers.{FilterAnswer}
+use Rattle.liquid_filter_base.specs.FilterAnswers.{FilterAnswer}
 use Rattle.liquid_evaluation.specs.Evaluation.{answers_with}
 use Rattle.liquid_engine.specs.declared.context.RunContext.{RunContext}
 use Rattle.liquid_engine.specs.inside.Engine.{nodes_meant, setting_of}

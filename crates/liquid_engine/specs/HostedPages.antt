@@ -6,7 +6,7 @@ use Rattle.liquid_model.specs.Texts.{Text}
 use Rattle.liquid_model.specs.Data.{Datum}
 use Rattle.liquid_model.specs.ErrorKinds.{is_memory}
 use Rattle.liquid_model.specs.Maps.{Map}
-use Rattle.liquid_core.specs.FilterAnswers.{FilterAnswer}
+use Rattle.liquid_filter_base.specs.FilterAnswers.{FilterAnswer}
 use Rattle.liquid_evaluation.specs.Evaluation.{answers_with}
 use Rattle.liquid_evaluation.specs.Tree.{Nodes}
 use Rattle.liquid_meaning.specs.Meaning.{Setting, meaning}

@@ -15,7 +15,7 @@ use Rattle.liquid_model.specs.Fallible.{◌>>=◌}
 use Rattle.liquid_core.specs.Expression as tree
 use Rattle.liquid_core.specs.Environment.{Environment}
 use Rattle.liquid_core.specs.Expressions.{value_of, required, all_required}
-use Rattle.liquid_core.specs.FilterAnswers.{AnswersIf}
+use Rattle.liquid_filter_base.specs.FilterAnswers.{AnswersIf}
 use Rattle.liquid_core.specs.DirectValues.{DirectlyIs}
 use Rattle.liquid_core.specs.declared.resolved.DirectValue.{DirectValue}
 use Rattle.liquid_core.specs.declared.resolved.DirectValue.TheVariants.{Held, Number, Truth, Loop, Nothing, Unknown}

@@ -23,7 +23,7 @@ use Rattle.liquid_model.specs.Fallible.{◌>>=◌}
 use Rattle.liquid_core.specs.Expression.{Expression}
 use Rattle.liquid_core.specs.Environment.{Environment}
 use Rattle.liquid_core.specs.Expressions.{value_of, required, needed_whole}
-use Rattle.liquid_core.specs.FilterAnswers.{FilterAnswer}
+use Rattle.liquid_filter_base.specs.FilterAnswers.{FilterAnswer}
 use Rattle.liquid_filters.specs.Kinds.{kind_answer}
 use Rattle.liquid_evaluation.specs.declared.comparison.ComparisonOperator.{ComparisonOperator}
 use Rattle.liquid_evaluation.specs.declared.comparison.ComparisonOperator.TheVariants.{Equals}

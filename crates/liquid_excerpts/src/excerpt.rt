@@ -5,7 +5,7 @@ ghost use Rattle.std.specs.Str.{trim_end};
 ghost use Rattle.liquid_excerpts.specs.Lines.{IsUnmarked, ShowsLine, excerpt_line, line_numbered};
 ghost use Rattle.liquid_excerpts.specs.Lines.{lines_in};
 
-use liquid_core::Location;
+use liquid_model::Location;
 use std::fmt;
 use unicode_width::UnicodeWidthChar;
 

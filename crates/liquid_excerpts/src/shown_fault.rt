@@ -2,7 +2,7 @@
 ghost use Rattle.std.specs.Prelude.{Some};
 ghost use Rattle.liquid_excerpts.specs.Faults.{shown_fault};
 
-use liquid_core::{Error, ErrorKind};
+use liquid_model::{Error, ErrorKind};
 use std::fmt;
 
 /// A fault as a message shows it: `out of memory` where memory ran out, and else its kind, its

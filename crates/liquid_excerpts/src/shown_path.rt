@@ -3,7 +3,7 @@ ghost use Rattle.std.specs.Prelude.{◌≡◌, Some};
 ghost use Rattle.std.specs.List.{list_all};
 ghost use Rattle.liquid_excerpts.specs.Paths.{is_printable, prints, shown_path};
 
-use liquid_core::Quoted;
+use liquid_model::Quoted;
 use std::fmt;
 use std::fmt::{Formatter, Write};
 

@@ -2,7 +2,8 @@
 use liquid_language::{
     Block, BlockContext, BlockKind, Control, Language, Role, body_after, role_of,
 };
-use liquid_lexer::{ParseError, Piece, past_byte, read_body, read_markup, text_before};
+use liquid_lexer::{ParseError, Piece, read_body, read_markup, text_before};
+use liquid_words::past_byte;
 use std::alloc::{AllocError, Global};
 
 /// The `else` of a block.

@@ -8,7 +8,7 @@ ghost use Rattle.liquid_model.specs.View.{view};
 ghost use Rattle.liquid_filter_base.specs.Arguments.{whole_or_fault};
 
 use crate::fault::invalid_argument;
-use liquid_core::{Result, Value};
+use liquid_model::{Result, Value};
 use std::alloc::Global;
 use std::borrow::CowStr;
 

@@ -8,7 +8,7 @@ ghost use Rattle.liquid_model.specs.declared.error.ErrorKind.TheVariants.{Invali
 ghost use Rattle.liquid_model.specs.declared.error.ErrorKind.TheVariants.{InvalidInput};
 ghost use Rattle.liquid_filter_base.specs.Faults.{found_name, must_be};
 
-use liquid_core::{Error, ErrorKind, Quoted, Value};
+use liquid_model::{Error, ErrorKind, Quoted, Value};
 use std::alloc::Global;
 use std::fmt;
 use std::fmt::{Formatter, Write};

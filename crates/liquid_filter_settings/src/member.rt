@@ -5,7 +5,7 @@ ghost use Rattle.liquid_model.specs.View.{pairs_view, view};
 ghost use Rattle.liquid_filter_settings.specs.Settings.{member_text, or_empty, setting_text};
 ghost use Rattle.liquid_filter_settings.specs.Settings.{found_setting_text, text_in};
 
-use liquid_core::{Object, Value, look_up};
+use liquid_model::{Object, Value, look_up};
 
 /// The text at a name of the map at another. It takes no memory.
 pub(crate) fn member_text<'d>(data: &'d Object, map: &str, name: &str) -> Option<&'d str>

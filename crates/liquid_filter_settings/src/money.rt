@@ -4,7 +4,7 @@ ghost use Rattle.liquid_filter_settings.specs.MoneyFormats.{ClosesNone, ClosesPl
 ghost use Rattle.liquid_filter_settings.specs.MoneyFormats.{IsMadeOf, IsMoneyFormat};
 ghost use Rattle.liquid_filter_settings.specs.MoneyFormats.{IsNoMoneyFormat, WritesAmounts};
 
-use liquid_core::{ErrorKind, Result};
+use liquid_model::{ErrorKind, Result};
 use liquid_shopify_host_filters::{MoneyFormat, MoneyStyle};
 use std::alloc::{AllocError, Global};
 

@@ -10,7 +10,7 @@ ghost use Rattle.liquid_filter_settings.specs.Views.{texts_view};
 
 use crate::member::{member_text, or_empty, own_text};
 use crate::money::money_format;
-use liquid_core::{ErrorKind, Object, Result, Value, look_up};
+use liquid_model::{ErrorKind, Object, Result, Value, look_up};
 use liquid_shopify_host_filters::Shop;
 use std::alloc::{AllocError, Global};
 

@@ -4,7 +4,7 @@ ghost use Rattle.liquid_model.specs.View.{pairs_view};
 ghost use Rattle.liquid_filter_settings.specs.Settings.{member_or_empty};
 
 use crate::member::{member_text, or_empty};
-use liquid_core::Object;
+use liquid_model::Object;
 
 /// Where a site is.
 #[derive(Clone, Copy)]

@@ -3,7 +3,7 @@ ghost use Rattle.std.specs.Prelude.{◌≡◌};
 ghost use Rattle.liquid_folder.specs.Stops.{failure_status};
 
 use crate::stop::FolderStop;
-use liquid_core::Error;
+use liquid_model::Error;
 use std::fmt;
 
 /// Why the program fails. Only a wrong call has a status of its own: no round has it.

@@ -5,7 +5,7 @@ use crate::changes::{Line, Listing, all_files, line_of};
 use crate::files::{SystemFiles, reason_of};
 use crate::stop::FolderStop;
 use crate::tell::tell_round;
-use liquid_core::Quoted;
+use liquid_model::Quoted;
 use liquid_site_files::{Changed, Disk, DiskFault, Folder, Site, round, site_of};
 use std::alloc::AllocError;
 use std::fs;

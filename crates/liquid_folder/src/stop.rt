@@ -4,8 +4,8 @@ ghost use Rattle.std.specs.declared.io.ErrorKind.TheVariants.{OutOfMemory};
 ghost use Rattle.liquid_folder.specs.Stops.{HasReason, IsInput, IsInside, IsMissing, IsUnreadable};
 ghost use Rattle.liquid_folder.specs.Stops.{IsMemoryStop};
 
-use liquid_core::Error;
 use liquid_excerpts::{Reason, ShownFault, ShownPath, system_words};
+use liquid_model::Error;
 use std::alloc::{AllocError, AllocFailed, Global};
 use std::{fmt, io};
 

@@ -15,10 +15,10 @@ ghost use Rattle.liquid_jekyll_host_filters.specs.Dates.{form_given, form_of, fo
 ghost use Rattle.liquid_jekyll_host_filters.specs.Dates.{has_date, in_form, ordinal, printed_by};
 ghost use Rattle.liquid_jekyll_host_filters.specs.Dates.{says, spelled_date, text_has_date};
 
-use liquid_core::{Error, Filter, Result, Value};
 use liquid_date_filters::read_date;
 use liquid_date_filters::stdlib::Date;
-use liquid_filter_base::invalid_input;
+use liquid_filter_base::{Filter, invalid_input};
+use liquid_model::{Error, Result, Value};
 use std::alloc::Global;
 use std::slice;
 

@@ -6,7 +6,7 @@ ghost use Rattle.liquid_model.specs.Answer.{IsValueOrMemory};
 ghost use Rattle.liquid_jekyll_host_filters.specs.Escapes.{mark_escape, escaped, is_marked};
 ghost use Rattle.liquid_jekyll_host_filters.specs.Escapes.{number_escape};
 
-use liquid_core::Result;
+use liquid_model::Result;
 
 /// Which bytes are marked, and how they are escaped.
 #[derive(Clone, Copy)]

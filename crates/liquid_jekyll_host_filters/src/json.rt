@@ -6,7 +6,8 @@ ghost use Rattle.liquid_jekyll_host_filters.specs.Json.{json_list, json_map, jso
 ghost use Rattle.liquid_jekyll_host_filters.specs.Json.{jsonify_answer, json_quoted};
 
 use crate::escapes::{Marks, push_escaped};
-use liquid_core::{Filter, Object, Result, Value};
+use liquid_filter_base::Filter;
+use liquid_model::{Object, Result, Value};
 use std::alloc::Global;
 
 /// `jsonify`: the input as JSON without spaces, the keys of a map in the order of their bytes.

@@ -5,7 +5,7 @@ ghost use Rattle.liquid_jekyll_host_filters.specs.Urls.{begins_digits, in_place,
 ghost use Rattle.liquid_jekyll_host_filters.specs.Urls.{url_escaped_as};
 ghost use Rattle.liquid_jekyll_host_filters.specs.inside.Sets.{set_of};
 
-use liquid_core::Result;
+use liquid_model::Result;
 use percent_encoding::{AsciiSet, NON_ALPHANUMERIC, percent_encode};
 
 /// The bytes that have no place in the value of a form.

@@ -4,7 +4,7 @@ ghost use Rattle.liquid_model.specs.View.{view};
 ghost use Rattle.liquid_jekyll_host_filters.specs.Properties.{map_member, found_or_nil};
 ghost use Rattle.liquid_jekyll_host_filters.specs.Properties.{dotted_property};
 
-use liquid_core::{Value, look_up};
+use liquid_model::{Value, look_up};
 
 /// What the value has along the property, whose names are parted by `.`; none is nil. It takes no
 /// memory.

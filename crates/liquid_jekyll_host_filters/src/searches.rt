@@ -14,8 +14,8 @@ ghost use Rattle.liquid_jekyll_host_filters.specs.Searches.{jekyll_where_by};
 
 use crate::properties::property;
 use itoa::Buffer;
-use liquid_core::{Filter, Object, Result, Value};
-use liquid_filter_base::text_of;
+use liquid_filter_base::{Filter, text_of};
+use liquid_model::{Object, Result, Value};
 use std::alloc::Global;
 
 /// `where`: the items of a list, or the values of a map, whose property is the target, or is a list

@@ -9,8 +9,8 @@ ghost use Rattle.liquid_jekyll_host_filters.specs.Sentence.{with_commas, sentenc
 ghost use Rattle.liquid_jekyll_host_filters.specs.Sentence.{jekyll_sentence};
 ghost use Rattle.liquid_jekyll_host_filters.specs.Sentence.{jekyll_sentence_with, two_texts_joined};
 
-use liquid_core::{Filter, Result, Value};
-use liquid_filter_base::{invalid_input, text_of};
+use liquid_filter_base::{Filter, invalid_input, text_of};
+use liquid_model::{Result, Value};
 use std::alloc::Global;
 
 /// `array_to_sentence_string`: the texts of a list's items as `a`, `a and b` or `a, b, and c`, with

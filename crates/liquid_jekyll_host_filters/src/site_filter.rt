@@ -15,7 +15,8 @@ use crate::sentence::ArrayToSentenceString;
 use crate::texts::{CgiEscape, UriEscape, XmlEscape};
 use crate::urls::site_url;
 use crate::words::{NormalizeWhitespace, NumberOfWords};
-use liquid_core::{Filter, Result, Value};
+use liquid_filter_base::Filter;
+use liquid_model::{Result, Value};
 use std::alloc::Global;
 
 /// The filters that Jekyll has beside Liquid's.

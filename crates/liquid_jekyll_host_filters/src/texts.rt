@@ -5,8 +5,8 @@ ghost use Rattle.liquid_jekyll_host_filters.specs.Urls.{cgi_escape_answer, uri_e
 
 use crate::escapes::{Marks, push_escaped};
 use crate::percent::{Escaping, push_url};
-use liquid_core::{Filter, Result, Value};
-use liquid_filter_base::text_of;
+use liquid_filter_base::{Filter, text_of};
+use liquid_model::{Result, Value};
 use std::alloc::Global;
 
 /// `xml_escape`: the input's text with `&quot;`, `&amp;`, `&apos;`, `&lt;` and `&gt;` for `"`, `&`,

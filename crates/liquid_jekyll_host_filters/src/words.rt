@@ -6,8 +6,8 @@ ghost use Rattle.liquid_model.specs.View.{view};
 ghost use Rattle.liquid_jekyll_host_filters.specs.Words.{normalize_whitespace_answer, normalized};
 ghost use Rattle.liquid_jekyll_host_filters.specs.Words.{number_of_words_answer, words};
 
-use liquid_core::{Filter, Result, Value};
-use liquid_filter_base::text_of;
+use liquid_filter_base::{Filter, text_of};
+use liquid_model::{Result, Value};
 use std::alloc::Global;
 
 /// `normalize_whitespace`: the words of the input's text with a space between each and the next.

@@ -4,9 +4,9 @@ use Rattle.std.specs.Option.{option_and_then}
 use Rattle.std.specs.Prelude.{slice_index}
 use Rattle.liquid_model.specs.Data.{Datum, text, number}
 use Rattle.liquid_model.specs.Whole.{whole_text}
-use Rattle.liquid_lexer.specs.Bytes.{is_letter, in_word, not_quote}
-use Rattle.liquid_lexer.specs.ValueReading.{literal_at, literal_by, integer_at, number_len, past_byte, quoted_at, run_len, until_quote, word_at}
-use Rattle.liquid_lexer.specs.Words.{passes, goes_on}
+use Rattle.liquid_words.specs.Bytes.{is_letter, in_word, not_quote}
+use Rattle.liquid_words.specs.WordReading.{literal_at, literal_by, integer_at, number_len, past_byte, quoted_at, run_len, until_quote, word_at}
+use Rattle.liquid_words.specs.Words.{passes, goes_on}
 use Rattle.liquid_jekyll_shopify_filters.specs.Path.{bracketed_at, closed, path_member, path_step, path_step_by, steps_in}
 
 -- what is left, if anything was read

@@ -2,8 +2,8 @@
 use Rattle.std.specs.Prelude.{ℕ, ℤ, List, [], ◌∷◌}
 use Rattle.liquid_model.specs.Data.{Datum, number, text}
 use Rattle.liquid_model.specs.Texts.{Text}
-use Rattle.liquid_lexer.specs.Bytes.{close_bracket, dot, open_bracket}
-use Rattle.liquid_lexer.specs.Words.{Number, Quoted, Word}
+use Rattle.liquid_words.specs.Bytes.{close_bracket, dot, open_bracket}
+use Rattle.liquid_words.specs.Words.{Number, Quoted, Word}
 
 -- bs begins with a text in quotes or a number, and rest follows it
 pub data IsLiteral : Datum → List ℕ → List ℕ → Type 0 where

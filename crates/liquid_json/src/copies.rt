@@ -6,7 +6,7 @@ ghost use Rattle.liquid_json.specs.PlainUses.{is_plain_use, plain_fields, plain_
 ghost use Rattle.liquid_json.specs.inside.Copies as spec;
 ghost use Rattle.liquid_json.specs.inside.Copies.{AsksMore, AskMore, ItemsAskMore};
 
-use liquid_core::{ErrorKind, ItemUse, Result, Use, Uses, whole_of};
+use liquid_model::{ErrorKind, ItemUse, Result, Use, Uses, whole_of};
 use std::alloc::Global;
 use std::collections::BTreeMap;
 

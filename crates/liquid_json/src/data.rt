@@ -13,7 +13,7 @@ use crate::copies::{any_by_place, plain_uses};
 use crate::place::{no_json, with_place};
 use crate::planned::data_from_planned;
 use crate::tokens::{MAX_DEPTH, data_from_tokens};
-use liquid_core::{Error, ErrorKind, Object, Result, Uses, Value};
+use liquid_model::{Error, ErrorKind, Object, Result, Uses, Value};
 use serde_json::Map;
 use std::alloc::{AllocError, Global};
 use std::collections::BTreeMap;

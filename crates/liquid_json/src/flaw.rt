@@ -1,5 +1,5 @@
 //! What is wrong at a place of the data, and the message that says it.
-use liquid_lexer::excerpt;
+use liquid_model::excerpt;
 use std::alloc::{AllocError, Global};
 
 /// What is wrong at a place of the data. In the words `…` stands for a text that is quoted as an

@@ -5,7 +5,7 @@ ghost use Rattle.liquid_model.specs.ErrorKinds.{IsKindOrMemory};
 use crate::flaw::{Flaw, message_of};
 use crate::grammar::first_flaw;
 use crate::scalars::number_flaw;
-use liquid_core::{Error, ErrorKind, Location, Origin};
+use liquid_model::{Error, ErrorKind, Location, Origin};
 use std::alloc::Global;
 
 /// The fault of a text that is no JSON, with where it stops being JSON.
@@ -60,7 +60,7 @@ fn no_object(text: &str) -> Flaw<'_> {
 
 /// The location of the place `remaining` bytes before the end of the data.
 fn location(text: &str, remaining: usize) -> Location {
-    let place = liquid_lexer::location(text, remaining);
+    let place = liquid_words::location(text, remaining);
     Location {
         origin: Origin::Data,
         line: place.line,

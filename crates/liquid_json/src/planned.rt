@@ -13,7 +13,7 @@ use crate::skip::{skip_items, skipped};
 use crate::tokens::{MAX_DEPTH, NoData, read, read_pairs};
 use crate::whole::integer_of;
 use json::{Reader, Scratch, Token};
-use liquid_core::{ItemUse, Object, Use, Uses, Value, member_of};
+use liquid_model::{ItemUse, Object, Use, Uses, Value, member_of};
 use std::alloc::{AllocError, Global};
 use std::collections::BTreeMap;
 

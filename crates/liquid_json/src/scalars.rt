@@ -1,7 +1,7 @@
 //! Numbers and words of the data, and what is wrong with one.
 use crate::flaw::Flaw;
 use json::is_number;
-use liquid_core::whole_of;
+use liquid_model::whole_of;
 
 /// Whether a number or a word goes on with it.
 pub fn is_in_word(sign: char) -> bool {

@@ -8,7 +8,7 @@ ghost use Rattle.liquid_json.specs.inside.Tokens.{datum_at, list_items_at, pairs
 
 use crate::whole::integer_of;
 use json::{Invalid, Reader, Scratch, Token};
-use liquid_core::{Object, Value};
+use liquid_model::{Object, Value};
 use std::alloc::{AllocError, AllocFailed, Global};
 use std::collections::BTreeMap;
 

@@ -6,7 +6,7 @@ ghost use Rattle.liquid_language.specs.Languages.{kinds_of};
 ghost use Rattle.liquid_language.specs.Registered.{registered_in};
 
 use crate::registered_filter::FilterRegistry;
-use liquid_core::Result;
+use liquid_model::Result;
 use std::alloc::Global;
 use std::collections::BTreeMap;
 use std::collections::btree_map::Keys;

@@ -7,8 +7,9 @@ ghost use Rattle.liquid_language.specs.declared.registered_filter.RegisteredFilt
 ghost use Rattle.liquid_language.specs.declared.registered_filter.RegisteredFilter.TheVariants.{Host};
 
 use crate::language::Registry;
-use liquid_core::{Filter, Result};
+use liquid_filter_base::Filter;
 use liquid_filters::FilterKind;
+use liquid_model::Result;
 use std::alloc::Global;
 use std::collections::btree_map::Keys;
 

@@ -12,4 +12,3 @@ pub mod SourceLaws
 pub mod SourceTurns
 pub mod StepTurns
 pub mod ValueLaws
-pub mod WordLaws

@@ -4,9 +4,10 @@ use Rattle.std.specs.Option.{option_and_then}
 use Rattle.std.proofs.lemmas.Bool.{eqb-true}
 use Rattle.std.proofs.lemmas.List.{take-append-drop, length-append}
 use Rattle.std.proofs.Math.Seq.{take-append_seam, drop-append_seam}
-use Rattle.liquid_lexer.specs.Bytes.{plain, opens}
-use Rattle.liquid_lexer.specs.Words.{IsRun, passes}
-use Rattle.liquid_lexer.specs.ValueReading.{run_len, past_byte, past_white, word_at, text_at}
+use Rattle.liquid_words.specs.Bytes.{plain, opens}
+use Rattle.liquid_words.specs.Words.{IsRun, passes}
+use Rattle.liquid_lexer.specs.ValueReading.{text_at}
+use Rattle.liquid_words.specs.WordReading.{run_len, past_byte, past_white, word_at}
 use Rattle.liquid_lexer.specs.Items.{Item, AreItems}
 use Rattle.liquid_lexer.specs.ItemReading.{items_at}
 use Rattle.liquid_lexer.specs.Openers.{opener, IsOpener}
@@ -16,7 +17,7 @@ use Rattle.liquid_lexer.specs.declared.item.Delimiter.{Delimiter}
 use Rattle.liquid_lexer.specs.declared.item.Delimiter.TheVariants.{Output, Tag}
 use Rattle.liquid_lexer.specs.declared.piece.Body.{Body}
 use Rattle.liquid_lexer.specs.declared.piece.Body.TheVariants.{Raw, Comment}
-use Rattle.liquid_lexer.proofs.WordLaws.{bind_some, map_some, from_some, byte_some, run_front, run_len_is, run_stops, blank_shorter, blank_takes, blank_again, word_takes, word_again, word_shorter}
+use Rattle.liquid_words.proofs.WordLaws.{bind_some, map_some, from_some, byte_some, run_front, run_len_is, run_stops, blank_shorter, blank_takes, blank_again, word_takes, word_again, word_shorter}
 use Rattle.liquid_lexer.proofs.ItemLaws.{items_takes, items_again, items_shorter}
 use Rattle.liquid_lexer.proofs.MarkLaws.{dash_takes, opener_again, opener_shorter, raw_takes, raw_again, raw_shorter}
 use Rattle.liquid_lexer.proofs.CommentLaws.{comment_takes, comment_again, comment_shorter}

@@ -3,13 +3,14 @@ use Rattle.std.proofs.Common.{◌≡◌, ℕ, zero, suc, ◌-◌, ◌<◌, ◌�
 use Rattle.std.specs.Option.{option_and_then}
 use Rattle.std.proofs.lemmas.List.{take-append-drop, length-append}
 use Rattle.std.proofs.lemmas.Option.{none-some}
-use Rattle.liquid_lexer.specs.Bytes.{plain}
-use Rattle.liquid_lexer.specs.Words.{passes}
-use Rattle.liquid_lexer.specs.ValueReading.{run_len, past_byte, text_at}
+use Rattle.liquid_words.specs.Bytes.{plain}
+use Rattle.liquid_words.specs.Words.{passes}
+use Rattle.liquid_lexer.specs.ValueReading.{text_at}
+use Rattle.liquid_words.specs.WordReading.{run_len, past_byte}
 use Rattle.liquid_lexer.specs.Pieces.{Piece, stripped}
 use Rattle.liquid_lexer.specs.SourceReading.{Markup, markup_at, body_at, wanted_body, text_step, Goes, marked, turn, source_at}
 use Rattle.liquid_lexer.specs.declared.piece.Body.{Body}
-use Rattle.liquid_lexer.proofs.WordLaws.{byte_some, byte_again, run_stops}
+use Rattle.liquid_words.proofs.WordLaws.{byte_some, byte_again, run_stops}
 use Rattle.liquid_lexer.proofs.SourceLaws.{not_plain, body_takes, markup_shorter}
 
 nothing_after : (following : List ℕ) → passes plain following ≡ false → past_byte 123 following ≡ None → following ≡ []

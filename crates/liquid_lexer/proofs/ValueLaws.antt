@@ -1,17 +1,17 @@
 -- What is read as a value stands in the grammar, and what stands in the grammar is read.
-use Rattle.std.proofs.Common.{◌≡◌, ℕ, ℤ, zero, suc, ◌-◌, ◌<◌, ◌≤◌, List, [], ◌∷◌, ◌++◌, length, get_or, eqb, Bool, true, false, ◌||◌, ◌&&◌, ◌⊎◌, inl, inr, cond, subst, sym, ap, ◌∙◌, arith, refl, Option, Some, None}
+use Rattle.std.proofs.Common.{◌≡◌, ℕ, zero, suc, ◌-◌, ◌<◌, ◌≤◌, List, [], ◌∷◌, ◌++◌, length, get_or, eqb, Bool, true, false, ◌||◌, ◌&&◌, ◌⊎◌, inl, inr, cond, subst, sym, ap, ◌∙◌, arith, refl, Option, Some, None}
 use Rattle.std.specs.Option.{option_map}
 use Rattle.liquid_model.specs.Data.{Datum, text}
 use Rattle.liquid_core.specs.Expression.{Expression, literal, Steps, step}
-use Rattle.liquid_lexer.specs.Bytes.{is_letter, is_digit, in_word}
-use Rattle.liquid_lexer.specs.Words.{passes, Blank, Word, Quoted, Number}
+use Rattle.liquid_words.specs.Bytes.{is_letter, is_digit, in_word}
+use Rattle.liquid_words.specs.Words.{passes, Blank, Word, Quoted}
 use Rattle.liquid_lexer.specs.Values.{WordKind, name, constant, state, word_kind, dotted, step_begins, IsValue, is_text, is_number, is_constant, is_variable, AreSteps, no_step, is_member, is_index}
-use Rattle.liquid_lexer.specs.ValueReading.{Reads, past_white, past_byte, word_at, quoted_at, integer_at, literal_by, literal_at, member_at, index_at, step_by, step_at, more_steps, steps_at, word_value, value_by, expression_at, inner_of}
-use Rattle.liquid_lexer.proofs.WordLaws.{opens_value, bind_some, map_some, guard_none, from_some, blank_takes, blank_again, word_takes, word_again, quoted_takes, quoted_again, number_takes, number_again, number_front, byte_some, blank_shorter, word_shorter, quoted_shorter, number_shorter, either}
+use Rattle.liquid_lexer.specs.ValueReading.{member_at, index_at, step_by, step_at, more_steps, steps_at, word_value, value_by, expression_at, inner_of}
+use Rattle.liquid_words.specs.WordReading.{Reads, past_white, past_byte, word_at, quoted_at, integer_at, literal_by, literal_at}
+use Rattle.liquid_words.proofs.WordLaws.{opens_value, bind_some, map_some, guard_none, from_some, blank_takes, blank_again, word_takes, word_again, quoted_takes, quoted_again, number_takes, number_again, number_front, byte_some, blank_shorter, word_shorter, quoted_shorter, number_shorter, number_no_quote, number_no_word, either}
 use Rattle.std.proofs.lemmas.List.{length-append}
-use Rattle.std.proofs.lemmas.Bool.{eqb-true, ne_eqb, or_left, or_right, or_from, or_parts, false_from_ne_true}
+use Rattle.std.proofs.lemmas.Bool.{ne_eqb, or_left, or_right, or_from, or_parts}
 use Rattle.std.proofs.Common.{append_assoc}
-use Rattle.std.proofs.lemmas.Bool.Decides.{nat_tests}
 
 mutual
   pub value_shorter : {d : ℕ} {x : Expression} {bs rest : List ℕ} → IsValue d x bs rest → length rest ≤ length bs
@@ -157,34 +157,6 @@ no_word : (s bs rest : List ℕ) → Quoted s bs rest → word_at bs ≡ None
 unfolding word_at
 no_word s bs rest h =
     let e : is_letter (get_or bs 0 0) ≡ false = ap (λ (l : List ℕ). is_letter (get_or l 0 0)) h.joined ∙ no_letter h.quote h.double_or_single in rw e
-
-letter_high : (b : ℕ) → is_letter b ≡ true → 65 ≤ b
-letter_high b h = grind (arith, nat_tests)
-
-digit_high : (b : ℕ) → is_digit b [] ≡ true → b ≤ 57
-digit_high b h = grind (arith, nat_tests)
-
-digit_low : (b : ℕ) → is_digit b [] ≡ true → 43 ≤ b
-digit_low b h = grind (arith, nat_tests)
-
-numeric : (b : ℕ) → (is_digit b [] || (eqb b 43 || eqb b 45)) ≡ true → (43 ≤ b) × (b ≤ 57)
-numeric b h = elim (either (is_digit b []) (eqb b 43 || eqb b 45) h) [
-  | inl e ↦ (digit_low b e, digit_high b e)
-  | inr e ↦ elim (either (eqb b 43) (eqb b 45) e) [ inl e ↦ let f = eqb-true b 43 e in (omega (arith, f), omega (arith, f)) | inr e ↦ let f = eqb-true b 45 e in (omega (arith, f), omega (arith, f)) ]
-]
-
-number_no_word : (n : ℤ) (bs rest : List ℕ) → Number n bs rest → word_at bs ≡ None
-unfolding word_at
-number_no_word n bs rest h =
-    let r = numeric (get_or bs 0 0) (number_front n bs rest h) in
-    let e : is_letter (get_or bs 0 0) ≡ false = false_from_ne_true _ (λ l. omega (arith, r.0, r.1, letter_high (get_or bs 0 0) l)) in rw e
-
-pub number_no_quote : (n : ℤ) (bs rest : List ℕ) → Number n bs rest → quoted_at bs ≡ None
-unfolding quoted_at
-number_no_quote n [] rest h = refl
-number_no_quote n (b ∷ bs) rest h =
-    let r = numeric b (number_front n (b ∷ bs) rest h) in
-    rw (ne_eqb b 34 (λ e. omega (arith, e, r.0)), ne_eqb b 39 (λ e. omega (arith, e, r.0)))
 
 mutual
   unfolding steps_at inner_of expression_at literal_at

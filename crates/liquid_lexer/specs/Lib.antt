@@ -1,4 +1,3 @@
-pub mod Bytes
 pub mod ItemReading
 pub mod Items
 pub mod Openers
@@ -12,5 +11,4 @@ pub mod Tokens
 pub mod ValueReading
 pub mod Values
 pub mod Verbatim
-pub mod Words
 pub mod inside

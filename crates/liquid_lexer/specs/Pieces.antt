@@ -1,8 +1,9 @@
 -- The written grammar of a source: texts and, between them, outputs and tags.
 use Rattle.std.specs.Prelude.{ℕ, List, [], ◌∷◌, ◌++◌, Bool, true, false}
-use Rattle.liquid_lexer.specs.Bytes.{plain, open_brace}
-use Rattle.liquid_lexer.specs.Words.{IsRun, Blank, Word}
-use Rattle.liquid_lexer.specs.ValueReading.{past_white, without_trailing_white}
+use Rattle.liquid_words.specs.Bytes.{plain, open_brace}
+use Rattle.liquid_words.specs.Words.{IsRun, Blank, Word}
+use Rattle.liquid_lexer.specs.ValueReading.{without_trailing_white}
+use Rattle.liquid_words.specs.WordReading.{past_white}
 use Rattle.liquid_lexer.specs.Items.{Item, AreItems}
 use Rattle.liquid_lexer.specs.Openers.{IsOpener}
 use Rattle.liquid_lexer.specs.Verbatim.{IsRaw, IsComment}

@@ -5,7 +5,7 @@ ghost use Rattle.liquid_lexer.specs.Readers.{kind_of};
 ghost use Rattle.liquid_lexer.specs.declared.fault.ParseError.TheVariants.{Memory};
 
 use crate::expectation::Expectation;
-use liquid_core::ErrorKind;
+use liquid_model::ErrorKind;
 use std::alloc::{AllocError, AllocFailed};
 
 /// What kind of fault a source has.

@@ -7,12 +7,13 @@ ghost use Rattle.liquid_lexer.specs.ItemReading.{items_at};
 ghost use Rattle.liquid_lexer.specs.Readers.{Parses};
 ghost use Rattle.liquid_lexer.specs.PieceView.{item_view, lexed_items_view};
 
-use crate::cut::{before, past_byte, past_white};
+use crate::cut::before;
 use crate::expectation::Expectation;
 use crate::fault::{Fault, FaultKind, ParseError};
 use crate::symbol::{Symbol, read_symbol};
 use crate::value::{read_value, unexpected};
 use liquid_core::Expression;
+use liquid_words::{past_byte, past_white};
 use std::alloc::Global;
 use std::collections::VecDeque;
 

@@ -6,12 +6,13 @@ ghost use Rattle.liquid_lexer.specs.SourceReading.{body_at};
 ghost use Rattle.liquid_lexer.specs.Readers.{Parses};
 ghost use Rattle.liquid_lexer.specs.PieceView.{piece_view, markup_view};
 
-use crate::cut::{past_byte, past_white, stripped, word};
+use crate::cut::stripped;
 use crate::expectation::Expectation;
 use crate::fault::{Fault, FaultKind, ParseError};
 use crate::item::{Delimiter, Item, read_items};
 use crate::mark::{read_comment, read_raw, skip_dash};
 use crate::value::unexpected;
+use liquid_words::{past_byte, past_white, word};
 use std::alloc::Global;
 use std::collections::VecDeque;
 

@@ -1,9 +1,9 @@
 //! The items of one piece with their places, which is asked for only where a fault is reported.
-use crate::cut::{past_byte, past_white, word};
 use crate::fault::ParseError;
 use crate::item::{Delimiter, Item, closer, read_item};
 use crate::mark::skip_dash;
 use crate::piece::opener;
+use liquid_words::{past_byte, past_white, word};
 use std::alloc::{AllocError, Global};
 
 /// An item, and where it stands.

@@ -5,18 +5,19 @@ ghost use Rattle.liquid_core.specs.ExpressionView.{steps_view};
 ghost use Rattle.liquid_model.specs.Whole.{whole_text};
 ghost use Rattle.liquid_lexer.specs.inside.ValueFaults.{number_fault, value_fault};
 ghost use Rattle.liquid_lexer.specs.Values.{word_kind};
-ghost use Rattle.liquid_lexer.specs.ValueReading.{literal_at, word_value, inner_of, expression_at};
+ghost use Rattle.liquid_lexer.specs.ValueReading.{word_value, inner_of, expression_at};
+ghost use Rattle.liquid_words.specs.WordReading.{literal_at};
 ghost use Rattle.liquid_lexer.specs.ValueReading.{step_at, steps_at};
 ghost use Rattle.liquid_lexer.specs.Readers.{Parses};
 ghost use Rattle.liquid_lexer.specs.PieceView.{word_kind_view, read_view};
 ghost use Rattle.std.specs.Option.{option_map};
 
-use crate::cut::{past_byte, past_white, quoted, word};
 use crate::expectation::Expectation;
 use crate::fault::{Fault, FaultKind, ParseError};
-use crate::number::number;
-use crate::scan::{is_dotted, is_letter, number_len};
-use liquid_core::{Expression, Value, Variable, whole_of};
+use crate::scan::is_dotted;
+use liquid_core::{Expression, Variable};
+use liquid_model::{Value, whole_of};
+use liquid_words::{number_len, past_byte, past_white, quoted, whole_number, word};
 use std::alloc::Global;
 
 /// What a word is where it opens a value.
@@ -44,7 +45,7 @@ fn word_kind(word: &str) -> WordKind
 }
 
 /// The fault of a text that no value begins.
-#[tactic(auto, using(crate::proofs::Cuts::number_cut))]
+#[tactic(auto, using(liquid_words::proofs::Cuts::number_cut))]
 fn no_value(text: &str) -> Fault
     ensures kind { result.kind ≡ value_fault text.now }
     ensures place { result.remaining ≡ length text.now }
@@ -79,14 +80,14 @@ fn no_number(text: &str, digits: &str, after: &[u8]) -> Fault
 }
 
 /// A text in quotes, or a number.
-#[tactic(auto, unfolding(crate::specs::ValueReading::literal_at))]
+#[tactic(auto, unfolding(liquid_words::specs::WordReading::literal_at))]
 fn read_literal(alloc: Global, text: &str) -> Result<(Value, &str), ParseError>
     ensures { Parses (λ x. (view x.0, x.1.now)) result (literal_at text.now) }
 {
     if let Some((inside, rest)) = quoted(text) {
         return Ok((Value::Text(String::from_str(alloc, inside)?), rest));
     }
-    let Some((n, rest)) = number(text) else {
+    let Some((n, rest)) = whole_number(text) else {
         return Err(ParseError::Fault(no_value(text)));
     };
     Ok((Value::Integer(n), rest))

@@ -30,7 +30,7 @@ use Rattle.liquid_model.specs.ErrorKinds.{number_of}
 use Rattle.liquid_core.specs.Hosts.{no_host}
 use Rattle.liquid_evaluation.specs.Evaluation.{answers_with}
 use Rattle.liquid_evaluation.specs.Tree.{existing, hosted}
-use Rattle.liquid_core.specs.FilterAnswers.{FilterAnswer}
+use Rattle.liquid_filter_base.specs.FilterAnswers.{FilterAnswer}
 use Rattle.liquid_meaning.specs.Laws.{EndsWithHost, KindsOfRuns, KindsOfOwnRuns, KindsWithHost}
 
 -- ---- by kinds up to a limit, among which are all that a run has without filters of a host

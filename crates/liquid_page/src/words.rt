@@ -3,7 +3,7 @@ ghost use Rattle.std.specs.Prelude.{◌≡◌, map, option_map, string_bytes, Ok
 ghost use Rattle.liquid_model.specs.Answer.{Answers};
 ghost use Rattle.liquid_page.specs.Words.{pair_of, borrowed_pair, page_call, call_view};
 
-use liquid_core::Result;
+use liquid_model::Result;
 use std::alloc::Global;
 
 /// What a call names: paths of files, and a name for each partial's file.

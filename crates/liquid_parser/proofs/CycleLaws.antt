@@ -9,7 +9,7 @@ use Rattle.liquid_core.specs.declared.expression.Variable as declared
 use Rattle.liquid_model.specs.Texts.{Text}
 use Rattle.liquid_lexer.specs.Tokens.{Token, value, symbol, value_first, past}
 use Rattle.liquid_lexer.specs.declared.symbol.Symbol.TheVariants.{Colon}
-use Rattle.liquid_lexer.proofs.WordLaws.{bind_some, map_some, from_some, guard_opt}
+use Rattle.liquid_words.proofs.WordLaws.{bind_some, map_some, from_some, guard_opt}
 use Rattle.liquid_evaluation.specs.Groups.{values_group}
 use Rattle.liquid_parser.specs.Cycles.{Cycle, with_group, grouped_of, IsName, an_identifier, a_literal, IsCycle, without_name, with_name, name_alone, is_cycle_name, has_no_steps, any_values_of, named_of, after_first, cycle_of}
 use Rattle.liquid_parser.specs.Repeated.{AreRepeated, no_more, one_more}

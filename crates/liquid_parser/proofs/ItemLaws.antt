@@ -9,7 +9,7 @@ use Rattle.liquid_lexer.specs.Tokens.{tokens_view}
 use Rattle.liquid_lexer.specs.declared.item.Item.{Item}
 use Rattle.liquid_lexer.specs.declared.symbol.Symbol.{Symbol}
 use Rattle.liquid_lexer.specs.declared.symbol.Symbol.TheVariants.{Colon, Comma}
-use Rattle.liquid_lexer.proofs.WordLaws.{bind_some, map_some, from_some}
+use Rattle.liquid_words.proofs.WordLaws.{bind_some, map_some, from_some}
 use Rattle.liquid_evaluation.specs.Tree.{Bindings, Source, each_of, counted}
 use Rattle.liquid_parser.specs.Bound.{ArePairs, IsOneOf, IsPair, IsPairsEnd, a_pair, any_item, after_comma, ends_pairs, is_separated, last_comma, mark_of, no_item, one_first, pair_first, bound_pairs, past_comma, unseparated}
 use Rattle.liquid_parser.specs.Loops.{source_token, source_of, source_first, Part, limit_is, offset_is, cols_is, is_reversed, IsLoopPart, a_limit, an_offset, a_reversal, a_width, Parts, no_parts, with_parts, with_part, IsNothing, is_nothing, Head, head_with, IsLoop, a_loop, part_value, read_or_else, own_part, part_first, parts_of, parts_after, loop_of}

@@ -15,7 +15,7 @@ use Rattle.liquid_language.specs.Registered.{registered_in}
 use Rattle.liquid_evaluation.specs.Tree.{FilterCall, Chain, assign}
 use Rattle.liquid_language.specs.declared.language.Language.{Language}
 use Rattle.liquid_lexer.specs.declared.symbol.Symbol.TheVariants.{Equals, NotEquals, LessOrGreater, LessThanEquals, GreaterThanEquals, LessThan, GreaterThan, Assign, Colon, Comma, Bar}
-use Rattle.liquid_lexer.proofs.WordLaws.{bind_some, map_some, from_some}
+use Rattle.liquid_words.proofs.WordLaws.{bind_some, map_some, from_some}
 
 -- ---- options
 

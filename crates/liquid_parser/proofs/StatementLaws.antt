@@ -8,7 +8,7 @@ use Rattle.liquid_lexer.specs.Tokens.{Token, tokens_of, word_first, past}
 use Rattle.liquid_lexer.specs.declared.piece.Body.{Body}
 use Rattle.liquid_lexer.specs.declared.piece.Body.TheVariants as bodies
 use Rattle.liquid_lexer.specs.declared.symbol.Symbol.TheVariants.{Assign}
-use Rattle.liquid_lexer.proofs.WordLaws.{bind_some, map_some}
+use Rattle.liquid_words.proofs.WordLaws.{bind_some, map_some}
 use Rattle.liquid_parser.specs.ChainReading.{chain_of}
 use Rattle.liquid_parser.specs.ConditionReading.{condition_of}
 use Rattle.liquid_parser.specs.Classification.{leaf_or, assign_of, if_node, unless_node, bare, word_alone, value_alone, one_or, many_or, arm_or, capture_of, case_for, two_or, elsif_or, ends_or, tag_statement, raw_statement, comment_statement, reads}

@@ -20,7 +20,7 @@ use Rattle.liquid_parser.specs.Statements.{IsStatement}
 use Rattle.liquid_parser.proofs.StatementLaws.{statement_says, statement_stands}
 use Rattle.liquid_parser.proofs.NestingLaws.{tree_takes, tree_again}
 use Rattle.liquid_lexer.proofs.SourceLaws.{source_takes, source_again}
-use Rattle.liquid_lexer.proofs.WordLaws.{bind_some, from_some}
+use Rattle.liquid_words.proofs.WordLaws.{bind_some, from_some}
 
 module _ (l : Language) where
   bare_tag : (role : Option Role) (s next : State) → statement_step (tag_statement l [] [] role) s.0 s.1 ≡ Some next → verbatim_body role ≡ None

@@ -1,14 +1,14 @@
 -- What is said of whole sources: one without openers is one text, and a source has at most one tree.
 use Rattle.std.proofs.Common.{◌≡◌, ℕ, List, [], ◌∷◌, Bool, true, false, not, ◌==◌, ◌||◌, ◌&&◌, refl, sym, ap, subst, ◌∙◌, append-nil}
 use Rattle.std.proofs.lemmas.Bool.{eqb-true}
-use Rattle.liquid_lexer.specs.Bytes.{plain, open_brace, percent}
+use Rattle.liquid_words.specs.Bytes.{plain, open_brace, percent}
 use Rattle.liquid_lexer.specs.Openers.{opener}
 use Rattle.liquid_lexer.specs.Pieces as pieces
 use Rattle.liquid_lexer.specs.Pieces.{last}
-use Rattle.liquid_lexer.specs.Words.{IsRun}
+use Rattle.liquid_words.specs.Words.{IsRun}
 use Rattle.liquid_lexer.specs.declared.item.Delimiter.{Delimiter}
 use Rattle.liquid_lexer.specs.declared.item.Delimiter.TheVariants.{Output, Tag}
-use Rattle.liquid_lexer.proofs.WordLaws.{from_some}
+use Rattle.liquid_words.proofs.WordLaws.{from_some}
 use Rattle.liquid_parser.specs.Statements.{is_text}
 use Rattle.liquid_parser.specs.Nesting.{none, is_leaf}
 use Rattle.liquid_parser.specs.Parsing.{IsTemplate}

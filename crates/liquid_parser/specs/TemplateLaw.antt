@@ -1,7 +1,7 @@
 -- Laws of whole sources.
 use Rattle.std.specs.Prelude.{◌≡◌, [], ◌∷◌, ◌++◌}
 use Rattle.liquid_model.specs.Texts.{Text}
-use Rattle.liquid_lexer.specs.Bytes.{open_brace}
+use Rattle.liquid_words.specs.Bytes.{open_brace}
 use Rattle.liquid_lexer.specs.Openers.{opener}
 use Rattle.liquid_lexer.specs.declared.item.Delimiter.{Delimiter}
 use Rattle.liquid_parser.specs.Parsing.{IsTemplate}

@@ -17,10 +17,9 @@ use crate::positions::Positions;
 use liquid_core::{Error, Result};
 use liquid_explanations::explanation_of;
 use liquid_language::{Language, body_after};
-use liquid_lexer::{
-    Markup, ParseError, location, past_byte, read_body, read_markup, stripped, text_before,
-};
+use liquid_lexer::{Markup, ParseError, read_body, read_markup, stripped, text_before};
 use liquid_syntax::Template;
+use liquid_words::{location, past_byte};
 use std::alloc::{AllocError, Global};
 
 /// The most bytes of a source that a template keeps.

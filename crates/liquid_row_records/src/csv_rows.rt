@@ -10,7 +10,7 @@ ghost use Rattle.liquid_row_records.specs.declared.csv_rows.HeadStop.TheVariants
 use crate::head::{HeadFault, column_names};
 use crate::record::{RowFault, record_of};
 use csv::{ByteRecord, ErrorKind, Reader, ReaderBuilder};
-use liquid_core::{Object, Result};
+use liquid_model::{Object, Result};
 use std::alloc::{AllocError, Global};
 use std::io;
 use std::io::Read;

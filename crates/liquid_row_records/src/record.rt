@@ -10,7 +10,7 @@ ghost use Rattle.liquid_row_records.specs.Rows.{row_view};
 
 use crate::cells::cell_text;
 use csv::ByteRecord;
-use liquid_core::{Object, Result, Value, store};
+use liquid_model::{Object, Result, Value, store};
 use std::alloc::Global;
 use std::fmt;
 

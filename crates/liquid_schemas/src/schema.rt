@@ -8,7 +8,7 @@ ghost use Rattle.liquid_schemas.specs.Schemas.{properties_start, properties_toke
 ghost use Rattle.liquid_schemas.specs.Schemas.{schema_text, use_tokens};
 
 use json::{Pretty, Token};
-use liquid_core::{ItemUse, Use, Uses};
+use liquid_model::{ItemUse, Use, Uses};
 use std::alloc::{AllocError, Global};
 
 /// The draft of JSON Schema that the schema is of.

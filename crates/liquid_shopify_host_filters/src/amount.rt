@@ -9,7 +9,7 @@ ghost use Rattle.liquid_shopify_host_filters.specs.Amounts.{units_of, whole_amou
 
 use crate::money::MoneyStyle;
 use itoa::Buffer;
-use liquid_core::Result;
+use liquid_model::Result;
 use std::alloc::Global;
 
 /// An amount of cents in a style.

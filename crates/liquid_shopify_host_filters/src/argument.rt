@@ -5,8 +5,8 @@ ghost use Rattle.liquid_model.specs.Answer.{IsValueOrMemory};
 ghost use Rattle.liquid_model.specs.View.{view};
 ghost use Rattle.liquid_filter_base.specs.Arguments.{text_or};
 
-use liquid_core::{Result, Value};
 use liquid_filter_base::text_of;
+use liquid_model::{Result, Value};
 use std::alloc::Global;
 use std::borrow::CowStr;
 

@@ -10,8 +10,8 @@ ghost use Rattle.liquid_shopify_host_filters.specs.Codecs.{sha1_answer, sha256_a
 use crate::argument::text_or;
 use base64::DecodeAllocError;
 use base64::engine::general_purpose::STANDARD;
-use liquid_core::{Error, ErrorKind, Result, Value};
 use liquid_filter_base::text_of;
+use liquid_model::{Error, ErrorKind, Result, Value};
 use md5::Md5;
 use sha1::Sha1;
 use sha2::{Digest, Sha256};

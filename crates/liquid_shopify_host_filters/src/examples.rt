@@ -14,8 +14,8 @@ ghost use Rattle.liquid_shopify_host_filters.specs.Examples.{prettyprint_answer,
 ghost use Rattle.liquid_shopify_host_filters.specs.Examples.{emphasized};
 
 use itoa::Buffer;
-use liquid_core::{Result, Value};
 use liquid_filter_base::{invalid_input, text_of};
+use liquid_model::{Result, Value};
 use std::alloc::Global;
 
 /// `count`: how many items a list or pairs a map has. `InvalidInput` for any other input.

@@ -11,7 +11,8 @@ use crate::{
     codec, examples, html, images, json_text, lists, money, sums, tags, texts, urls, weight,
     wording,
 };
-use liquid_core::{Filter, Result, Value};
+use liquid_filter_base::Filter;
+use liquid_model::{Result, Value};
 use std::alloc::Global;
 use std::rc::Rc;
 

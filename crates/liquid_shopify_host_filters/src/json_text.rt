@@ -7,7 +7,7 @@ ghost use Rattle.liquid_shopify_host_filters.specs.JsonTexts.{items_tokens, json
 ghost use Rattle.liquid_shopify_host_filters.specs.JsonTexts.{json_tokens, pairs_tokens};
 
 use json::Writer;
-use liquid_core::{Object, Result, Value};
+use liquid_model::{Object, Result, Value};
 use std::alloc::Global;
 
 /// `json`: the input as JSON, with nothing between its tokens; the keys of a map stand in the order

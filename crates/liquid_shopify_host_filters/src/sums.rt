@@ -8,9 +8,9 @@ ghost use Rattle.liquid_shopify_host_filters.specs.Sums.{summand_of};
 ghost use Rattle.liquid_shopify_host_filters.specs.Sums.{term, total};
 
 use crate::lists::property;
-use liquid_core::{Error, ErrorKind, Result, Value};
 use liquid_filter_base::{invalid_input, text_of};
 use liquid_list_filters::sequence;
+use liquid_model::{Error, ErrorKind, Result, Value};
 use std::alloc::Global;
 
 /// `sum`: the sum of a list's whole numbers, or of those that its maps have under the argument.

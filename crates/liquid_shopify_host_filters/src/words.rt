@@ -8,7 +8,7 @@ ghost use Rattle.liquid_shopify_host_filters.specs.Words.{lead, character_role, 
 ghost use Rattle.liquid_shopify_host_filters.specs.Words.{worded_character};
 ghost use Rattle.liquid_shopify_host_filters.specs.Words.{worded_text};
 
-use liquid_core::Result;
+use liquid_model::Result;
 use std::alloc::Global;
 
 /// What is made of a text's words.

@@ -1,8 +1,7 @@
 //! Where a `when` of a `case` stands in the source, which is asked for only where a fault of a run
 //! is reported: the pieces from the `case` on are read once more.
-use liquid_lexer::{
-    Body, ParseError, Piece, bare_name, past_byte, read_body, read_markup, text_before,
-};
+use liquid_lexer::{Body, ParseError, Piece, bare_name, read_body, read_markup, text_before};
+use liquid_words::past_byte;
 use std::alloc::{AllocError, Global};
 
 /// What a piece is for a `case` around it.

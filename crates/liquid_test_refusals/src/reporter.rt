@@ -4,7 +4,7 @@ ghost use Rattle.liquid_model.specs.View.{view};
 ghost use Rattle.liquid_test_refusals.specs.Endings.{ending_of};
 
 use crate::row::{WorkedRow, member, text_member, text_of};
-use liquid_core::{ErrorKind, Result, Value, ValueCow};
+use liquid_model::{ErrorKind, Result, Value, ValueCow};
 use std::alloc::Global;
 
 /// Where answers are printed, and whether each call stands between marks.

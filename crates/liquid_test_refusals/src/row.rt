@@ -1,6 +1,6 @@
 //! A row, as a line of JSON.
-use liquid_core::{Object, Result, Value};
 use liquid_json::data_from_json;
+use liquid_model::{Object, Result, Value};
 use std::alloc::Global;
 
 /// A call, what it is made with, and how it must end.

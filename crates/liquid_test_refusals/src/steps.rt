@@ -1,7 +1,7 @@
 //! Steps of a row: what a call changes in a state, or in a runtime.
 use crate::reporter::optional;
 use crate::row::{member, text_member};
-use liquid_core::{Object, Result, Value};
+use liquid_model::{Object, Result, Value};
 use std::alloc::Global;
 
 /// What a call changes in a state or a runtime.

@@ -6,8 +6,8 @@ ghost use Rattle.liquid_model.specs.View.{view};
 ghost use Rattle.liquid_filter_base.specs.Arguments.{text_or};
 ghost use Rattle.liquid_text_filters.specs.Arguments.{whole_or};
 
-use liquid_core::{Result, Value};
 use liquid_filter_base::{text_of, whole_argument};
+use liquid_model::{Result, Value};
 use std::alloc::Global;
 use std::borrow::CowStr;
 

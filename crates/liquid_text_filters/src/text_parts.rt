@@ -3,7 +3,7 @@ ghost use Rattle.std.specs.Prelude.{◌≡◌, ◌++◌, List, ℕ, drop, string
 ghost use Rattle.std.specs.Str.{chars, encode_utf8_all};
 ghost use Rattle.liquid_model.specs.Answer.{IsValueOrMemory};
 
-use liquid_core::Result;
+use liquid_model::Result;
 use std::alloc::Global;
 
 /// The first text, then the last.

@@ -9,7 +9,7 @@ ghost use Rattle.toml_datetime.specs.Text.{datetime_text};
 
 use crate::fault::{float_fault, no_toml};
 use crate::floats::has_floats;
-use liquid_core::{Error, Object, Result, Value};
+use liquid_model::{Error, Object, Result, Value};
 use std::alloc::{AllocError, Global};
 use std::collections::BTreeMap;
 use toml::Table;

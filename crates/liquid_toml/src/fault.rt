@@ -1,8 +1,8 @@
 //! Why a text gives no data.
 ghost use Rattle.liquid_model.specs.ErrorKinds.{IsKindOrMemory};
 
-use liquid_core::{Error, ErrorKind, Location, Origin};
-use liquid_lexer::location;
+use liquid_model::{Error, ErrorKind, Location, Origin};
+use liquid_words::location;
 use std::alloc::Global;
 
 /// The fault of a text that is no TOML, with where it stops being TOML.

@@ -6,7 +6,8 @@ use crate::pieces::past_piece;
 use crate::warnings::MOST_WARNINGS;
 use liquid_core::{ErrorKind, Location, Result};
 use liquid_language::Language;
-use liquid_lexer::{ParseError, Piece, location, past_byte, read_markup, text_before};
+use liquid_lexer::{ParseError, Piece, read_markup, text_before};
+use liquid_words::{location, past_byte};
 use std::alloc::{AllocError, Global};
 
 /// Where an `else` has something after it, as in `{% else if x %}`: an `if` and an `unless` pass

@@ -6,9 +6,8 @@ use crate::pieces::past_piece;
 use crate::warnings::MOST_WARNINGS;
 use liquid_core::{ErrorKind, Expression, Location, Result};
 use liquid_language::Language;
-use liquid_lexer::{
-    Item, ParseError, Piece, Symbol, location, past_byte, read_markup, text_before,
-};
+use liquid_lexer::{Item, ParseError, Piece, Symbol, read_markup, text_before};
+use liquid_words::{location, past_byte};
 use std::alloc::{AllocError, Global};
 use std::collections::VecDeque;
 

@@ -13,8 +13,8 @@ use crate::print::print_value;
 use crate::read::date_of;
 use jiff::Zoned;
 use jiff::tz::{Offset, TimeZone};
-use liquid_core::{Error, ErrorKind, Filter, Result, Value};
-use liquid_filter_base::{invalid_input, text_of, whole_argument};
+use liquid_filter_base::{Filter, invalid_input, text_of, whole_argument};
+use liquid_model::{Error, ErrorKind, Result, Value};
 use std::alloc::Global;
 
 /// `date_in_tz`: the input printed by a pattern of strftime, at an offset that is given in hours.

@@ -10,8 +10,8 @@ ghost use Rattle.liquid_jekyll_shopify_filters.specs.Slugs.{without_outer};
 ghost use Rattle.liquid_jekyll_shopify_filters.specs.Slugs.{slugify_answer, without_first};
 ghost use Rattle.liquid_jekyll_shopify_filters.specs.Slugs.{without_last};
 
-use liquid_core::{Error, ErrorKind, Filter, Result, Value};
-use liquid_filter_base::text_of;
+use liquid_filter_base::{Filter, text_of};
+use liquid_model::{Error, ErrorKind, Result, Value};
 use std::alloc::Global;
 use unicode::properties::is_alphabetic;
 

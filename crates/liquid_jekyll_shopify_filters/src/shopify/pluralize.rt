@@ -2,8 +2,8 @@
 ghost use Rattle.std.specs.Prelude.{nat_eq};
 ghost use Rattle.liquid_jekyll_shopify_filters.specs.Pluralize.{pluralize_answer};
 
-use liquid_core::{Filter, Result, Value};
-use liquid_filter_base::invalid_input;
+use liquid_filter_base::{Filter, invalid_input};
+use liquid_model::{Result, Value};
 use std::alloc::Global;
 
 /// `pluralize`: the first argument where the input's whole number is 1, else the second.

@@ -6,8 +6,8 @@ ghost use Rattle.liquid_date_filters.specs.Dates.{date_answer, dated};
 
 use crate::print::print_value;
 use crate::read::date_of;
-use liquid_core::{Filter, Result, Value};
-use liquid_filter_base::text_of;
+use liquid_filter_base::{Filter, text_of};
+use liquid_model::{Result, Value};
 use std::alloc::Global;
 
 /// `date`: the input printed by a pattern of strftime, at the offset that the date is written with;

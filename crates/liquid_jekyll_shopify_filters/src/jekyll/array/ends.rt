@@ -6,9 +6,9 @@ ghost use Rattle.liquid_model.specs.View.{view, items_view};
 ghost use Rattle.liquid_jekyll_shopify_filters.specs.Ends.{pop_answer, push_answer, shift_answer};
 ghost use Rattle.liquid_jekyll_shopify_filters.specs.Ends.{unshift_answer, without_last};
 
-use liquid_core::{Filter, Result, Value};
-use liquid_filter_base::invalid_input;
+use liquid_filter_base::{Filter, invalid_input};
 use liquid_list_filters::{copies_of, push_copies};
+use liquid_model::{Result, Value};
 use std::alloc::Global;
 
 /// `push`: a list with the argument as its last item.

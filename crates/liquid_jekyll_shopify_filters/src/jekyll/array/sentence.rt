@@ -7,8 +7,8 @@ ghost use Rattle.liquid_model.specs.View.{view, items_view};
 ghost use Rattle.liquid_jekyll_shopify_filters.specs.Sentence.{array_to_sentence_string_answer};
 ghost use Rattle.liquid_jekyll_shopify_filters.specs.Sentence.{next_text, sentence, sentence_by};
 
-use liquid_core::{Filter, Result, Value};
-use liquid_filter_base::{invalid_input, text_of};
+use liquid_filter_base::{Filter, invalid_input, text_of};
+use liquid_model::{Result, Value};
 use std::alloc::Global;
 
 /// `array_to_sentence_string`: the texts of a list's items with `, ` between them, and the

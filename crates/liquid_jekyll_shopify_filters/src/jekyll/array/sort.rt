@@ -14,9 +14,9 @@ ghost use Rattle.liquid_jekyll_shopify_filters.specs.Sorting.{jekyll_sort_answer
 ghost use Rattle.liquid_jekyll_shopify_filters.specs.Sorting.{sort_maps};
 
 use super::path::read_path;
-use liquid_core::{Error, ErrorKind, Filter, Result, Value, ValueCow};
-use liquid_filter_base::{invalid_input, text_of};
+use liquid_filter_base::{Filter, invalid_input, text_of};
 use liquid_list_filters::{Keyed, all_maps, items_by_key, sequence};
+use liquid_model::{Error, ErrorKind, Result, Value, ValueCow};
 use std::alloc::Global;
 
 /// `sort`: the input's sequence in the total order of values; items alike keep their order.

@@ -2,7 +2,8 @@
 ghost use Rattle.std.specs.Prelude.{nat_eq};
 ghost use Rattle.liquid_text_filters.specs.Default.{default_answer};
 
-use liquid_core::{Filter, Result, Value};
+use liquid_filter_base::Filter;
+use liquid_model::{Result, Value};
 use std::alloc::Global;
 
 /// `default`: the argument for nil, false and the empty text, list and map, else the input.

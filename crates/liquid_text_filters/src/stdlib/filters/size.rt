@@ -7,7 +7,8 @@ ghost use Rattle.liquid_model.specs.View.{view};
 ghost use Rattle.liquid_text_filters.specs.Size.{size_answer, size_of};
 
 use itoa::Buffer;
-use liquid_core::{Filter, Result, Value};
+use liquid_filter_base::Filter;
+use liquid_model::{Result, Value};
 use std::alloc::Global;
 
 /// `size`: the bytes of a scalar's text, the items of a list, the pairs of a map, and 0 for nil.

@@ -9,8 +9,8 @@ ghost use Rattle.liquid_text_filters.specs.Laws.{SlicesInput};
 
 use crate::argument::whole_or;
 use crate::text_parts::{after_characters, first_characters};
-use liquid_core::{Error, ErrorKind, Filter, Result, Value};
-use liquid_filter_base::text_of;
+use liquid_filter_base::{Filter, text_of};
+use liquid_model::{Error, ErrorKind, Result, Value};
 use std::alloc::Global;
 
 /// `slice`: the items of a list, or the characters of another value's text, from an offset on, as

@@ -4,7 +4,7 @@ ghost use Rattle.std.specs.List.{flat_map};
 ghost use Rattle.liquid_model.specs.Answer.{IsValueOrMemory};
 ghost use Rattle.liquid_web_filters.specs.inside.Replaced.{AreAscii, replaced_by};
 
-use liquid_core::Result;
+use liquid_model::Result;
 
 /// Appends the text, with its own text in the place of each of these characters. One character
 /// after another is looked for, each in what stands between those before it, so what stays is

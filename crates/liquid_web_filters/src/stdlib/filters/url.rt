@@ -8,8 +8,8 @@ ghost use Rattle.liquid_model.specs.View.{view};
 ghost use Rattle.liquid_filter_base.specs.Satisfies.{Satisfies};
 ghost use Rattle.liquid_web_filters.specs.UrlLaws.{EncodesUrl, UrlDecodes};
 
-use liquid_core::{Error, ErrorKind, Filter, Result, Value};
-use liquid_filter_base::text_of;
+use liquid_filter_base::{Filter, text_of};
+use liquid_model::{Error, ErrorKind, Result, Value};
 use percent_encoding::{AsciiSet, DecodeError, NON_ALPHANUMERIC, percent_decode, percent_encode};
 use std::alloc::Global;
 

@@ -11,8 +11,8 @@ ghost use Rattle.liquid_list_filters.specs.Ends.{first_answer, last_answer, firs
 ghost use Rattle.liquid_list_filters.specs.Ends.{first_character, last_character, character};
 ghost use Rattle.liquid_list_filters.specs.Ends.{or_nil};
 
-use liquid_core::{Filter, Result, Value};
-use liquid_filter_base::{invalid_input, text_of};
+use liquid_filter_base::{Filter, invalid_input, text_of};
+use liquid_model::{Result, Value};
 use std::alloc::Global;
 
 /// `first`: a list's first item, or nil where it is empty; the first character of a scalar's text.

@@ -9,8 +9,8 @@ ghost use Rattle.liquid_filter_base.specs.Satisfies.{Satisfies};
 ghost use Rattle.liquid_list_filters.specs.Laws.{Joins};
 ghost use Rattle.liquid_list_filters.specs.Joined.{join_answer, join_by};
 
-use liquid_core::{Filter, Result, Value};
-use liquid_filter_base::{invalid_input, text_of};
+use liquid_filter_base::{Filter, invalid_input, text_of};
+use liquid_model::{Result, Value};
 use std::alloc::Global;
 use std::fmt::Write;
 

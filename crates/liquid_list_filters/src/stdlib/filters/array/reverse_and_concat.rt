@@ -7,8 +7,8 @@ ghost use Rattle.liquid_filter_base.specs.Satisfies.{Satisfies, WithFirst};
 ghost use Rattle.liquid_list_filters.specs.Laws.{Concats, Reverses};
 ghost use Rattle.liquid_list_filters.specs.Rows.{concat_answer, concat_by, reverse_answer};
 
-use liquid_core::{Filter, Result, Value};
-use liquid_filter_base::{invalid_argument, invalid_input};
+use liquid_filter_base::{Filter, invalid_argument, invalid_input};
+use liquid_model::{Result, Value};
 use std::alloc::Global;
 
 /// `reverse`: a list, the last item first.

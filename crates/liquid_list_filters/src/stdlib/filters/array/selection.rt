@@ -15,8 +15,8 @@ ghost use Rattle.liquid_list_filters.specs.Keeping.{uniq, uniq_answer};
 ghost use Rattle.liquid_list_filters.specs.Sequences.{of_list};
 
 use super::sequence::{all_maps, property};
-use liquid_core::{Filter, Result, Value};
-use liquid_filter_base::{invalid_input, text_of};
+use liquid_filter_base::{Filter, invalid_input, text_of};
+use liquid_model::{Result, Value};
 use std::alloc::Global;
 use std::collections::BTreeSet;
 use std::slice;

@@ -4,7 +4,7 @@ ghost use Rattle.liquid_model.specs.Lists.{list_of};
 ghost use Rattle.liquid_model.specs.View.{view, items_view};
 ghost use Rattle.liquid_list_filters.specs.Sequences.{all_maps, property, sequence};
 
-use liquid_core::{Value, look_up};
+use liquid_model::{Value, look_up};
 use std::slice;
 
 /// The sequence of a value: a list's items, nothing for nil, else the value alone.

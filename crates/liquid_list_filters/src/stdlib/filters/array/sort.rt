@@ -12,8 +12,8 @@ ghost use Rattle.liquid_list_filters.specs.Sorting.{sort_by, sorted, sort_answer
 ghost use Rattle.liquid_list_filters.specs.Sorting.{sort_natural_answer, sort_named};
 
 use super::sequence::{all_maps, property, sequence};
-use liquid_core::{Filter, Result, Value, ValueCow};
-use liquid_filter_base::{invalid_input, text_of};
+use liquid_filter_base::{Filter, invalid_input, text_of};
+use liquid_model::{Result, Value, ValueCow};
 use std::alloc::Global;
 use std::cmp::Ordering;
 

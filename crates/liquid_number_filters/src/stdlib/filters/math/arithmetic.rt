@@ -11,7 +11,8 @@ ghost use Rattle.liquid_number_filters.specs.Numbers.{of_one, plus, minus, times
 ghost use Rattle.liquid_number_filters.specs.Numbers.{modulo};
 
 use super::operands::{operands, within_range};
-use liquid_core::{Filter, Result, Value};
+use liquid_filter_base::Filter;
+use liquid_model::{Result, Value};
 use std::alloc::Global;
 
 /// `plus`: the sum of two whole numbers.

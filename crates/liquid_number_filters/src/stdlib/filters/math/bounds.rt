@@ -11,8 +11,8 @@ ghost use Rattle.liquid_number_filters.specs.NumberLaws.{StepsWith};
 ghost use Rattle.liquid_number_filters.specs.Numbers.{of_none, of_one, at_least, at_most, abs};
 
 use super::operands::{decimal_refused, is_decimal_text, operands, within_range};
-use liquid_core::{Filter, Result, Value};
-use liquid_filter_base::invalid_input;
+use liquid_filter_base::{Filter, invalid_input};
+use liquid_model::{Result, Value};
 use std::alloc::Global;
 
 /// `at_least`: the greater of two whole numbers.

@@ -9,8 +9,8 @@ ghost use Rattle.liquid_number_filters.specs.Numbers.{operands, is_numeric, is_z
 ghost use Rattle.liquid_number_filters.specs.Numbers.{unlike};
 
 use super::decimal::Decimal;
-use liquid_core::{Error, ErrorKind, Quoted, Result, Value};
 use liquid_filter_base::{FoundValue, invalid_argument, invalid_input};
+use liquid_model::{Error, ErrorKind, Quoted, Result, Value};
 use std::alloc::Global;
 
 /// Whether the value is a decimal text.

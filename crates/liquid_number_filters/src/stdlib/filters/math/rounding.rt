@@ -13,8 +13,8 @@ ghost use Rattle.liquid_number_filters.specs.RoundingLaws.{IsRounded, Rounds};
 
 use super::decimal::{Decimal, Rounding};
 use super::operands::{decimal_refused, is_decimal_text, within_range};
-use liquid_core::{Error, ErrorKind, Filter, Result, Value};
-use liquid_filter_base::{invalid_input, whole_argument};
+use liquid_filter_base::{Filter, invalid_input, whole_argument};
+use liquid_model::{Error, ErrorKind, Result, Value};
 use std::alloc::Global;
 
 /// The most places to which `round` is asked to round.

@@ -7,8 +7,8 @@ ghost use Rattle.liquid_model.specs.View.{view};
 ghost use Rattle.liquid_filter_base.specs.Satisfies.{Satisfies};
 ghost use Rattle.liquid_text_filters.specs.Laws.{CapitalizesText, Downcases, Upcases};
 
-use liquid_core::{Filter, Result, Value};
-use liquid_filter_base::text_of;
+use liquid_filter_base::{Filter, text_of};
+use liquid_model::{Result, Value};
 use std::alloc::Global;
 
 /// `downcase`: the input's text with `A` to `Z` as `a` to `z`.

@@ -10,8 +10,8 @@ ghost use Rattle.liquid_text_filters.specs.Laws.{RemovesAll, RemovesOne, Replace
 
 use crate::argument::text_or;
 use crate::text_parts::joined;
-use liquid_core::{Filter, Result, Value};
-use liquid_filter_base::text_of;
+use liquid_filter_base::{Filter, text_of};
+use liquid_model::{Result, Value};
 use std::alloc::Global;
 
 /// `append`: the input's text, then the argument's.

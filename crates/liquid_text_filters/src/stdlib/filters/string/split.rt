@@ -9,8 +9,8 @@ ghost use Rattle.liquid_text_filters.specs.Split.{divided, split_answer};
 ghost use Rattle.liquid_text_filters.specs.Laws.{SplitsText};
 
 use crate::argument::text_or;
-use liquid_core::{Filter, Result, Value};
-use liquid_filter_base::text_of;
+use liquid_filter_base::{Filter, text_of};
+use liquid_model::{Result, Value};
 use std::alloc::Global;
 
 /// `split`: the pieces of the input's text between the occurrences of the argument's, from left to

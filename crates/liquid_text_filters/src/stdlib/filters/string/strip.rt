@@ -9,8 +9,8 @@ ghost use Rattle.liquid_filter_base.specs.Satisfies.{Satisfies};
 ghost use Rattle.liquid_text_filters.specs.Laws.{StripsLines, StripsText, StripsTextAtEnd};
 ghost use Rattle.liquid_text_filters.specs.Laws.{StripsTextAtStart};
 
-use liquid_core::{Filter, Result, Value};
-use liquid_filter_base::text_of;
+use liquid_filter_base::{Filter, text_of};
+use liquid_model::{Result, Value};
 use std::alloc::Global;
 
 /// `strip`: the input's text without the white space at both ends.

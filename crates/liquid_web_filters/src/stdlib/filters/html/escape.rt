@@ -10,8 +10,8 @@ ghost use Rattle.liquid_model.specs.View.{view};
 ghost use Rattle.liquid_filter_base.specs.Satisfies.{Satisfies};
 ghost use Rattle.liquid_web_filters.specs.HtmlLaws.{EscapesOnce, EscapesText};
 
-use liquid_core::{Filter, Result, Value};
-use liquid_filter_base::text_of;
+use liquid_filter_base::{Filter, text_of};
+use liquid_model::{Result, Value};
 use std::alloc::Global;
 
 /// `escape`: the input's text with `&lt;`, `&gt;`, `&#39;`, `&quot;` and `&amp;` for `<`, `>`, `'`,

@@ -7,8 +7,8 @@ ghost use Rattle.liquid_filter_base.specs.Satisfies.{Satisfies};
 ghost use Rattle.liquid_web_filters.specs.HtmlLaws.{BreaksLines};
 
 use crate::stdlib::filters::replaced::push_replaced;
-use liquid_core::{Filter, Result, Value};
-use liquid_filter_base::text_of;
+use liquid_filter_base::{Filter, text_of};
+use liquid_model::{Result, Value};
 use std::alloc::Global;
 
 /// `newline_to_br`: the input's text with `<br />` before each LF.

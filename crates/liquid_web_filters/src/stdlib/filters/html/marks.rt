@@ -7,7 +7,7 @@ ghost use Rattle.liquid_model.specs.Answer.{IsValueOrMemory};
 ghost use Rattle.liquid_web_filters.specs.Tags.{SplitsAtFirst, begins_mark, is_mark, is_opener};
 ghost use Rattle.liquid_web_filters.specs.Tags.{stands_for, strip_html, without_pairs};
 
-use liquid_core::Result;
+use liquid_model::Result;
 use std::alloc::Global;
 use std::borrow::CowStr;
 

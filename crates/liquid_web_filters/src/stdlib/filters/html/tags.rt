@@ -7,8 +7,8 @@ ghost use Rattle.liquid_filter_base.specs.Satisfies.{Satisfies};
 ghost use Rattle.liquid_web_filters.specs.HtmlLaws.{StripsTags};
 
 use super::marks::without_tags;
-use liquid_core::{Filter, Result, Value};
-use liquid_filter_base::text_of;
+use liquid_filter_base::{Filter, text_of};
+use liquid_model::{Result, Value};
 use std::alloc::Global;
 
 /// `strip_html`: the input's text without scripts, then without styles, comments and tags, each

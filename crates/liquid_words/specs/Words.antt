@@ -3,8 +3,8 @@
 use Rattle.std.specs.Prelude.{◌≡◌, ℕ, ℤ, ◌⊎◌, List, [], ◌∷◌, ◌++◌, Bool, true, false, not, ◌==◌}
 use Rattle.std.specs.Prelude.{◌||◌, ◌&&◌, slice_index, Some}
 use Rattle.liquid_model.specs.Whole.{whole_text}
-use Rattle.liquid_lexer.specs.Bytes.{is_white, is_digit, is_letter, in_word, not_quote, dot}
-use Rattle.liquid_lexer.specs.Bytes.{double_quote, single_quote}
+use Rattle.liquid_words.specs.Bytes.{is_white, is_digit, is_letter, in_word, not_quote, dot}
+use Rattle.liquid_words.specs.Bytes.{double_quote, single_quote}
 
 -- the test passes at the front
 abbrev pub passes : (ℕ → List ℕ → Bool) → List ℕ → Bool

@@ -3,12 +3,12 @@ use Rattle.std.proofs.Common.{◌≡◌, ℕ, ℤ, zero, suc, ◌+◌, ◌<◌, 
 use Rattle.std.specs.Option.{option_and_then, option_map}
 use Rattle.std.specs.Str.{all_ascii_digits}
 use Rattle.liquid_model.specs.Whole.{whole_text, is_whole_text}
-use Rattle.liquid_lexer.specs.Bytes.{is_white, is_letter, is_digit, in_word, not_quote}
-use Rattle.liquid_lexer.specs.Words.{passes, IsRun, Blank, Word, Quoted, Number, goes_on}
-use Rattle.liquid_lexer.specs.ValueReading.{run_len, past_white, past_byte, word_at, until_quote, quoted_at, integer_at, number_len, with_sign}
+use Rattle.liquid_words.specs.Bytes.{is_white, is_letter, is_digit, in_word, not_quote}
+use Rattle.liquid_words.specs.Words.{passes, IsRun, Blank, Word, Quoted, Number, goes_on}
+use Rattle.liquid_words.specs.WordReading.{run_len, past_white, past_byte, word_at, until_quote, quoted_at, integer_at, number_len, with_sign}
 use Rattle.std.proofs.lemmas.List.{take-append-drop, length-append}
 use Rattle.std.proofs.Math.Seq.{take-append_seam, drop-append_seam}
-use Rattle.std.proofs.lemmas.Bool.{eqb-true, eq-eqb, and_parts, or_left, or_right}
+use Rattle.std.proofs.lemmas.Bool.{eqb-true, eq-eqb, and_parts, false_from_ne_true, ne_eqb, or_left, or_right}
 use Rattle.std.proofs.lemmas.Bool.Decides.{nat_tests}
 use Rattle.std.proofs.lemmas.Option.{cond_some}
 
@@ -208,3 +208,33 @@ number_shorter {n} {bs} {rest} h = rw h.joined (shorter h.spelling (is_whole h.s
     shorter : (s : List ℕ) → is_whole_text s ≡ true → length rest < length (s ++ rest)
     shorter [] e = absurd cc
     shorter (b ∷ t) e = simp length-append (omega arith)
+
+-- ---- a number opens no word and no quoted text
+
+letter_high : (b : ℕ) → is_letter b ≡ true → 65 ≤ b
+letter_high b h = grind (arith, nat_tests)
+
+digit_high : (b : ℕ) → is_digit b [] ≡ true → b ≤ 57
+digit_high b h = grind (arith, nat_tests)
+
+digit_low : (b : ℕ) → is_digit b [] ≡ true → 43 ≤ b
+digit_low b h = grind (arith, nat_tests)
+
+numeric : (b : ℕ) → (is_digit b [] || (eqb b 43 || eqb b 45)) ≡ true → (43 ≤ b) × (b ≤ 57)
+numeric b h = elim (either (is_digit b []) (eqb b 43 || eqb b 45) h) [
+  | inl e ↦ (digit_low b e, digit_high b e)
+  | inr e ↦ elim (either (eqb b 43) (eqb b 45) e) [ inl e ↦ let f = eqb-true b 43 e in (omega (arith, f), omega (arith, f)) | inr e ↦ let f = eqb-true b 45 e in (omega (arith, f), omega (arith, f)) ]
+]
+
+pub number_no_word : (n : ℤ) (bs rest : List ℕ) → Number n bs rest → word_at bs ≡ None
+unfolding word_at
+number_no_word n bs rest h =
+    let r = numeric (get_or bs 0 0) (number_front n bs rest h) in
+    let e : is_letter (get_or bs 0 0) ≡ false = false_from_ne_true _ (λ l. omega (arith, r.0, r.1, letter_high (get_or bs 0 0) l)) in rw e
+
+pub number_no_quote : (n : ℤ) (bs rest : List ℕ) → Number n bs rest → quoted_at bs ≡ None
+unfolding quoted_at
+number_no_quote n [] rest h = refl
+number_no_quote n (b ∷ bs) rest h =
+    let r = numeric b (number_front n (b ∷ bs) rest h) in
+    rw (ne_eqb b 34 (λ e. omega (arith, e, r.0)), ne_eqb b 39 (λ e. omega (arith, e, r.0)))

@@ -1,7 +1,7 @@
 use Rattle.std.proofs.Common.{get_or, sym, ap, ◌∙◌, arith}
-use Rattle.liquid_lexer.specs.Bytes.{in_word}
-use Rattle.liquid_lexer.proofs.CommentTurns.{after_byte, run_more, run_done}
-use Rattle.liquid_lexer.proofs.scan.word_len.Goals as goal
+use Rattle.liquid_words.specs.Bytes.{in_word}
+use Rattle.liquid_words.proofs.Runs.{after_byte, run_more, run_done}
+use Rattle.liquid_words.proofs.scan.word_len.Goals as goal
 
 pub loop-n-preserved : goal.loop-n-preserved
 loop-n-preserved c =

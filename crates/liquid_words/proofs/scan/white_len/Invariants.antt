@@ -1,7 +1,7 @@
 use Rattle.std.proofs.Common.{length, drop, ◌-◌, ◌+◌, ◌≡◌, ◌≤◌}
-use Rattle.liquid_lexer.specs.Bytes.{is_white}
-use Rattle.liquid_lexer.specs.ValueReading.{run_len}
-use Rattle.liquid_lexer.proofs.scan.white_len.Given as goal
+use Rattle.liquid_words.specs.Bytes.{is_white}
+use Rattle.liquid_words.specs.WordReading.{run_len}
+use Rattle.liquid_words.proofs.scan.white_len.Given as goal
 
 abbrev pub invariant-loop-n : goal.invariant-loop-n
 invariant-loop-n l = record { within : l.n ≤ length l.bytes; so_far : run_len is_white l.bytes ≡ l.n + run_len is_white (drop l.n l.bytes) }

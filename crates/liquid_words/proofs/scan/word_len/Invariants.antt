@@ -1,7 +1,7 @@
 use Rattle.std.proofs.Common.{length, drop, ◌-◌, ◌+◌, ◌≡◌, ◌≤◌}
-use Rattle.liquid_lexer.specs.Bytes.{in_word}
-use Rattle.liquid_lexer.specs.ValueReading.{run_len}
-use Rattle.liquid_lexer.proofs.scan.word_len.Given as goal
+use Rattle.liquid_words.specs.Bytes.{in_word}
+use Rattle.liquid_words.specs.WordReading.{run_len}
+use Rattle.liquid_words.proofs.scan.word_len.Given as goal
 
 abbrev pub invariant-loop-n : goal.invariant-loop-n
 invariant-loop-n l = record { within : l.n ≤ length l.bytes; so_far : run_len in_word l.bytes ≡ l.n + run_len in_word (drop l.n l.bytes) }

@@ -1,5 +1,5 @@
 //! The line and the column of a place in a source.
-use liquid_core::{Location, Origin};
+use liquid_model::{Location, Origin};
 
 /// The line and the column, in characters and each from 1, of the place `remaining` bytes before
 /// the end of the source. A byte order mark at the start of the source is no column.

@@ -3,7 +3,7 @@ ghost use Rattle.std.specs.Prelude.{◌≡◌, ℕ, List, Bool, true, IsTrue, le
 ghost use Rattle.liquid_model.specs.Data.{Datum};
 ghost use Rattle.liquid_model.specs.View.{view};
 ghost use Rattle.liquid_model.specs.declared.error.ErrorKind.{ErrorKind};
-ghost use Rattle.liquid_core.specs.FilterAnswers.{AnswersIf};
+ghost use Rattle.liquid_filter_base.specs.FilterAnswers.{AnswersIf};
 
 use liquid_model::{Result, Value};
 use std::alloc::Global;

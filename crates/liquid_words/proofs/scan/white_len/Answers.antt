@@ -1,7 +1,7 @@
 use Rattle.std.proofs.Common.{sym, ◌∙◌, arith}
-use Rattle.liquid_lexer.specs.Bytes.{is_white}
-use Rattle.liquid_lexer.proofs.CommentTurns.{run_more, run_done}
-use Rattle.liquid_lexer.proofs.scan.white_len.Goals as goal
+use Rattle.liquid_words.specs.Bytes.{is_white}
+use Rattle.liquid_words.proofs.Runs.{run_more, run_done}
+use Rattle.liquid_words.proofs.scan.white_len.Goals as goal
 
 pub loop-n-preserved : goal.loop-n-preserved
 loop-n-preserved c = record { within = omega arith; so_far = run_more is_white c.args.bytes.now c.loop-n.n c.loop-n-test.true c.loop-n.invariant.so_far (sym c.is_white.ensures ∙ c.if-is_white.true) }
