@@ -6,7 +6,7 @@ use Rattle.liquid_model.specs.Data.{Datum, text, number}
 use Rattle.liquid_model.specs.Whole.{whole_text}
 use Rattle.liquid_words.specs.Bytes.{is_letter, in_word, not_quote}
 use Rattle.liquid_words.specs.WordReading.{literal_at, literal_by, integer_at, number_len, past_byte, quoted_at, run_len, until_quote, word_at}
-use Rattle.liquid_words.specs.Words.{passes, goes_on}
+use Rattle.liquid_words.specs.Words.{passes, continues_number}
 use Rattle.liquid_jekyll_shopify_filters.specs.Path.{bracketed_at, closed, path_member, path_step, path_step_by, steps_in}
 
 -- what is left, if anything was read
@@ -61,7 +61,7 @@ literal_from : (s : List ℕ) (o : Option (List ℕ × List ℕ)) (x : Datum × 
 unfolding integer_at
 literal_from s None x e f =
     let n = number_len s in
-    subst (λ (r : List ℕ). length r ≤ length s) (number_of (passes goes_on (drop n s)) (whole_text (take n s)) (drop n s) x f) (dropped n s)
+    subst (λ (r : List ℕ). length r ≤ length s) (number_of (passes continues_number (drop n s)) (whole_text (take n s)) (drop n s) x f) (dropped n s)
 literal_from s (Some y) x e f = subst (λ (r : List ℕ). length r ≤ length s) (let same : y.1 ≡ x.1 = ap left f in same) (quoted_within s y e)
 
 literal_within : (s : List ℕ) (x : Datum × List ℕ) → literal_at s ≡ Some x → length x.1 ≤ length s

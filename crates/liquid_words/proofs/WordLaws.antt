@@ -4,7 +4,7 @@ use Rattle.std.specs.Option.{option_and_then, option_map}
 use Rattle.std.specs.Str.{all_ascii_digits}
 use Rattle.liquid_model.specs.Whole.{whole_text, is_whole_text}
 use Rattle.liquid_words.specs.Bytes.{is_white, is_letter, is_digit, in_word, not_quote}
-use Rattle.liquid_words.specs.Words.{passes, IsRun, Blank, Word, Quoted, Number, goes_on}
+use Rattle.liquid_words.specs.Words.{passes, IsRun, Blank, Word, Quoted, Number, continues_number}
 use Rattle.liquid_words.specs.WordReading.{run_len, past_white, past_byte, word_at, until_quote, quoted_at, integer_at, number_len, with_sign}
 use Rattle.std.proofs.lemmas.List.{take-append-drop, length-append}
 use Rattle.std.proofs.Math.Seq.{take-append_seam, drop-append_seam}
@@ -137,7 +137,7 @@ guard_none false o y h = (refl, h)
 pub number_takes : (bs : List ℕ) (x : ℤ × List ℕ) → integer_at bs ≡ Some x → Number x.0 bs x.1
 unfolding integer_at
 number_takes bs x h =
-    let g = guard_none (passes goes_on (drop (number_len bs) bs)) _ x h in
+    let g = guard_none (passes continues_number (drop (number_len bs) bs)) _ x h in
     let m = map_some (whole_text (take (number_len bs) bs)) _ x g.1 in
     subst (λ (x : ℤ × List ℕ). Number x.0 bs x.1) m.2 (record { spelling = take (number_len bs) bs; joined = sym (take-append-drop (number_len bs) bs); whole = m.1; ends = g.0 })
 
@@ -166,7 +166,7 @@ spelling_len : (s rest : List ℕ) → is_whole_text s ≡ true → passes is_di
 spelling_len [] rest h e = absurd cc
 spelling_len (b ∷ t) rest h e = number_len_by b t rest (eqb b 45) (eqb b 43) h e
 
-no_digit : (rest : List ℕ) → passes goes_on rest ≡ false → passes is_digit rest ≡ false
+no_digit : (rest : List ℕ) → passes continues_number rest ≡ false → passes is_digit rest ≡ false
 no_digit [] h = refl
 no_digit (b ∷ bs) h = first_false (is_digit b bs) _ h
   where

@@ -6,7 +6,7 @@ use Rattle.liquid_model.specs.Data.{Datum, text, number}
 use Rattle.liquid_model.specs.Whole.{whole_text}
 use Rattle.liquid_words.specs.Bytes.{is_white, is_digit, is_letter, in_word, not_quote}
 use Rattle.liquid_words.specs.Bytes.{dash, double_quote, plus_sign, single_quote}
-use Rattle.liquid_words.specs.Words.{passes, goes_on}
+use Rattle.liquid_words.specs.Words.{passes, continues_number}
 
 -- a part at the front, and what follows it
 abbrev pub Reads : Type 0 → Type 0
@@ -53,7 +53,8 @@ abbrev pub number_len : List ℕ → ℕ
 number_len bs = with_sign (sign_len bs) (run_len is_digit (drop (sign_len bs) bs))
 
 abbrev pub number_by : List ℕ → List ℕ → Option (ℤ × List ℕ)
-number_by s rest = if passes goes_on rest then None else option_map (λ n. (n, rest)) (whole_text s)
+number_by s rest =
+    if passes continues_number rest then None else option_map (λ n. (n, rest)) (whole_text s)
 
 unfoldable pub integer_at : Reads ℤ
 integer_at bs = number_by (take (number_len bs) bs) (drop (number_len bs) bs)

@@ -40,12 +40,12 @@ begins_with b [] = false
 begins_with b (c ∷ cs) = c == b
 
 -- a digit, a letter or `_`, or a `.` that begins no `..`
-abbrev pub goes_on : ℕ → List ℕ → Bool
-goes_on b bs = is_digit b bs || (is_letter b || (b == dot && not (begins_with dot bs)))
+abbrev pub continues_number : ℕ → List ℕ → Bool
+continues_number b bs = is_digit b bs || (is_letter b || (b == dot && not (begins_with dot bs)))
 
 -- An optional sign and digits, within 64 bits. What follows doesn't make it another thing.
 pub record Number (n : ℤ) (bs rest : List ℕ) : Type 0 where
   pub spelling : List ℕ
   pub joined : bs ≡ spelling ++ rest
   pub whole : whole_text spelling ≡ Some n
-  pub ends : passes goes_on rest ≡ false
+  pub ends : passes continues_number rest ≡ false

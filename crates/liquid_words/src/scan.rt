@@ -3,7 +3,7 @@ ghost use Rattle.std.specs.Prelude.{◌≡◌, ◌≤◌, length, []};
 ghost use Rattle.liquid_words.specs.Bytes.{is_white, is_letter, is_digit, closes, in_word};
 ghost use Rattle.liquid_words.specs.Bytes.{not_quote};
 ghost use Rattle.liquid_words.specs.WordReading.{run_len, number_len};
-ghost use Rattle.liquid_words.specs.Words.{passes, goes_on};
+ghost use Rattle.liquid_words.specs.Words.{passes, continues_number};
 
 /// Whether the byte is a space, a tab, a carriage return or a line feed.
 pub fn is_white(byte: u8) -> bool
@@ -96,7 +96,7 @@ pub fn number_len(bytes: &[u8]) -> usize
 /// Whether a number before these bytes would go on: by a digit, a letter, or a `.` that begins no
 /// `..`.
 pub fn number_goes_on(bytes: &[u8]) -> bool
-    ensures { result ≡ passes goes_on bytes.now }
+    ensures { result ≡ passes continues_number bytes.now }
 {
     match bytes {
         [b'.', b'.', ..] => false,
