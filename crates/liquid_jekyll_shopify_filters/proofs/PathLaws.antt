@@ -7,7 +7,7 @@ use Rattle.liquid_model.specs.Texts.{Text}
 use Rattle.liquid_model.specs.declared.error.ErrorKind.TheVariants.{InvalidArgument}
 use Rattle.liquid_filter_base.specs.Arguments.{Answer}
 use Rattle.liquid_filter_base.proofs.Ones.{one}
-use Rattle.liquid_words.specs.WordReading.{literal_at, literal_by, integer_at, past_byte, quoted_at, word_at}
+use Rattle.liquid_words.specs.Front.{literal_at, literal_by, integer_at, past_byte, quoted_at, word_at}
 use Rattle.liquid_words.proofs.WordLaws.{number_no_quote}
 use Rattle.liquid_words.proofs.WordLaws.{bind_some, byte_some, from_some, map_some, number_again, number_shorter, number_takes, quoted_again, quoted_shorter, quoted_takes, word_again, word_shorter, word_takes}
 use Rattle.liquid_jekyll_shopify_filters.specs.Laws.{AtPath, PathIsRead}

@@ -5,7 +5,7 @@ use Rattle.std.specs.Prelude.{slice_index}
 use Rattle.liquid_model.specs.Data.{Datum, text, number}
 use Rattle.liquid_model.specs.Whole.{whole_text}
 use Rattle.liquid_words.specs.Bytes.{is_letter, in_word, not_quote}
-use Rattle.liquid_words.specs.WordReading.{literal_at, literal_by, integer_at, number_len, past_byte, quoted_at, run_len, until_quote, word_at}
+use Rattle.liquid_words.specs.Front.{literal_at, literal_by, integer_at, number_len, past_byte, quoted_at, run_len, until_quote, word_at}
 use Rattle.liquid_words.specs.Words.{passes, continues_number}
 use Rattle.liquid_jekyll_shopify_filters.specs.Path.{bracketed_at, closed, path_member, path_step, path_step_by, steps_in}
 

@@ -4,7 +4,7 @@ use Rattle.std.specs.Prelude.{ℕ, zero, suc, List, [], ◌∷◌, ◌++◌, len
 use Rattle.std.specs.Option.{option_and_then, option_map}
 use Rattle.liquid_model.specs.Data.{Datum, text}
 use Rattle.liquid_model.specs.Texts.{Text}
-use Rattle.liquid_words.specs.WordReading.{literal_at, past_byte, word_at, Reads}
+use Rattle.liquid_words.specs.Front.{literal_at, past_byte, word_at, Reads}
 
 -- the word after a `.`
 unfoldable pub path_member : Reads Datum

@@ -6,7 +6,7 @@ use Rattle.std.proofs.lemmas.List.Sums.{suffix_len-le-length, prefix_len_passes}
 use Rattle.std.specs.Str.{IsUtf8, IsCharBoundary}
 use Rattle.std.proofs.lemmas.Bool.{eqb-true}
 use Rattle.liquid_words.specs.Bytes.{is_white, plain, opens}
-use Rattle.liquid_words.specs.WordReading.{run_len}
+use Rattle.liquid_words.specs.Front.{run_len}
 use Rattle.liquid_words.proofs.Cuts.{run_within, white_low}
 use Rattle.std.proofs.lemmas.Str.{IsCharBoundary-at_seam}
 

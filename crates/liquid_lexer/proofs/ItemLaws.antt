@@ -4,7 +4,7 @@ use Rattle.std.specs.Option.{option_and_then, option_map, option_or}
 use Rattle.liquid_core.specs.Expression.{Expression}
 use Rattle.liquid_words.specs.Words.{Blank}
 use Rattle.liquid_lexer.specs.ValueReading.{expression_at}
-use Rattle.liquid_words.specs.WordReading.{past_white, past_byte, word_at, literal_at, quoted_at, integer_at}
+use Rattle.liquid_words.specs.Front.{past_white, past_byte, word_at, literal_at, quoted_at, integer_at}
 use Rattle.liquid_lexer.specs.Items.{Item, value, range, spelling_of, IsSymbol, IsRange, is_range, mark, dash_if, IsItem, is_symbol, is_interval, is_value, NoCloser, AreItems, closed, item}
 use Rattle.liquid_lexer.specs.ItemReading.{bare_closer_at, closer_by, closer_at, two_bytes, one_byte, long_symbol_at, short_symbol_at, symbol_at, range_at, before, range_or_value, item_by, lexed_item, ReadItems, items_by, items_at}
 use Rattle.liquid_lexer.specs.declared.symbol.Symbol.{Symbol}

@@ -2,7 +2,7 @@
 use Rattle.std.proofs.Common.{◌≡◌, ℕ, suc, ◌<◌, List, [], ◌∷◌, length, get_or, Bool, true, false, cond, eqb, None, refl, ap, sym, ◌∙◌, arith}
 use Rattle.std.specs.Str.{IsUtf8, IsCharBoundary}
 use Rattle.std.proofs.lemmas.Bool.{eqb-true}
-use Rattle.liquid_words.specs.WordReading.{run_len}
+use Rattle.liquid_words.specs.Front.{run_len}
 use Rattle.liquid_lexer.specs.SourceReading.{mark_at, in_raw, in_comment, in_body, goes_on}
 use Rattle.liquid_lexer.specs.declared.piece.Body.{Body}
 use Rattle.liquid_lexer.specs.declared.piece.Body.TheVariants.{Raw, Comment}

@@ -6,7 +6,7 @@ use Rattle.std.proofs.lemmas.List.{length-append}
 use Rattle.std.proofs.lemmas.Option.{none-some}
 use Rattle.std.proofs.lemmas.Bool.{false_from_ne_true}
 use Rattle.liquid_words.specs.Words.{begins_with}
-use Rattle.liquid_words.specs.WordReading.{run_len, past_white, past_byte, word_at}
+use Rattle.liquid_words.specs.Front.{run_len, past_white, past_byte, word_at}
 use Rattle.liquid_lexer.specs.Items.{dash_if}
 use Rattle.liquid_lexer.specs.ItemReading.{closer_at}
 use Rattle.liquid_lexer.specs.Openers.{opener, IsOpener, with_dash, no_dash}

@@ -7,7 +7,7 @@ use Rattle.std.proofs.Math.Seq.{take-append_seam, drop-append_seam}
 use Rattle.liquid_words.specs.Bytes.{plain, opens}
 use Rattle.liquid_words.specs.Words.{IsRun, passes}
 use Rattle.liquid_lexer.specs.ValueReading.{text_at}
-use Rattle.liquid_words.specs.WordReading.{run_len, past_byte, past_white, word_at}
+use Rattle.liquid_words.specs.Front.{run_len, past_byte, past_white, word_at}
 use Rattle.liquid_lexer.specs.Items.{Item, AreItems}
 use Rattle.liquid_lexer.specs.ItemReading.{items_at}
 use Rattle.liquid_lexer.specs.Openers.{opener, IsOpener}

@@ -6,7 +6,7 @@ use Rattle.std.proofs.lemmas.Option.{none-some}
 use Rattle.liquid_words.specs.Bytes.{plain}
 use Rattle.liquid_words.specs.Words.{passes}
 use Rattle.liquid_lexer.specs.ValueReading.{text_at}
-use Rattle.liquid_words.specs.WordReading.{run_len, past_byte}
+use Rattle.liquid_words.specs.Front.{run_len, past_byte}
 use Rattle.liquid_lexer.specs.Pieces.{Piece, stripped}
 use Rattle.liquid_lexer.specs.SourceReading.{Markup, markup_at, body_at, wanted_body, text_step, Goes, marked, turn, source_at}
 use Rattle.liquid_lexer.specs.declared.piece.Body.{Body}

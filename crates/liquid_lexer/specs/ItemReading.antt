@@ -6,7 +6,7 @@ use Rattle.liquid_words.specs.Bytes.{bar, close_brace, close_parenthesis, colon,
 use Rattle.liquid_words.specs.Bytes.{equals_sign, exclamation_mark, greater_sign, less_sign}
 use Rattle.liquid_words.specs.Bytes.{open_parenthesis}
 use Rattle.liquid_lexer.specs.ValueReading.{◌>>=◌, expression_at}
-use Rattle.liquid_words.specs.WordReading.{Reads, past_white, past_byte}
+use Rattle.liquid_words.specs.Front.{Reads, past_white, past_byte}
 use Rattle.liquid_lexer.specs.Items.{Item, value, range, symbol, mark}
 use Rattle.liquid_lexer.specs.declared.symbol.Symbol.{Symbol}
 use Rattle.liquid_lexer.specs.declared.symbol.Symbol.TheVariants.{Equals, NotEquals, LessOrGreater}

@@ -3,7 +3,7 @@ use Rattle.std.specs.Prelude.{ℕ, List, [], ◌∷◌, ◌++◌, Bool, true, fa
 use Rattle.liquid_words.specs.Bytes.{plain, open_brace}
 use Rattle.liquid_words.specs.Words.{IsRun, Blank, Word}
 use Rattle.liquid_lexer.specs.ValueReading.{without_trailing_white}
-use Rattle.liquid_words.specs.WordReading.{past_white}
+use Rattle.liquid_words.specs.Front.{past_white}
 use Rattle.liquid_lexer.specs.Items.{Item, AreItems}
 use Rattle.liquid_lexer.specs.Openers.{IsOpener}
 use Rattle.liquid_lexer.specs.Verbatim.{IsRaw, IsComment}

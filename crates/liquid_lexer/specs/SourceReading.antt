@@ -5,7 +5,7 @@ use Rattle.std.specs.Prelude.{false, not, cond, ◌&&◌, codes, bytes_eq, Optio
 use Rattle.std.specs.Option.{option_and_then, option_map}
 use Rattle.liquid_words.specs.Bytes.{dash, open_brace, percent}
 use Rattle.liquid_lexer.specs.ValueReading.{◌>>=◌}
-use Rattle.liquid_words.specs.WordReading.{Reads, run_len, past_white, past_byte, word_at}
+use Rattle.liquid_words.specs.Front.{Reads, run_len, past_white, past_byte, word_at}
 use Rattle.liquid_lexer.specs.ValueReading.{text_at}
 use Rattle.liquid_lexer.specs.ItemReading.{closer_at, items_at}
 use Rattle.liquid_lexer.specs.Pieces.{Piece, text, output, tag, raw, comment, stripped}

@@ -2,7 +2,7 @@
 ghost use Rattle.std.specs.Prelude.{◌≡◌, ◌≤◌, length, []};
 ghost use Rattle.std.specs.List.{suffix_len};
 ghost use Rattle.liquid_words.specs.Bytes.{is_white, plain};
-ghost use Rattle.liquid_words.specs.WordReading.{run_len};
+ghost use Rattle.liquid_words.specs.Front.{run_len};
 ghost use Rattle.liquid_lexer.specs.Values.{dotted};
 
 use liquid_words::is_white;

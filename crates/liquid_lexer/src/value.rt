@@ -6,7 +6,7 @@ ghost use Rattle.liquid_model.specs.Whole.{whole_text};
 ghost use Rattle.liquid_lexer.specs.inside.ValueFaults.{number_fault, value_fault};
 ghost use Rattle.liquid_lexer.specs.Values.{word_kind};
 ghost use Rattle.liquid_lexer.specs.ValueReading.{word_value, inner_of, expression_at};
-ghost use Rattle.liquid_words.specs.WordReading.{literal_at};
+ghost use Rattle.liquid_words.specs.Front.{literal_at};
 ghost use Rattle.liquid_lexer.specs.ValueReading.{step_at, steps_at};
 ghost use Rattle.liquid_lexer.specs.Readers.{Parses};
 ghost use Rattle.liquid_lexer.specs.PieceView.{word_kind_view, read_view};
@@ -80,7 +80,7 @@ fn no_number(text: &str, digits: &str, after: &[u8]) -> Fault
 }
 
 /// A text in quotes, or a number.
-#[tactic(auto, unfolding(liquid_words::specs::WordReading::literal_at))]
+#[tactic(auto, unfolding(liquid_words::specs::Front::literal_at))]
 fn read_literal(alloc: Global, text: &str) -> Result<(Value, &str), ParseError>
     ensures { Parses (λ x. (view x.0, x.1.now)) result (literal_at text.now) }
 {

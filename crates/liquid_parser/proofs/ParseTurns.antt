@@ -27,7 +27,7 @@ use Rattle.liquid_lexer.specs.SourceReading.{Markup, markup_at, text_step, sourc
 use Rattle.liquid_syntax.specs.Templates.{tree_of}
 use Rattle.liquid_evaluation.specs.Tree.{Node, Nodes, no_nodes, Whens}
 use Rattle.liquid_lexer.specs.ValueReading.{text_at}
-use Rattle.liquid_words.specs.WordReading.{past_byte}
+use Rattle.liquid_words.specs.Front.{past_byte}
 use Rattle.liquid_parser.specs.declared.build.Builder.{Builder}
 use Rattle.liquid_lexer.specs.declared.fault.ParseError.{ParseError}
 use Rattle.liquid_lexer.specs.declared.fault.ParseError.TheVariants as errors

@@ -4,7 +4,7 @@ use Rattle.std.proofs.lemmas.List.{get_or-drop, length-drop}
 use Rattle.std.specs.Str.{IsUtf8, IsCharBoundary}
 use Rattle.std.proofs.lemmas.Bool.Decides.{nat_tests}
 use Rattle.liquid_words.specs.Bytes.{is_white, is_letter, is_digit, in_word, not_quote, closes}
-use Rattle.liquid_words.specs.WordReading.{run_len, with_sign, sign_len, number_len}
+use Rattle.liquid_words.specs.Front.{run_len, with_sign, sign_len, number_len}
 use Rattle.std.proofs.lemmas.Str.{IsCharBoundary-start, IsCharBoundary-after_ascii}
 
 -- a cut after a byte below 128

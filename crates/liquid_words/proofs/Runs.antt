@@ -1,7 +1,7 @@
 -- A loop over a run of bytes, a turn at a time.
 use Rattle.std.proofs.Common.{◌≡◌, ℕ, suc, ◌+◌, ◌-◌, ◌<◌, List, length, take, drop, get_or, Bool, true, false, cond, ap, ◌∙◌, arith, drop-cons}
 use Rattle.std.proofs.lemmas.List.{take_rest}
-use Rattle.liquid_words.specs.WordReading.{run_len}
+use Rattle.liquid_words.specs.Front.{run_len}
 
 module _ (t : ℕ → List ℕ → Bool) (bs : List ℕ) (n : ℕ) (within : n < length bs) (so_far : run_len t bs ≡ n + run_len t (drop n bs)) where
   here : run_len t (drop n bs) ≡ cond (t (get_or bs n 0) (drop (suc n) bs)) (suc (run_len t (drop (suc n) bs))) 0

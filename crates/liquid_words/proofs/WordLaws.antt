@@ -5,7 +5,7 @@ use Rattle.std.specs.Str.{all_ascii_digits}
 use Rattle.liquid_model.specs.Whole.{whole_text, is_whole_text}
 use Rattle.liquid_words.specs.Bytes.{is_white, is_letter, is_digit, in_word, not_quote}
 use Rattle.liquid_words.specs.Words.{passes, IsRun, Blank, Word, Quoted, Number, continues_number}
-use Rattle.liquid_words.specs.WordReading.{run_len, past_white, past_byte, word_at, until_quote, quoted_at, integer_at, number_len, with_sign}
+use Rattle.liquid_words.specs.Front.{run_len, past_white, past_byte, word_at, until_quote, quoted_at, integer_at, number_len, with_sign}
 use Rattle.std.proofs.lemmas.List.{take-append-drop, length-append}
 use Rattle.std.proofs.Math.Seq.{take-append_seam, drop-append_seam}
 use Rattle.std.proofs.lemmas.Bool.{eqb-true, eq-eqb, and_parts, false_from_ne_true, ne_eqb, or_left, or_right}

@@ -1,3 +1,4 @@
 pub mod Bytes
-pub mod WordReading
+pub mod Front
+pub mod FrontLaws
 pub mod Words

@@ -1,12 +1,12 @@
 //! Parts of a text, cut at its front: each borrows from the text, and nothing is copied.
 ghost use Rattle.std.specs.Prelude.{◌≡◌, ◌≤◌, option_map};
-ghost use Rattle.liquid_words.specs.WordReading.{past_white, past_byte, word_at, until_quote};
-ghost use Rattle.liquid_words.specs.WordReading.{quoted_at};
+ghost use Rattle.liquid_words.specs.Front.{past_white, past_byte, word_at, until_quote};
+ghost use Rattle.liquid_words.specs.Front.{quoted_at};
 
 use crate::scan::{is_letter, unquoted_len, white_len, word_len};
 
 /// The text without the whitespace at its front.
-#[tactic(auto, unfolding(crate::specs::WordReading::past_white), using(crate::proofs::Cuts::white_cut))]
+#[tactic(auto, unfolding(crate::specs::Front::past_white), using(crate::proofs::Cuts::white_cut))]
 pub fn past_white(text: &str) -> &str
     ensures { result.now ≡ past_white text.now }
 {
@@ -26,7 +26,7 @@ pub fn past_byte(text: &str, byte: u8) -> Option<&str>
 }
 
 /// A word: a letter or `_`, then letters, digits, `_` and `-`.
-#[tactic(auto, unfolding(crate::specs::WordReading::word_at), using(crate::proofs::Cuts::word_cut))]
+#[tactic(auto, unfolding(crate::specs::Front::word_at), using(crate::proofs::Cuts::word_cut))]
 pub fn word(text: &str) -> Option<(&str, &str)>
     ensures { option_map (λ x. (x.0.now, x.1.now)) result ≡ word_at text.now }
 {
@@ -37,7 +37,7 @@ pub fn word(text: &str) -> Option<(&str, &str)>
     }
 }
 
-#[tactic(auto, unfolding(crate::specs::WordReading::until_quote), using(crate::proofs::Cuts::quote_cut))]
+#[tactic(auto, unfolding(crate::specs::Front::until_quote), using(crate::proofs::Cuts::quote_cut))]
 fn until_quote(text: &str, quote: u8) -> Option<(&str, &str)>
     requires { quote ≤ 127 }
     ensures { option_map (λ x. (x.0.now, x.1.now)) result ≡ until_quote quote text.now }
@@ -48,7 +48,7 @@ fn until_quote(text: &str, quote: u8) -> Option<(&str, &str)>
 }
 
 /// A text in quotes, without them.
-#[tactic(auto, unfolding(crate::specs::WordReading::quoted_at), using(crate::proofs::Cuts::past_first))]
+#[tactic(auto, unfolding(crate::specs::Front::quoted_at), using(crate::proofs::Cuts::past_first))]
 pub fn quoted(text: &str) -> Option<(&str, &str)>
     ensures { option_map (λ x. (x.0.now, x.1.now)) result ≡ quoted_at text.now }
 {

@@ -1,13 +1,13 @@
 //! Whole numbers.
 ghost use Rattle.std.specs.Prelude.{◌≡◌, option_map};
-ghost use Rattle.liquid_words.specs.WordReading.{integer_at};
+ghost use Rattle.liquid_words.specs.Front.{integer_at};
 
 use crate::scan::{number_goes_on, number_len};
 use liquid_model::whole_of;
 
 /// A number: an optional sign and digits, within 64 bits. It isn't one where a letter or a fraction
 /// follows.
-#[tactic(auto, unfolding(crate::specs::WordReading::integer_at), using(crate::proofs::Cuts::number_cut))]
+#[tactic(auto, unfolding(crate::specs::Front::integer_at), using(crate::proofs::Cuts::number_cut))]
 pub fn number(text: &str) -> Option<(i64, &str)>
     ensures { option_map (λ x. (x.0, x.1.now)) result ≡ integer_at text.now }
 {

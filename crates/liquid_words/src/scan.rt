@@ -2,7 +2,7 @@
 ghost use Rattle.std.specs.Prelude.{◌≡◌, ◌≤◌, length, []};
 ghost use Rattle.liquid_words.specs.Bytes.{is_white, is_letter, is_digit, closes, in_word};
 ghost use Rattle.liquid_words.specs.Bytes.{not_quote};
-ghost use Rattle.liquid_words.specs.WordReading.{run_len, number_len};
+ghost use Rattle.liquid_words.specs.Front.{run_len, number_len};
 ghost use Rattle.liquid_words.specs.Words.{passes, continues_number};
 
 /// Whether the byte is a space, a tab, a carriage return or a line feed.

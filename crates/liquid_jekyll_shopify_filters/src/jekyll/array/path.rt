@@ -5,7 +5,7 @@ ghost use Rattle.liquid_model.specs.View.{view};
 ghost use Rattle.liquid_jekyll_shopify_filters.specs.Path.{bracketed_at, path_member, path};
 ghost use Rattle.liquid_jekyll_shopify_filters.specs.Path.{path_step};
 ghost use Rattle.liquid_jekyll_shopify_filters.specs.Path.{with_steps};
-ghost use Rattle.liquid_words.specs.WordReading.{literal_at};
+ghost use Rattle.liquid_words.specs.Front.{literal_at};
 ghost use Rattle.liquid_jekyll_shopify_filters.specs.inside.PathView.{path_view, step_view};
 
 use liquid_model::{Result, Value};
@@ -80,7 +80,7 @@ fn read_bracketed(alloc: Global, text: &str) -> Result<Option<(Value, &str)>>
 }
 
 /// A text in quotes, or a whole number.
-#[tactic(auto, unfolding(liquid_words::specs::WordReading::literal_at))]
+#[tactic(auto, unfolding(liquid_words::specs::Front::literal_at))]
 fn read_literal(alloc: Global, text: &str) -> Result<Option<(Value, &str)>>
     ensures { IsValueOrMemory step_view result (literal_at text.now) }
 {

@@ -1,6 +1,6 @@
 use Rattle.std.proofs.Common.{length, drop, ◌-◌, ◌+◌, ◌≡◌, ◌≤◌}
 use Rattle.liquid_words.specs.Bytes.{is_digit}
-use Rattle.liquid_words.specs.WordReading.{run_len}
+use Rattle.liquid_words.specs.Front.{run_len}
 use Rattle.liquid_words.proofs.scan.digit_len.Given as goal
 
 abbrev pub invariant-loop-n : goal.invariant-loop-n

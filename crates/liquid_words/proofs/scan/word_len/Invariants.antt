@@ -1,6 +1,6 @@
 use Rattle.std.proofs.Common.{length, drop, ◌-◌, ◌+◌, ◌≡◌, ◌≤◌}
 use Rattle.liquid_words.specs.Bytes.{in_word}
-use Rattle.liquid_words.specs.WordReading.{run_len}
+use Rattle.liquid_words.specs.Front.{run_len}
 use Rattle.liquid_words.proofs.scan.word_len.Given as goal
 
 abbrev pub invariant-loop-n : goal.invariant-loop-n
