@@ -7,7 +7,7 @@ from dataclasses import dataclass
 from crates import copied, ran
 from edits import sources, text_of
 from functions import modules, stated_functions
-from stubs import TYPE, place_of, stub
+from stubs import homes_of, place_of, stub
 
 ROOT = """#![tactic(auto)]
 
@@ -107,11 +107,11 @@ def rename(copy, old, new):
 def whole_names(copy, functions):
     """The paths of these functions in their crate."""
     texts = {path: text_of(f"{copy}/{path}") for path in sources(copy)}
-    homes = {name: modules(path) for path, text in texts.items() for name in TYPE.findall(text)}
+    homes = homes_of(texts)
     stated = {it.name: it for path, text in texts.items() for it in stated_functions(text, path)}
     for it in functions:
         owner = it.name.partition("::")[0]
-        yield "::".join(place_of(stated[it.name], homes) if it.name in stated else [*homes.get(owner, []), it.name])
+        yield "::".join(place_of(stated[it.name], homes) if it.name in stated else [*homes.get(owner, [[]])[-1], it.name])
 
 
 def remove_cycles(copy, cycles):

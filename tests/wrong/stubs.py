@@ -25,7 +25,7 @@ pub {name}_spec : {{M : Type 1}} → statement M
 def stub(crate, folder, proved):
     """Takes at its word each function of the copy, but these and those of their cycles of calls, which may span modules."""
     texts = {path: text_of(f"{folder}/{path}") for path in sources(folder)}
-    homes = {name: modules(path) for path, text in texts.items() for name in TYPE.findall(text)}
+    homes = homes_of(texts)
     stated = {it.name: it for path, text in texts.items() for it in stated_functions(text, path)}
     for it in proved:
         if isinstance(it, Twin):
@@ -59,10 +59,22 @@ def empty_body(lines, function):
         lines[function.marked] = ""
 
 
+def homes_of(texts):
+    """The modules that have a type of a name, by the name."""
+    homes = {}
+    for path, text in texts.items():
+        for name in TYPE.findall(text):
+            homes.setdefault(name, []).append(modules(path))
+    return homes
+
+
 def place_of(function, homes):
-    """The path of the function in the crate, by its parts."""
+    """The path of the function in the crate, by its parts. Of several types of one name a method is of the one in its own file."""
     owner, _, name = function.name.rpartition("::")
-    return [*homes.get(owner, [owner]), owner, name] if function.is_inherent else [*filter(None, owner.split("::")), name]
+    if not function.is_inherent:
+        return [*filter(None, owner.split("::")), name]
+    found, own = homes.get(owner, [[owner]]), modules(function.path)
+    return [*(own if own in found else found[-1]), owner, name]
 
 
 def give_answers(crate, folder, of, to):

@@ -6,8 +6,7 @@ ghost use Rattle.liquid_tags.specs.Standard.{IsStandard};
 use crate::parts::PageParts;
 use liquid_commands::FilterSet;
 use liquid_core::{ErrorKind, Filter, HostFilters, Result};
-use liquid_filter_sets::{WhereExp, jekyll_language, shopify_language};
-use liquid_filter_settings::{SiteSettings, shop_of};
+use liquid_filter_sets::{SiteSettings, WhereExp, jekyll_language, shop_of, shopify_language};
 use liquid_jekyll_host_filters::{JEKYLL_FILTERS, SiteFilter};
 use liquid_lib::{
     DEFAULT_DEPTH, Language, LimitedPage, Limits, Surroundings, language, render_hosted_page,
@@ -58,24 +57,27 @@ pub fn page_with(
 
 fn jekyll_page(alloc: Global, parts: &PageParts, limits: Limits) -> Result<LimitedPage> {
     let site = SiteSettings::of(&parts.data);
-    let mut filters = Vec::new(alloc);
-    for kind in JEKYLL_FILTERS {
-        let filter = SiteFilter::new(alloc, kind, site.address, site.base)?;
-        let boxed: Box<dyn Filter> = Box::new(alloc, filter)?;
-        filters.push((String::from_str(alloc, kind.name())?, boxed))?;
-    }
+    let name = String::from_str(alloc, "where_exp")?;
     let boxed: Box<dyn Filter> = Box::new(alloc, WhereExp)?;
-    filters.push((String::from_str(alloc, "where_exp")?, boxed))?;
+    let mut filters = Vec::new(alloc);
+    filters.push((name, boxed))?;
+    for kind in &JEKYLL_FILTERS {
+        let name = String::from_str(alloc, kind.name())?;
+        let filter = SiteFilter::new(alloc, *kind, site.address, site.base)?;
+        let boxed: Box<dyn Filter> = Box::new(alloc, filter)?;
+        filters.push((name, boxed))?;
+    }
     hosted_page(alloc, parts, &HostFilters::new(filters), limits)
 }
 
 fn shopify_page(alloc: Global, parts: &PageParts, limits: Limits) -> Result<LimitedPage> {
     let shop = Rc::new(alloc, shop_of(alloc, &parts.data)?)?;
     let mut filters = Vec::new(alloc);
-    for kind in SHOPIFY_FILTERS {
+    for kind in &SHOPIFY_FILTERS {
+        let name = String::from_str(alloc, kind.name())?;
         let shop = shop.clone()?;
-        let boxed: Box<dyn Filter> = Box::new(alloc, ShopifyFilter { kind, shop })?;
-        filters.push((String::from_str(alloc, kind.name())?, boxed))?;
+        let boxed: Box<dyn Filter> = Box::new(alloc, ShopifyFilter { kind: *kind, shop })?;
+        filters.push((name, boxed))?;
     }
     hosted_page(alloc, parts, &HostFilters::new(filters), limits)
 }

@@ -1,12 +1,11 @@
 //! The command `merge`.
-use crate::parts::{PageParts, read_parts, read_pattern};
+use crate::parts::{read_parts, read_pattern};
 use crate::progress::Progress;
 use crate::report::Report;
 use crate::target::{RecordOutcome, Target};
 use liquid_command_files::{Sources, Stop, called, form_of};
 use liquid_commands::{MergeCall, is_selected};
 use liquid_excerpts::{Reason, ShownPath};
-use liquid_lib::DEFAULT_DEPTH;
 use liquid_records::{Job, Merge};
 use liquid_row_records::{HeadStop, Records};
 use std::alloc::AllocError;
@@ -16,34 +15,20 @@ use std::{fs, io};
 /// Writes the page of each record. A record's fault is printed, and stops no other: the merge ends
 /// where the disk is full, or where the records or standard output fail.
 pub fn merge(rt: &HostRuntime, call: &MergeCall<'_>) -> Result<(), Stop> {
-    let parts = read_parts(rt, &call.inputs)?;
-    let PageParts {
-        sources,
-        template,
-        partials,
-        data,
-    } = parts;
-    let job = Job {
-        template,
-        partials,
-        depth: DEFAULT_DEPTH,
-        shared: data,
-    };
-    let mut target = match call.out {
-        Some(pattern) => {
-            let pattern = read_pattern(rt, pattern)?;
-            Target::files(rt, Merge::new(rt.alloc(), job, pattern), call.dry_run)
-        }
-        None => Target::Output(job),
-    };
+    let (sources, job) = read_parts(rt, &call.inputs)?.into_job();
+    let mut target = target_of(rt, call, job)?;
     let run = Run { rt, call, sources };
-    if call.records == "-" {
-        return run.all(&mut target, rt.reader());
-    }
-    match fs::open(rt, call.records) {
-        Ok(file) => run.all(&mut target, file),
-        Err(refused) => Err(run.unreadable(refused.kind())),
-    }
+    run.merge_into(&mut target)
+}
+
+/// Where the pages of a merge go.
+fn target_of<'r>(rt: &'r HostRuntime, call: &MergeCall<'_>, job: Job) -> Result<Target<'r>, Stop> {
+    let Some(pattern) = call.out else {
+        return Ok(Target::Output(job));
+    };
+    let pattern = read_pattern(rt, pattern)?;
+    let merge = Merge::new(rt.alloc(), job, pattern);
+    Ok(Target::files(rt, merge, call.dry_run))
 }
 
 /// A merge of the program: what it is asked for, and the texts that faults are shown in.
@@ -55,31 +40,38 @@ struct Run<'r> {
 }
 
 impl Run<'_> {
-    /// Merges the records that a reader gives, and prints how many pages there are and how many
-    /// records failed.
-    fn all<R: Read + Drop>(&self, target: &mut Target<'_>, reader: R) -> Result<(), Stop> {
-        let mut records = self.records(reader)?;
-        let mut progress = Progress::new(self.rt, self.call.progress);
-        match self.each(target, &mut records, &mut progress) {
-            Ok(()) => progress.end(self.rt),
-            Err(stop) => Err(stop),
+    /// Merges the records of standard input or of a file.
+    fn merge_into(&self, target: &mut Target<'_>) -> Result<(), Stop> {
+        if self.call.records == "-" {
+            return self.all(target, self.rt.reader());
+        }
+        match fs::open(self.rt, self.call.records) {
+            Ok(file) => self.all(target, file),
+            Err(refused) => Err(self.unreadable(refused.kind())),
         }
     }
 
-    /// Merges one record after another, up to the last that is asked for.
+    /// Merges the records that a reader gives.
+    fn all<R: Read + Drop>(&self, target: &mut Target<'_>, reader: R) -> Result<(), Stop> {
+        let mut records = self.records(reader)?;
+        self.each(target, &mut records)
+    }
+
+    /// Merges one record after another, up to the last that is asked for, and prints how many pages
+    /// there are and how many records failed.
     fn each<R: Read + Drop>(
         &self,
         target: &mut Target<'_>,
         records: &mut Records<R>,
-        progress: &mut Progress,
     ) -> Result<(), Stop> {
+        let mut progress = Progress::new(self.rt, self.call.progress);
         for _ in 0..u64::MAX {
             if !self.advance(records)? {
                 break;
             }
-            self.one(target, records, progress)?;
+            self.one(target, records, &mut progress)?;
         }
-        Ok(())
+        progress.end(self.rt)
     }
 
     /// The records that a reader gives. A fault of their head is printed.

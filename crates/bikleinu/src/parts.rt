@@ -6,17 +6,30 @@ use liquid_command_files::{Source, Sources, Stop, print_fault, read_data};
 use liquid_commands::{Inputs, Missing};
 use liquid_completion::complete;
 use liquid_core::Object;
-use liquid_lib::{Language, Partials, Template, language, parse_with_source};
+use liquid_lib::{DEFAULT_DEPTH, Language, Partials, Template, language, parse_with_source};
+use liquid_records::Job;
 use liquid_uses::uses_of;
 use std::alloc::Global;
 
 /// What pages are made of.
-#[derive(Drop)]
 pub struct PageParts {
     pub sources: Sources,
     pub template: Template,
     pub partials: Partials,
     pub data: Object,
+}
+
+/// Drops the fields. Written by hand, so that each early return drops the value by one call to
+/// prove.
+impl Drop for PageParts {
+    fn drop(self) {
+        let PageParts {
+            sources: _,
+            template: _,
+            partials: _,
+            data: _,
+        } = self;
+    }
 }
 
 /// Reads the template, the data and the partials. A fault of one of them is printed.
@@ -83,5 +96,28 @@ impl PageParts {
             complete(alloc, &mut self.data, &uses)?;
         }
         Ok(())
+    }
+
+    /// The sources, and a job of the others, in which partials nest as deep as they may by default.
+    pub fn into_job(self) -> (Sources, Job)
+        ensures sources { result.0 ≡ self.sources }
+        ensures template { result.1.template ≡ self.template }
+        ensures partials { result.1.partials ≡ self.partials }
+        ensures shared { result.1.shared ≡ self.«data» }
+        ensures depth { result.1.depth ≡ 32 }
+    {
+        let PageParts {
+            sources,
+            template,
+            partials,
+            data,
+        } = self;
+        let job = Job {
+            template,
+            partials,
+            depth: DEFAULT_DEPTH,
+            shared: data,
+        };
+        (sources, job)
     }
 }

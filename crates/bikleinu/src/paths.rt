@@ -3,7 +3,7 @@ use crate::parts::read_parts;
 use liquid_command_files::{Stop, print_text};
 use liquid_commands::{PathsCall, PathsFormat};
 use liquid_core::Uses;
-use liquid_schemas::schema_of;
+use liquid_json::schema_of;
 use liquid_uses::{paths_of, uses_of};
 use std::alloc::Global;
 

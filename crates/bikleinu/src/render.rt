@@ -25,8 +25,8 @@ pub fn render(rt: &HostRuntime, call: &RenderCall<'_>) -> Result<(), Stop> {
         print_limit(rt, &parts.sources, limit, limits);
         return Err(Stop::Faulted);
     }
-    if let Some(fault) = fault {
-        parts.sources.print_page_fault(rt, &fault);
+    if let Some(fault) = &fault {
+        parts.sources.print_page_fault(rt, fault);
         return Err(Stop::Faulted);
     }
     match call.out {

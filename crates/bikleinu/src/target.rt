@@ -13,7 +13,6 @@ use std::alloc::Global;
 pub type RecordOutcome = Result<(), Report>;
 
 /// Where the pages of a merge go.
-#[derive(Drop)]
 pub enum Target<'r> {
     /// Each into the file of its name.
     Files(FileMerge<'r>),
@@ -21,6 +20,16 @@ pub enum Target<'r> {
     Names(Merge),
     /// All to standard output.
     Output(Job),
+}
+
+/// Drops what it holds. Written by hand, so that each early return drops the value by one call
+/// to prove.
+impl Drop for Target<'_> {
+    fn drop(self) {
+        match self {
+            Target::Files(_) | Target::Names(_) | Target::Output(_) => {}
+        }
+    }
 }
 
 /// A merge, and the files that its pages go into.

@@ -1,7 +1,9 @@
 pub mod ConditionTexts
 pub mod Languages
 pub mod Laws
+pub mod MoneyFormats
 pub mod ReadBack
 pub mod Selections
+pub mod Settings
 pub mod Truths
 pub mod Views

@@ -1,11 +1,16 @@
-//! Jekyll's and Shopify's sets of filters as a whole: the languages that have their names, and the
-//! filter of Jekyll that reads a condition; and whether the JSON that they write is read back.
+//! Jekyll's and Shopify's sets of filters as a whole: the languages that have their names, the
+//! filter of Jekyll that reads a condition, what the filters know of a site or a shop beside their
+//! input and arguments, as the data says it; and whether the JSON that they write is read back.
 #![tactic(auto)]
 
 mod condition_text;
 mod json_texts;
 mod languages;
 pub mod laws;
+mod member;
+mod money;
+mod shop;
+mod site;
 mod truth;
 mod where_exp;
 
@@ -13,4 +18,7 @@ pub use json_texts::is_read_back;
 pub use languages::{
     jekyll_language, register_jekyll_filters, register_shopify_filters, shopify_language,
 };
+pub use money::money_format;
+pub use shop::shop_of;
+pub use site::SiteSettings;
 pub use where_exp::WhereExp;

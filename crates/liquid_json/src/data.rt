@@ -5,16 +5,17 @@ ghost use Rattle.liquid_model.specs.View.{view, items_view, pairs_view};
 ghost use Rattle.liquid_model.specs.UseViews.{uses_view};
 ghost use Rattle.liquid_json.specs.Asked.{AnswersAlike, IsAlikeData};
 ghost use Rattle.liquid_json.specs.Json.{datum_of, parsed_items, parsed_pairs, parsed_object};
-ghost use Rattle.liquid_json.specs.Json.{data_of};
+ghost use Rattle.liquid_json.specs.Json.{data_of, whole_number};
+ghost use Rattle.serde_json.specs.Find.{as_i64};
 ghost use Rattle.serde_json.specs.View.{view as json_view, items_view as json_items};
-ghost use Rattle.serde_json.specs.View.{members_view as json_members};
+ghost use Rattle.serde_json.specs.View.{members_view as json_members, number_view};
 
 use crate::copies::{any_by_place, plain_uses};
 use crate::place::{no_json, with_place};
 use crate::planned::data_from_planned;
 use crate::tokens::{MAX_DEPTH, data_from_tokens};
 use liquid_model::{Error, ErrorKind, Object, Result, Uses, Value};
-use serde_json::Map;
+use serde_json::{Map, Number};
 use std::alloc::{AllocError, Global};
 use std::collections::BTreeMap;
 
@@ -87,6 +88,20 @@ fn object_of(alloc: Global, value: serde_json::Value) -> Result<Object>
     }
 }
 
+/// A number, which has to be whole.
+fn integer(alloc: Global, number: Number) -> Result<Value>
+    ensures { Answers view result (whole_number (as_i64 (number_view number))) }
+{
+    match number.as_i64() {
+        Some(n) => Ok(Value::Integer(n)),
+        None => Err(Error::new(
+            alloc,
+            ErrorKind::Float,
+            "a number is not whole, or past 64 bits",
+        )),
+    }
+}
+
 #[cycle(value_of)]
 fn value_of(alloc: Global, value: serde_json::Value) -> Result<Value>
     ensures { Answers view result (datum_of (json_view value)) }
@@ -94,14 +109,7 @@ fn value_of(alloc: Global, value: serde_json::Value) -> Result<Value>
     match value {
         serde_json::Value::Null => Ok(Value::Nil),
         serde_json::Value::Bool(b) => Ok(Value::Bool(b)),
-        serde_json::Value::Number(number) => match number.as_i64() {
-            Some(n) => Ok(Value::Integer(n)),
-            None => Err(Error::new(
-                alloc,
-                ErrorKind::Float,
-                "a number is not whole, or past 64 bits",
-            )),
-        },
+        serde_json::Value::Number(number) => integer(alloc, number),
         serde_json::Value::String(text) => Ok(Value::Text(text)),
         serde_json::Value::Array(items) => Ok(Value::Array(items_of(alloc, items)?)),
         serde_json::Value::Object(members) => Ok(Value::Object(pairs_of(alloc, members)?)),

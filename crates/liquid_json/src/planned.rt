@@ -1,5 +1,7 @@
 //! Values from the tokens of a text of JSON, without what nobody asks for.
-ghost use Rattle.std.specs.Prelude.{◌<◌, length, IfOk, IfSome, OnOk, IsTrue};
+ghost use Rattle.std.specs.Prelude.{◌≡◌, ◌<◌, length, Some, IfOk, IfSome, OnOk, IsTrue};
+ghost use Rattle.json.specs.Json.{parse_map};
+ghost use Rattle.liquid_model.specs.Data.{array, object, no_items, no_pairs};
 ghost use Rattle.liquid_model.specs.View.{view, items_view, pairs_view};
 ghost use Rattle.liquid_model.specs.Uses.{parts, uncounted};
 ghost use Rattle.liquid_model.specs.UseViews.{use_view, members_view, turns_view, uses_view};
@@ -8,10 +10,11 @@ ghost use Rattle.liquid_json.specs.Json.{data_of};
 ghost use Rattle.liquid_json.specs.PlainUses.{is_plain_use, plain_fields, plain_turns};
 ghost use Rattle.liquid_json.specs.inside.Planned.{IsPlanned, PairsPlanned};
 ghost use Rattle.liquid_json.specs.inside.Planned.{AreFirstItems, ArePlanned};
+ghost use Rattle.liquid_json.specs.inside.Skipped.{IsItems};
+ghost use Rattle.liquid_json.specs.inside.Tokens.{pairs_at};
 
 use crate::skip::{skip_items, skipped};
-use crate::tokens::{MAX_DEPTH, NoData, read, read_pairs};
-use crate::whole::integer_of;
+use crate::tokens::{MAX_DEPTH, NoData, put_member, read, read_pairs, scalar};
 use json::{Reader, Scratch, Token};
 use liquid_model::{ItemUse, Object, Use, Uses, Value, member_of};
 use std::alloc::{AllocError, Global};
@@ -105,6 +108,25 @@ pub fn data_from_planned(
     }
 }
 
+/// A list of whose items nothing is asked: they are skipped.
+fn without_items(alloc: Global, reader: &mut Reader<'_>, depth: usize) -> Result<Value, NoData>
+    ensures ok { IfOk result (λ v. IsItems depth reader.old reader.new ×
+        (view v ≡ array no_items)) }
+    ensures shorter { OnOk result (length reader.new < length reader.old) }
+{
+    skip_items(reader, depth)?;
+    Ok(Value::Array(Vec::new(alloc)))
+}
+
+/// A map as a whole.
+fn whole_map(alloc: Global, reader: &mut Reader<'_>, depth: usize) -> Result<Value, NoData>
+    ensures ok { IfOk result (λ v. parse_map object
+        (pairs_at depth no_pairs (length reader.old) reader.old) ≡ Some (view v, reader.new)) }
+    ensures shorter { OnOk result (length reader.new < length reader.old) }
+{
+    Ok(Value::Object(read_pairs(alloc, reader, depth)?))
+}
+
 /// The value at the front of the tokens, as far as it is asked for.
 #[cycle(planned)]
 fn read_planned(
@@ -123,14 +145,8 @@ fn read_planned(
             skipped(reader, depth)?;
             Ok(Value::Nil)
         }
-        Use::Everything => {
-            let value = read(alloc, reader, depth)?;
-            Ok(value)
-        }
-        Use::Parts { members, items } => {
-            let value = read_parts(alloc, reader, depth, items, members)?;
-            Ok(value)
-        }
+        Use::Everything => read(alloc, reader, depth),
+        Use::Parts { members, items } => read_parts(alloc, reader, depth, items, members),
     }
 }
 
@@ -149,25 +165,16 @@ fn read_parts(
         reader.old (view v) reader.new) }
     ensures shorter { OnOk result (length reader.new < length reader.old) }
 {
-    let token = reader.next().ok_or(NoData::Other)?;
+    let Some(token) = reader.next() else {
+        return Err(NoData::Other);
+    };
     match token {
-        Token::String(text) => Ok(Value::Text(String::from_str(alloc, text)?)),
-        Token::Number(text) => match integer_of(text) {
-            Some(n) => Ok(Value::Integer(n)),
-            None => Err(NoData::Other),
-        },
-        Token::Bool(b) => Ok(Value::Bool(b)),
-        Token::Null => Ok(Value::Nil),
-        Token::EndObject | Token::EndArray | Token::Key(_) | Token::Bad => Err(NoData::Other),
         Token::BeginArray => {
             if depth == 0 {
                 return Err(NoData::Other);
             }
             match items {
-                None => {
-                    skip_items(reader, depth - 1)?;
-                    Ok(Value::Array(Vec::new(alloc)))
-                }
+                None => without_items(alloc, reader, depth - 1),
                 Some(asked) => Ok(Value::Array(asked_items(alloc, reader, depth - 1, asked)?)),
             }
         }
@@ -177,9 +184,10 @@ fn read_parts(
             }
             match items {
                 None => Ok(Value::Object(planned_pairs(alloc, reader, depth - 1, members)?)),
-                Some(_asked) => Ok(Value::Object(read_pairs(alloc, reader, depth - 1)?)),
+                Some(_asked) => whole_map(alloc, reader, depth - 1),
             }
         }
+        _ => scalar(alloc, token),
     }
 }
 
@@ -198,14 +206,8 @@ fn asked_items(
     ensures shorter { OnOk result (length reader.new < length reader.old) }
 {
     match asked.limit {
-        None => {
-            let all = planned_items(alloc, reader, depth, &asked.each)?;
-            Ok(all)
-        }
-        Some(limit) => {
-            let first = first_items(alloc, reader, depth, limit, &asked.each)?;
-            Ok(first)
-        }
+        None => planned_items(alloc, reader, depth, &asked.each),
+        Some(limit) => first_items(alloc, reader, depth, limit, &asked.each),
     }
 }
 
@@ -281,14 +283,8 @@ fn read_item(
     ensures shorter { OnOk result (length reader.new < length reader.old) }
 {
     match extent {
-        Extent::Whole => {
-            let whole = read(alloc, reader, depth)?;
-            Ok(whole)
-        }
-        Extent::Asked => {
-            let value = read_planned(alloc, reader, depth, asked)?;
-            Ok(value)
-        }
+        Extent::Whole => read(alloc, reader, depth),
+        Extent::Asked => read_planned(alloc, reader, depth, asked),
     }
 }
 
@@ -309,9 +305,8 @@ fn planned_pairs(
     'pairs: while let Some(name) = reader.next_key()? {
         match member_of(members, name) {
             Some(asked) => {
-                let key = String::from_str(alloc, name)?;
                 let member = read_planned(alloc, reader, depth, asked)?;
-                drop(found.insert(key, member)?);
+                put_member(alloc, &mut found, name, member)?;
             }
             None => skipped(reader, depth)?,
         }

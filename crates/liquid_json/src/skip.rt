@@ -1,7 +1,8 @@
 //! Past what nobody asks for: its tokens are looked at, and no value is made.
-ghost use Rattle.std.specs.Prelude.{◌<◌, length, IfOk, OnOk};
+ghost use Rattle.std.specs.Prelude.{◌<◌, length, IfOk, IsSome, OnOk};
 ghost use Rattle.json.specs.Reads.{token_of};
 ghost use Rattle.liquid_json.specs.inside.Skipped.{IsSkippedValue, IsItems, IsPairs};
+ghost use Rattle.liquid_json.specs.inside.Tokens.{scalar_of};
 
 use crate::whole::integer_of;
 use json::{Invalid, Reader, Token};
@@ -16,22 +17,31 @@ impl From<Invalid> for Refused {
     }
 }
 
+/// Refuses a token that isn't a value by itself, and a number that isn't whole.
+#[inline(always)]
+fn check_scalar(token: Token<'_>) -> Result<(), Refused>
+    ensures { OnOk result (IsSome (scalar_of (token_of token.entry))) }
+{
+    match token {
+        Token::Number(text) => match integer_of(text) {
+            Some(_n) => Ok(()),
+            None => Err(Refused),
+        },
+        Token::String(_) | Token::Bool(_) | Token::Null => Ok(()),
+        _ => Err(Refused),
+    }
+}
+
 /// Past the value at the front of the tokens.
 #[cycle(skipped)]
 pub fn skipped(reader: &mut Reader<'_>, depth: usize) -> Result<(), Refused>
     ensures ok { IfOk result (λ u. IsSkippedValue depth reader.old reader.new) }
     ensures shorter { OnOk result (length reader.new < length reader.old) }
 {
-    let token = reader.next().ok_or(Refused)?;
+    let Some(token) = reader.next() else {
+        return Err(Refused);
+    };
     match token {
-        Token::String(_text) => Ok(()),
-        Token::Number(text) => match integer_of(text) {
-            Some(_n) => Ok(()),
-            None => Err(Refused),
-        },
-        Token::Bool(_b) => Ok(()),
-        Token::Null => Ok(()),
-        Token::EndObject | Token::EndArray | Token::Key(_) | Token::Bad => Err(Refused),
         Token::BeginArray => {
             if depth == 0 {
                 return Err(Refused);
@@ -44,6 +54,7 @@ pub fn skipped(reader: &mut Reader<'_>, depth: usize) -> Result<(), Refused>
             }
             skip_pairs(reader, depth - 1)
         }
+        _ => check_scalar(token),
     }
 }
 

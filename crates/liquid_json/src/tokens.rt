@@ -1,10 +1,12 @@
 //! Data straight from the tokens of a text of JSON, where each number is whole.
 ghost use Rattle.std.specs.Prelude.{◌≡◌, ◌<◌, length, Ok, Some, IfOk, IfSome, OnOk};
 ghost use Rattle.json.specs.Json.{value, items};
-ghost use Rattle.liquid_model.specs.Data.{no_pairs};
+ghost use Rattle.json.specs.Reads.{token_of};
+ghost use Rattle.liquid_model.specs.Data.{no_pairs, put};
 ghost use Rattle.liquid_model.specs.View.{view, items_view, pairs_view};
 ghost use Rattle.liquid_json.specs.Json.{data_of};
 ghost use Rattle.liquid_json.specs.inside.Tokens.{datum_at, list_items_at, pairs_at, integer_of};
+ghost use Rattle.liquid_json.specs.inside.Tokens.{scalar_of};
 
 use crate::whole::integer_of;
 use json::{Invalid, Reader, Scratch, Token};
@@ -67,13 +69,11 @@ pub fn data_from_tokens(alloc: Global, text: &str) -> Result<Option<Object>, All
     }
 }
 
-#[cycle(read)]
+/// The value of a token that is a value by itself: no list or map begins or ends with it.
 #[inline(always)]
-pub fn read(alloc: Global, reader: &mut Reader<'_>, depth: usize) -> Result<Value, NoData>
-    ensures ok { IfOk result (λ v. datum_at depth reader.old ≡ Some (view v, reader.new)) }
-    ensures shorter { OnOk result (length reader.new < length reader.old) }
+pub fn scalar(alloc: Global, token: Token<'_>) -> Result<Value, NoData>
+    ensures { IfOk result (λ v. scalar_of (token_of token.entry) ≡ Some (view v)) }
 {
-    let token = reader.next().ok_or(NoData::Other)?;
     match token {
         Token::String(text) => Ok(Value::Text(String::from_str(alloc, text)?)),
         Token::Number(text) => match integer_of(text) {
@@ -82,7 +82,37 @@ pub fn read(alloc: Global, reader: &mut Reader<'_>, depth: usize) -> Result<Valu
         },
         Token::Bool(b) => Ok(Value::Bool(b)),
         Token::Null => Ok(Value::Nil),
-        Token::EndObject | Token::EndArray | Token::Key(_) | Token::Bad => Err(NoData::Other),
+        _ => Err(NoData::Other),
+    }
+}
+
+/// Puts a member into a map, in place of an earlier one of its name.
+#[inline(always)]
+pub fn put_member(
+    alloc: Global,
+    found: &mut Object,
+    name: &str,
+    member: Value,
+) -> Result<(), NoData>
+    ensures { OnOk result (pairs_view found.new.entries ≡
+        put name.now (view member) (pairs_view found.old.entries)) }
+{
+    let key = String::from_str(alloc, name)?;
+    drop(found.insert(key, member)?);
+    Ok(())
+}
+
+/// The value at the front of the tokens.
+#[cycle(read)]
+#[inline(always)]
+pub fn read(alloc: Global, reader: &mut Reader<'_>, depth: usize) -> Result<Value, NoData>
+    ensures ok { IfOk result (λ v. datum_at depth reader.old ≡ Some (view v, reader.new)) }
+    ensures shorter { OnOk result (length reader.new < length reader.old) }
+{
+    let Some(token) = reader.next() else {
+        return Err(NoData::Other);
+    };
+    match token {
         Token::BeginArray => {
             if depth == 0 {
                 return Err(NoData::Other);
@@ -95,6 +125,7 @@ pub fn read(alloc: Global, reader: &mut Reader<'_>, depth: usize) -> Result<Valu
             }
             Ok(Value::Object(read_pairs(alloc, reader, depth - 1)?))
         }
+        _ => scalar(alloc, token),
     }
 }
 
@@ -122,9 +153,8 @@ pub fn read_pairs(alloc: Global, reader: &mut Reader<'_>, depth: usize) -> Resul
 {
     let mut found: Object = BTreeMap::new(alloc);
     'pairs: while let Some(name) = reader.next_key()? {
-        let key = String::from_str(alloc, name)?;
         let member = read(alloc, reader, depth)?;
-        drop(found.insert(key, member)?);
+        put_member(alloc, &mut found, name, member)?;
     }
     Ok(found)
 }

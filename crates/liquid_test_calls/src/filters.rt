@@ -1,5 +1,6 @@
 //! Filters, by their names in rows: what one answers alone and in a chain, which numbers of
 //! arguments it accepts, and which filters no row calls.
+use crate::answers::call_ended;
 use crate::faults::{no_call, unknown};
 use liquid_core::{Expression, Filter, Object, Result, State, Value};
 use liquid_filters::FilterKind;
@@ -54,8 +55,7 @@ fn made_alone<R: Print>(
 ) {
     reporter.begin();
     let answer = alone(reporter.alloc, filter, row);
-    reporter.end();
-    reporter.answered(line, row, &answer);
+    call_ended(reporter, line, row, answer);
 }
 
 /// What the filter answers to the row's value, with the row's list as its arguments.
@@ -108,8 +108,7 @@ pub(crate) fn no_filter_made<R: Print>(
     let calls: &[FilterCall<'_, FilterKind>] = &[];
     reporter.begin();
     let answer = apply_filters(reporter.alloc, entry, calls, &state);
-    reporter.end();
-    reporter.answered(line, row, &answer);
+    call_ended(reporter, line, row, answer);
     Ok(())
 }
 

@@ -48,6 +48,7 @@
 //! `%Z`) is what the documentation of jiff says.
 #![tactic(auto)]
 
+mod answers;
 mod any_site;
 mod arguments;
 mod asked;
@@ -62,6 +63,7 @@ mod states;
 mod templates;
 mod values;
 
+use crate::answers::call_ended;
 use crate::arguments::argument_call;
 use crate::asked::asked_call;
 use crate::checks::check_call;
@@ -144,8 +146,7 @@ fn row_made<R: Print>(
 fn call_made<R: Print>(reporter: &Reporter<'_, R>, line: &str, row: &WorkedRow) {
     reporter.begin();
     let answer = called(reporter.alloc, row);
-    reporter.end();
-    reporter.answered(line, row, &answer);
+    call_ended(reporter, line, row, answer);
 }
 
 fn called(alloc: Global, row: &WorkedRow) -> Result<Value> {
@@ -171,8 +172,7 @@ fn check_made<R: Print>(
 ) {
     reporter.begin();
     let answer = check_call(reporter.alloc, row, language);
-    reporter.end();
-    reporter.answered(line, row, &answer);
+    call_ended(reporter, line, row, answer);
 }
 
 /// Makes a call of the row's template, over its state.
@@ -190,8 +190,7 @@ fn template_made<R: Print>(
         "Template" => template_call(reporter.alloc, row, language, &template),
         _ => first_node_call(reporter.alloc, row, &template, &state),
     };
-    reporter.end();
-    reporter.answered(line, row, &answer);
+    call_ended(reporter, line, row, answer);
     Ok(())
 }
 

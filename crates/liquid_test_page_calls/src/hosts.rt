@@ -13,13 +13,15 @@ use std::alloc::Global;
 /// (an earlier one of that name puts a `0`), `upcase`, which puts a `?`, and `bad`.
 pub(crate) fn hosted<R: Print>(reporter: &Reporter<'_, R>, row: &WorkedRow) -> Result<()> {
     let alloc = reporter.alloc;
-    let mut filters = Vec::new(alloc);
-    for (name, text) in [("shout", "0"), ("shout", "!"), ("upcase", "?")] {
-        let suffix: Box<dyn Filter> = Box::new(alloc, Suffix { text })?;
-        filters.push((String::from_str(alloc, name)?, suffix))?;
-    }
+    let bad_name = String::from_str(alloc, "bad")?;
     let bad: Box<dyn Filter> = Box::new(alloc, Bad)?;
-    filters.push((String::from_str(alloc, "bad")?, bad))?;
+    let mut filters = Vec::new(alloc);
+    filters.push((bad_name, bad))?;
+    for (name, text) in &[("shout", "0"), ("shout", "!"), ("upcase", "?")] {
+        let name = String::from_str(alloc, name)?;
+        let suffix: Box<dyn Filter> = Box::new(alloc, Suffix { text })?;
+        filters.push((name, suffix))?;
+    }
     let host = HostFilters::new(filters);
     match row.call.as_str() {
         "filters" => called_in_turn(reporter, &host, &row.with),

@@ -12,16 +12,17 @@ pub(crate) fn jekyll_called<R: Print>(reporter: &Reporter<'_, R>, row: &WorkedRo
     let alloc = reporter.alloc;
     let address = text_option(&row.on, "address");
     let base = text_option(&row.on, "base");
-    let mut filters = Vec::new(alloc);
-    for filter in JEKYLL_FILTERS {
-        let site = SiteFilter::new(alloc, filter, address, base)?;
-        let boxed: Box<dyn Filter> = Box::new(alloc, site)?;
-        filters.push((String::from_str(alloc, filter.name())?, boxed))?;
-    }
+    let name = String::from_str(alloc, "where_exp")?;
     let where_exp: Box<dyn Filter> = Box::new(alloc, WhereExp)?;
-    filters.push((String::from_str(alloc, "where_exp")?, where_exp))?;
-    let host = HostFilters::new(filters);
-    called_in_turn(reporter, &host, &row.with)
+    let mut filters = Vec::new(alloc);
+    filters.push((name, where_exp))?;
+    for filter in &JEKYLL_FILTERS {
+        let name = String::from_str(alloc, filter.name())?;
+        let site = SiteFilter::new(alloc, *filter, address, base)?;
+        let boxed: Box<dyn Filter> = Box::new(alloc, site)?;
+        filters.push((name, boxed))?;
+    }
+    called_in_turn(reporter, &HostFilters::new(filters), &row.with)
 }
 
 /// A text of the options, or the empty one.

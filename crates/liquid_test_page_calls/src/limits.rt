@@ -1,7 +1,7 @@
 //! Pages within limits: which text each has, how it ended, and by which limit.
 use crate::given::{depth, language_with, option, partials_of};
 use crate::writers::{FailingWriter, kind_ending, page_of, writer};
-use liquid_core::{Object, Result, Value};
+use liquid_core::{ErrorKind, Object, Result, Value};
 use liquid_lib::{
     Counted, LimitReached, Limited, LimitedPage, Limits, Partials, Renderable, RuntimeBuilder,
     Template, parse, render_page_within,
@@ -66,36 +66,38 @@ fn writer_limited<R: Print>(
     partials: &Partials,
     data: Object,
 ) -> Result<()> {
+    let counted = Counted::new(writer(reporter.alloc, row)?);
+    let mut limited = Limited::new(counted, limits_of(row));
     let mut runtime = RuntimeBuilder::new(reporter.alloc)
         .set_globals(data)
         .set_partials(partials)
         .set_depth(depth(&row.on))
         .build(reporter.alloc);
-    let counted = Counted::new(writer(reporter.alloc, row)?);
-    let mut limited = Limited::new(counted, limits_of(row));
     reporter.begin();
     let answer = template.render_to(reporter.alloc, &mut limited, &mut runtime);
     reporter.end();
     let end = match kind_of(&answer) {
-        Some(kind) if kind.name() == "Memory" => "Memory",
-        kind => match writer_limit_ending(row, limited) {
-            "done" => kind_ending(row, kind),
-            end => end,
-        },
+        Some(ErrorKind::Memory) => "Memory",
+        kind => writer_limit_ending(row, kind, limited),
     };
     reporter.ended("render_to within limits", row.source.as_str(), end);
     Ok(())
 }
 
-/// `done` where the writer took the page and was ended by the limit that the row says.
-fn writer_limit_ending(row: &WorkedRow, limited: Limited<Counted<FailingWriter>>) -> &'static str {
+/// `done` where the writer took the page and was ended by the kind and the limit that the row
+/// says.
+fn writer_limit_ending(
+    row: &WorkedRow,
+    kind: Option<ErrorKind>,
+    limited: Limited<Counted<FailingWriter>>,
+) -> &'static str {
     if limit_name(limited.ended_by()) != ended_by(row) {
         return "another_limit";
     }
     if limited.into_inner().into_inner().bytes.as_slice() != page_of(row).as_bytes() {
         return "another_page";
     }
-    "done"
+    kind_ending(row, kind)
 }
 
 /// The limits of the row: of each a number, or none.

@@ -13,10 +13,11 @@ pub(crate) fn shop_made<R: Print>(reporter: &Reporter<'_, R>, row: &WorkedRow) -
     let alloc = reporter.alloc;
     let shop = Rc::new(alloc, shop(alloc)?)?;
     let mut filters = Vec::new(alloc);
-    for kind in SHOPIFY_FILTERS {
+    for kind in &SHOPIFY_FILTERS {
+        let name = String::from_str(alloc, kind.name())?;
         let shop = shop.clone()?;
-        let filter: Box<dyn Filter> = Box::new(alloc, ShopifyFilter { kind, shop })?;
-        filters.push((String::from_str(alloc, kind.name())?, filter))?;
+        let filter: Box<dyn Filter> = Box::new(alloc, ShopifyFilter { kind: *kind, shop })?;
+        filters.push((name, filter))?;
     }
     let host = HostFilters::new(filters);
     match row.call.as_str() {
@@ -28,14 +29,14 @@ pub(crate) fn shop_made<R: Print>(reporter: &Reporter<'_, R>, row: &WorkedRow) -
 /// The shop of the engine's own themes.
 fn shop(alloc: Global) -> Result<Shop> {
     Ok(Shop {
-        money: dollars(alloc, "")?,
-        money_with_currency: dollars(alloc, " USD")?,
         assets: String::from_str(alloc, "/files/1/[shop_id]/[shop_id]/assets/")?,
         global_assets: String::from_str(alloc, "/global/")?,
         shopify_assets: String::from_str(alloc, "/shopify/")?,
         images: String::from_str(alloc, "/files/shops/random_number/")?,
         collection: String::from_str(alloc, "teas")?,
         tags: tags(alloc)?,
+        money: dollars(alloc, "")?,
+        money_with_currency: dollars(alloc, " USD")?,
     })
 }
 

@@ -1,8 +1,10 @@
 -- Remarks added to remarks, one sort after another.
-use Rattle.std.proofs.Common.{◌≡◌, Bool, true, false, List, [], ◌∷◌, ◌++◌, Option, Some, None, refl, sym, ap, subst, ◌∙◌}
-use Rattle.std.specs.Prelude.{All, IfSome, codes}
+use Rattle.std.proofs.Common.{◌≡◌, Bool, true, false, List, [], ◌∷◌, ◌++◌, Option, Some, None, Result, refl, sym, ap, subst, ◌∙◌}
+use Rattle.std.specs.Prelude.{All, IfOk, IfSome, codes}
 use Rattle.liquid_model.specs.Data.{Datum}
 use Rattle.std.proofs.lemmas.List.{append-nil, append_assoc, map-append}
+use Rattle.std.proofs.lemmas.Option.{IfSome_then}
+use Rattle.std.proofs.lemmas.Result.{IfOk-weaker}
 use Rattle.std.proofs.lemmas.List.Elements.{All-nil, All-cons, All-append}
 use Rattle.liquid_model.specs.Texts.{Text}
 use Rattle.liquid_syntax.specs.declared.positions.Position.{Position}
@@ -50,6 +52,11 @@ adds_found p a b c (Some r) f grown is = adds_more p a b c (remark_view r ∷ []
 pub kept_found : (p : Said → Type 0) (found kept : Option Remark) → IfSome found (λ w. p (remark_view w)) → IfSome kept (λ s. Some s ≡ found) → IfSome kept (λ w. p (remark_view w))
 kept_found p found None is same = tt
 kept_found p found (Some s) is same = subst (λ o. IfSome o (λ w. p (remark_view w))) (sym same) is
+
+-- what is found of one sort is also of each sort that has it
+pub found_of : {E : Type 0} (p q : Said → Type 0) (found : Result (Option Remark) E) → ((s : Said) → p s → q s) → IfOk found (λ r. IfSome r (λ w. p (remark_view w)))
+    → IfOk found (λ r. IfSome r (λ w. q (remark_view w)))
+found_of p q found more is = IfOk-weaker found _ _ (λ r one. IfSome_then r one (λ w. more (remark_view w))) is
 
 -- ---- those of a sort that is looked for, or not
 

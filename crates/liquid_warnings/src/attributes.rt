@@ -3,11 +3,10 @@ ghost use Rattle.std.specs.Prelude.{◌≡◌, All, IfErr, OnOk};
 ghost use Rattle.liquid_warnings.specs.Sorts.{IsUnescaped, OnlyWhere};
 ghost use Rattle.liquid_warnings.specs.inside.Added.{AddsRemarks};
 
-use crate::remark::Remark;
+use crate::remark::{Remark, add_at_each};
 use crate::unescaped::unescaped_attributes;
 use crate::warnings::Given;
 use liquid_core::{ErrorKind, Result};
-use liquid_language::Language;
 use std::alloc::Global;
 
 /// `UnescapedAttribute`: an output stands in the value of an attribute, and nothing escapes it. It
@@ -22,26 +21,10 @@ pub(crate) fn add_unescaped(
         (OnlyWhere given.entry.attributes (All IsUnescaped)) remarks.old.items remarks.new.items) }
     ensures memory { IfErr result (λ e. e.kind ≡ ErrorKind.Memory) }
 {
-    if given.attributes {
-        add_all_unescaped(alloc, given.language, source, remarks)
-    } else {
-        Ok(())
+    if !given.attributes {
+        return Ok(());
     }
-}
-
-fn add_all_unescaped(
-    alloc: Global,
-    language: &Language,
-    source: &str,
-    remarks: &mut Vec<Remark>,
-) -> Result<()>
-    ensures added { OnOk result
-        (AddsRemarks (All IsUnescaped) remarks.old.items remarks.new.items) }
-    ensures memory { IfErr result (λ e. e.kind ≡ ErrorKind.Memory) }
-{
     let message = "a quote in this value ends the attribute; write `| escape`";
-    for place in unescaped_attributes(alloc, source, language)? {
-        remarks.push(Remark::at(alloc, &place, "UnescapedAttribute", message)?)?;
-    }
-    Ok(())
+    let places = unescaped_attributes(alloc, source, given.language)?;
+    add_at_each(alloc, &places, "UnescapedAttribute", message, remarks)
 }

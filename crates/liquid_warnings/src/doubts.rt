@@ -23,7 +23,7 @@ use std::collections::BTreeSet;
 
 type Said = std::result::Result<String, AllocError>;
 
-type Found = std::result::Result<Remark, AllocError>;
+type Found = std::result::Result<Option<Remark>, AllocError>;
 
 /// Adds the warnings about what a template asks of the data, each once, where it is asked first.
 /// The names are those that a tag of any template sets.
@@ -38,24 +38,21 @@ pub(crate) fn add_doubts(
         (AddsRemarks (All IsDoubt) remarks.old.items remarks.new.items) }
     ensures memory { IfErr result (λ e. e.kind ≡ ErrorKind.Memory) }
 {
+    let paths = asked_paths(alloc, template, names)?;
     let mut seen = BTreeSet::new(alloc);
-    for asked in asked_paths(alloc, template, names)? {
+    for asked in &paths {
         if is_full(remarks) {
             return Ok(());
         }
         let doubt = doubt_of(alloc, data, &asked.path, asked.want)?;
-        let found = found_remark(alloc, &asked, doubt)?;
+        let found = remark_of(alloc, asked, doubt)?;
         push_found(remarks, unless_seen(alloc, found, &mut seen)?)?;
     }
     Ok(())
 }
 
 /// A warning, unless one of this message is there.
-fn unless_seen(
-    alloc: Global,
-    remark: Option<Remark>,
-    seen: &mut BTreeSet<String>,
-) -> std::result::Result<Option<Remark>, AllocError>
+fn unless_seen(alloc: Global, remark: Option<Remark>, seen: &mut BTreeSet<String>) -> Found
     ensures { IfOk result (λ r. IfSome r (λ s. Some s ≡ remark)) }
 {
     let Some(remark) = remark else {
@@ -68,57 +65,50 @@ fn unless_seen(
     Ok(Some(remark))
 }
 
-/// What is said of a doubt, where there is one.
-fn found_remark(alloc: Global, asked: &UsedPath, doubt: Option<Doubt<'_>>) -> Result<Option<Remark>>
-    ensures doubts { IfOk result (λ r. IfSome r (λ w. IsDoubt (remark_view w))) }
-    ensures memory { IfErr result (λ e. e.kind ≡ ErrorKind.Memory) }
+/// What is said of a doubt, where there is one. A name that isn't there is left to `UnknownName`.
+/// Of a key that needn't be there, nothing is said unless a similar key is there.
+fn remark_of(alloc: Global, asked: &UsedPath, doubt: Option<Doubt<'_>>) -> Found
+    ensures { IfOk result (λ r. IfSome r (λ w. IsDoubt (remark_view w))) }
 {
-    match doubt {
-        Some(doubt) => remark_of(alloc, asked, doubt),
-        None => Ok(None),
-    }
-}
-
-/// What is said of a doubt. A name that isn't there is left to `UnknownName`. Of a key that
-/// needn't be there, nothing is said unless a similar key is there.
-fn remark_of(alloc: Global, asked: &UsedPath, doubt: Doubt<'_>) -> Result<Option<Remark>>
-    ensures doubts { IfOk result (λ r. IfSome r (λ w. IsDoubt (remark_view w))) }
-    ensures memory { IfErr result (λ e. e.kind ≡ ErrorKind.Memory) }
-{
+    let Some(doubt) = doubt else {
+        return Ok(None);
+    };
     if let Doubt::Lacks(lack) = doubt {
-        return Ok(unknown_path(alloc, asked, lack)?);
+        return unknown_path(alloc, asked, lack);
     }
     let path = path_text(alloc, &asked.path, asked.path.steps.len())?;
     let path = path.as_str();
     let at = asked.position;
     match doubt {
         Doubt::Lacks(_) => Ok(None),
-        Doubt::NoList(value) => Ok(Some(no_list_in(alloc, at, value, path)?)),
-        Doubt::PastEnd(count) => Ok(Some(past_end_in(alloc, at, path, count)?)),
-        Doubt::NoDate(text) => Ok(Some(no_date_in(alloc, at, path, text)?)),
+        Doubt::NoList(value) => no_list_in(alloc, at, value, path),
+        Doubt::PastEnd(count) => past_end_in(alloc, at, path, count),
+        Doubt::NoDate(text) => no_date_in(alloc, at, path, text),
     }
 }
 
 /// `NoList`: a loop goes over what is no list and no map in the data.
 fn no_list_in(alloc: Global, at: Position, value: &Value, path: &str) -> Found
-    ensures { IfOk result (λ r. IsUnlisted (remark_view r)) }
+    ensures { IfOk result (λ r. IfSome r (λ w. IsUnlisted (remark_view w))) }
 {
     let path = in_data(alloc, path)?;
-    Ok(no_list_of(alloc, at, value, path.as_str())?)
+    Ok(Some(no_list_of(alloc, at, value, path.as_str())?))
 }
 
 /// `PastEnd`: a `limit` goes past the items of a list.
 fn past_end_in(alloc: Global, at: Position, path: &str, count: usize) -> Found
-    ensures { IfOk result (λ r. IsPastEnd (remark_view r)) }
+    ensures { IfOk result (λ r. IfSome r (λ w. IsPastEnd (remark_view w))) }
 {
-    Ok(Remark::warning(at, "PastEnd", past_end(alloc, path, count)?))
+    let message = past_end(alloc, path, count)?;
+    Ok(Some(Remark::warning(at, "PastEnd", message)))
 }
 
 /// `NoDate`: what is to be a date is a text that isn't read as one.
 fn no_date_in(alloc: Global, at: Position, path: &str, text: &str) -> Found
-    ensures { IfOk result (λ r. IsUndated (remark_view r)) }
+    ensures { IfOk result (λ r. IfSome r (λ w. IsUndated (remark_view w))) }
 {
-    Ok(Remark::warning(at, "NoDate", no_date(alloc, path, text)?))
+    let message = no_date(alloc, path, text)?;
+    Ok(Some(Remark::warning(at, "NoDate", message)))
 }
 
 fn in_data(alloc: Global, path: &str) -> Said
@@ -146,11 +136,7 @@ fn no_date(alloc: Global, path: &str, text: &str) -> Said
 }
 
 /// `UnknownPath`: a map on the way hasn't the key.
-fn unknown_path(
-    alloc: Global,
-    asked: &UsedPath,
-    lack: Lack<'_>,
-) -> std::result::Result<Option<Remark>, AllocError>
+fn unknown_path(alloc: Global, asked: &UsedPath, lack: Lack<'_>) -> Found
     ensures { IfOk result (λ r. IfSome r (λ w. IsDoubt (remark_view w))) }
 {
     let count = asked.path.steps.len().saturating_sub(lack.left);

@@ -4,7 +4,7 @@ ghost use Rattle.liquid_warnings.specs.Sorts.{IsElseIf};
 ghost use Rattle.liquid_warnings.specs.inside.Added.{AddsRemarks};
 
 use crate::otherwise::else_items;
-use crate::remark::Remark;
+use crate::remark::{Remark, add_at_each};
 use liquid_core::{ErrorKind, Result};
 use liquid_language::Language;
 use std::alloc::Global;
@@ -21,8 +21,6 @@ pub(crate) fn add_else_if(
     ensures memory { IfErr result (λ e. e.kind ≡ ErrorKind.Memory) }
 {
     let message = "what stands after `else` isn't read; for a condition write `elsif`";
-    for place in else_items(alloc, source, language)? {
-        remarks.push(Remark::at(alloc, &place, "ElseIf", message)?)?;
-    }
-    Ok(())
+    let places = else_items(alloc, source, language)?;
+    add_at_each(alloc, &places, "ElseIf", message, remarks)
 }

@@ -2,7 +2,7 @@
 ghost use Rattle.std.specs.Prelude.{◌≡◌, IfOk, option_map, string_bytes};
 ghost use Rattle.liquid_warnings.specs.Messages.{lack_message};
 
-use liquid_core::{Object, Quoted, SimilarName, more_similar};
+use liquid_core::{Quoted, SimilarName, more_similar};
 use std::alloc::{AllocError, Global};
 use std::collections::{BTreeMap, BTreeSet};
 
@@ -31,14 +31,14 @@ pub(crate) fn lack_message(
 }
 
 /// The most similar key of a map, or what was found before.
-pub(crate) fn most_similar_key<'n>(
+pub(crate) fn most_similar_key<'n, V: Drop>(
     alloc: Global,
-    object: &'n Object,
+    map: &'n BTreeMap<String, V>,
     name: &str,
     before: Option<SimilarName<'n>>,
 ) -> Result<Option<SimilarName<'n>>, AllocError> {
     let mut similar = before;
-    for known in object.keys().take(MOST_NAMES) {
+    for known in map.keys().take(MOST_NAMES) {
         similar = more_similar(alloc, known.as_str(), name, similar)?;
     }
     Ok(similar)
@@ -53,19 +53,6 @@ pub(crate) fn most_similar_of_set<'n>(
 ) -> Result<Option<SimilarName<'n>>, AllocError> {
     let mut similar = before;
     for known in names.iter().take(MOST_NAMES) {
-        similar = more_similar(alloc, known.as_str(), name, similar)?;
-    }
-    Ok(similar)
-}
-
-/// The most similar name of a partial.
-pub(crate) fn most_similar_partial<'n>(
-    alloc: Global,
-    partials: &'n BTreeMap<String, usize>,
-    name: &str,
-) -> Result<Option<SimilarName<'n>>, AllocError> {
-    let mut similar = None;
-    for known in partials.keys().take(MOST_NAMES) {
         similar = more_similar(alloc, known.as_str(), name, similar)?;
     }
     Ok(similar)

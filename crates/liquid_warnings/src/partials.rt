@@ -5,7 +5,7 @@ ghost use Rattle.liquid_warnings.specs.Remarks.{remark_view, warning_at};
 ghost use Rattle.liquid_warnings.specs.Sorts.{IsMissingPartial, IsRecursive};
 
 use crate::calls::{Call, PartialFiles};
-use crate::messages::{lack_message, most_similar_partial, name_of};
+use crate::messages::{lack_message, most_similar_key, name_of};
 use crate::remark::Remark;
 use liquid_core::Quoted;
 use liquid_syntax::Position;
@@ -19,23 +19,12 @@ pub(crate) fn missing_partial(
 ) -> Result<Option<Remark>, AllocError>
     ensures { IfOk result (λ r. IfSome r (λ w. IsMissingPartial (remark_view w))) }
 {
-    match (call.name, call.file) {
-        (Some(name), None) => Ok(Some(missing_name(alloc, partials, name, call.position)?)),
-        _ => Ok(None),
-    }
-}
-
-fn missing_name(
-    alloc: Global,
-    partials: &PartialFiles,
-    name: &str,
-    position: Position,
-) -> Result<Remark, AllocError>
-    ensures { IfOk result (λ r. IsMissingPartial (remark_view r)) }
-{
-    let similar = name_of(most_similar_partial(alloc, partials, name)?);
+    let (Some(name), None) = (call.name, call.file) else {
+        return Ok(None);
+    };
+    let similar = name_of(most_similar_key(alloc, partials, name, None)?);
     let message = lack_message(alloc, "no partial is named", name, similar)?;
-    Ok(Remark::warning(position, "MissingPartial", message))
+    Ok(Some(Remark::warning(call.position, "MissingPartial", message)))
 }
 
 /// `UnusedPartial`: no template runs the partial.
@@ -48,25 +37,18 @@ pub(crate) fn unused_partial(alloc: Global) -> Result<Remark, AllocError>
     Ok(Remark::warning(start, "UnusedPartial", message))
 }
 
-/// The warning about a tag that runs a partial in which it stands, where there is one.
+/// `RecursivePartial`: a tag runs a partial in which it stands, itself or by way of others.
 pub(crate) fn recursive_call(
     alloc: Global,
     call: Option<&Call<'_>>,
 ) -> Result<Option<Remark>, AllocError>
     ensures { IfOk result (λ r. IfSome r (λ w. IsRecursive (remark_view w))) }
 {
-    match call {
-        Some(call) => Ok(Some(recursive_partial(alloc, call)?)),
-        None => Ok(None),
-    }
-}
-
-/// `RecursivePartial`: a tag runs a partial in which it stands, itself or by way of others.
-fn recursive_partial(alloc: Global, call: &Call<'_>) -> Result<Remark, AllocError>
-    ensures { IfOk result (λ r. IsRecursive (remark_view r)) }
-{
+    let Some(call) = call else {
+        return Ok(None);
+    };
     let message = recursive_message(alloc, call.name.unwrap_or(""))?;
-    Ok(Remark::warning(call.position, "RecursivePartial", message))
+    Ok(Some(Remark::warning(call.position, "RecursivePartial", message)))
 }
 
 fn recursive_message(alloc: Global, name: &str) -> Result<String, AllocError>

@@ -1,9 +1,10 @@
 //! What is said of a template.
-ghost use Rattle.std.specs.Prelude.{◌≡◌, ◌++◌, IfOk, OnOk, string_bytes};
+ghost use Rattle.std.specs.Prelude.{◌≡◌, ◌++◌, All, IfErr, IfOk, OnOk, string_bytes};
 ghost use Rattle.liquid_warnings.specs.Remarks.{all_said, remark_view, warning, warning_at};
-ghost use Rattle.liquid_warnings.specs.inside.Added.{maybe_said};
+ghost use Rattle.liquid_warnings.specs.Sorts.{WarnsOf};
+ghost use Rattle.liquid_warnings.specs.inside.Added.{AddsRemarks, maybe_said};
 
-use liquid_core::Location;
+use liquid_core::{ErrorKind, Location};
 use liquid_syntax::Position;
 use std::alloc::{AllocError, Global};
 
@@ -50,6 +51,24 @@ impl Remark {
             message: String::from_str(alloc, message)?,
         })
     }
+}
+
+/// Adds a warning with this message at each of these places of a source.
+pub(crate) fn add_at_each(
+    alloc: Global,
+    places: &[Location],
+    kind: &'static str,
+    message: &str,
+    remarks: &mut Vec<Remark>,
+) -> liquid_core::Result<()>
+    ensures added { OnOk result (AddsRemarks
+        (All (WarnsOf kind.entry.now message.now)) remarks.old.items remarks.new.items) }
+    ensures memory { IfErr result (λ e. e.kind ≡ ErrorKind.Memory) }
+{
+    for place in places {
+        remarks.push(Remark::at(alloc, place, kind, message)?)?;
+    }
+    Ok(())
 }
 
 /// Adds a remark, where there is one.

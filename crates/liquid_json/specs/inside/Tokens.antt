@@ -1,5 +1,5 @@
 -- The data that tokens of JSON give where each number is whole.
-use Rattle.std.specs.Prelude.{ℕ, ℤ, List, Option, Some, option_map, option_and_then}
+use Rattle.std.specs.Prelude.{ℕ, ℤ, List, Option, Some, None, option_map, option_and_then}
 use Rattle.liquid_model.specs.Data.{Datum, nil, truth, number, text, array, object, Items, no_items}
 use Rattle.liquid_model.specs.Data.{item, Pairs, no_pairs, put}
 use Rattle.json.specs.Token.{Token}
@@ -29,6 +29,14 @@ abbrev mutual
   token_pairs json.no_members found = Some found
   token_pairs (json.member k j ms) found = option_and_then (λ d. token_pairs ms (put k d found))
       (datum_of j)
+
+-- the value of a token that is a value by itself
+abbrev pub scalar_of : Token → Option Datum
+scalar_of (Token.string s) = Some (text s)
+scalar_of (Token.number s) = option_map number (integer_of s)
+scalar_of (Token.boolean b) = Some (truth b)
+scalar_of Token.null = Some nil
+scalar_of _ = None
 
 -- what stands at the front of the tokens, and the tokens after it
 abbrev pub datum_at : ℕ → List Token → Option (Datum × List Token)

@@ -8,13 +8,11 @@ use std::alloc::Global;
 
 /// A name and two numbers.
 fn data(alloc: Global) -> Result<Object> {
-    let mut numbers = Vec::new(alloc);
-    numbers.push(Value::Integer(1))?;
-    numbers.push(Value::Integer(2))?;
+    let numbers = vec![in alloc; Value::Integer(1), Value::Integer(2)]?;
     let mut data = Object::new(alloc);
+    data.insert(String::from_str(alloc, "numbers")?, Value::Array(numbers))?;
     let ada = String::from_str(alloc, "Ada")?;
     data.insert(String::from_str(alloc, "name")?, Value::Text(ada))?;
-    data.insert(String::from_str(alloc, "numbers")?, Value::Array(numbers))?;
     Ok(data)
 }
 
@@ -30,10 +28,9 @@ pub(crate) fn page(alloc: Global) -> Result<String> {
 
 /// A page of a source that is rendered once, to a writer: here bytes in memory.
 pub(crate) fn page_in_bytes(alloc: Global) -> Result<Vec<u8>> {
+    let data = data(alloc)?;
     let language = language(alloc)?;
-    let mut runtime = RuntimeBuilder::new(alloc)
-        .set_globals(data(alloc)?)
-        .build(alloc);
+    let mut runtime = RuntimeBuilder::new(alloc).set_globals(data).build(alloc);
     let bytes: Vec<u8> = Vec::new(alloc);
     let mut writer = Counted::new(bytes);
     render_source(alloc, "{{ name }}", &language, &mut writer, &mut runtime)?;

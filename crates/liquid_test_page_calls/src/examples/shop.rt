@@ -7,19 +7,19 @@ use std::rc::Rc;
 
 /// A page whose template calls filters of the set.
 pub(crate) fn shop_page(alloc: Global) -> Result<String> {
-    let language = shopify_language(alloc)?;
-    let source = "{{ 'Green tea' | link_to: '/tea' }}: {{ 1999 | money }}";
-    let template = parse(alloc, source, &language)?;
-
     // Each filter is made where it is passed: a `dyn` can't be made elsewhere.
     let shop = Rc::new(alloc, shop(alloc)?)?;
     let mut filters = Vec::new(alloc);
-    for kind in SHOPIFY_FILTERS {
+    for kind in &SHOPIFY_FILTERS {
+        let name = String::from_str(alloc, kind.name())?;
         let shop = shop.clone()?;
-        let filter: Box<dyn Filter> = Box::new(alloc, ShopifyFilter { kind, shop })?;
-        filters.push((String::from_str(alloc, kind.name())?, filter))?;
+        let filter: Box<dyn Filter> = Box::new(alloc, ShopifyFilter { kind: *kind, shop })?;
+        filters.push((name, filter))?;
     }
     let host = HostFilters::new(filters);
+
+    let source = "{{ 'Green tea' | link_to: '/tea' }}: {{ 1999 | money }}";
+    let template = parse(alloc, source, &shopify_language(alloc)?)?;
     let mut runtime = RuntimeBuilder::new(alloc)
         .set_host_filters(&host)
         .build(alloc);
@@ -29,14 +29,14 @@ pub(crate) fn shop_page(alloc: Global) -> Result<String> {
 /// What the filters know of the shop.
 fn shop(alloc: Global) -> Result<Shop> {
     Ok(Shop {
-        money: euros(alloc, " €")?,
-        money_with_currency: euros(alloc, " EUR")?,
         assets: String::from_str(alloc, "/assets/")?,
         global_assets: String::from_str(alloc, "/global/")?,
         shopify_assets: String::from_str(alloc, "/shopify/")?,
         images: String::from_str(alloc, "/images/")?,
         collection: String::new(alloc),
         tags: Vec::new(alloc),
+        money: euros(alloc, " €")?,
+        money_with_currency: euros(alloc, " EUR")?,
     })
 }
 

@@ -1,19 +1,19 @@
-use Rattle.std.proofs.Common.{true, ◌≡◌, ◌-◌, ◌<◌, ◌≤◌, ◌∷◌, length, take, Some, None, option_map, string_bytes, w64, refl, sym, ap, ◌∙◌, arith, rules}
+use Rattle.std.proofs.Common.{true, ◌≡◌, ◌-◌, ◌<◌, ◌≤◌, ◌∷◌, length, take, Some, None, refl, sym, ap, ◌∙◌, arith, rules}
+use Rattle.std.specs.Prelude.{IfOk}
+use Rattle.std.proofs.lemmas.Result.{IfOk-weaker}
 use mathlib.Core.Path.{subst}
-use mir.Val.{to_z, of_z}
-use Rattle.json.specs.Token.{Token}
 use Rattle.json.specs.Json.{parse_map, after_end_array, read_key, items, members, value}
 use Rattle.json.specs.Reads.{token_of}
-use Rattle.json.proofs.Grammar.{value_is, value-begin_array, value-begin_object, read_key-shorter}
+use Rattle.json.proofs.Grammar.{value-begin_array, value-begin_object, read_key-shorter}
 use Rattle.serde_json.specs.Read.{converted}
-use Rattle.liquid_model.specs.Data.{truth, nil, number, text, array, object, no_pairs, item, no_items, put}
+use Rattle.liquid_model.specs.Data.{array, object, no_pairs, item, no_items, put}
 use Rattle.liquid_model.specs.View.{view, items_view, pairs_view}
-use Rattle.liquid_model.specs.declared.value.Value.{Text, Integer, Bool, Nil, Array, Object, the_lemmas}
+use Rattle.liquid_model.specs.declared.value.Value.{Array, Object}
 use Rattle.liquid_model.specs.Find.{value_at}
 use Rattle.liquid_model.specs.Skipping.{AlikeKeys}
 use Rattle.liquid_json.specs.inside.Planned.{IsPlanned, AreFirstItems}
 use Rattle.liquid_model.proofs.UseViews.{view-Parts}
-use Rattle.liquid_model.proofs.Views.{view-Array, view-Object, pairs_view-insert_entry}
+use Rattle.liquid_model.proofs.Views.{view-Array, view-Object}
 use Rattle.liquid_model.specs.Uses.{parts, uncounted, up_to, Alike}
 use Rattle.liquid_model.specs.Projected.{pairs_wanted}
 use Rattle.liquid_model.proofs.Alike.{alike_equal, AlikeLists}
@@ -22,62 +22,38 @@ use Rattle.liquid_json.proofs.FirstItems.{first_none, first_kept, first_skipped,
 use Rattle.liquid_model.proofs.Skipping.{put_in_both, put_in_one}
 use Rattle.liquid_model.specs.UseViews.{use_view, members_view, turns_view}
 use Rattle.liquid_json.specs.PlainUses.{is_plain_use}
-use Rattle.liquid_json.specs.inside.Tokens.{datum_of}
+use Rattle.liquid_json.specs.inside.Tokens.{datum_of, datum_at}
 use Rattle.liquid_model.specs.Lists.{list_of}
 use Rattle.liquid_json.proofs.After.{after, after_none, after_next}
+use Rattle.liquid_json.proofs.ScalarTokens.{scalar_read}
 use Rattle.liquid_json.proofs.Turns.{converted-array, converted-object, item_read, items_over, pair_read, pairs_over}
 use Rattle.liquid_json.proofs.PlainUses.{list_read, list_skipped, map_read, seen, unseen, plain_in}
 use Rattle.liquid_json.proofs.planned.+planned.Goals as goal
 
-pub read_parts-returns-in_ok-from_str-in-String-clause-ok : goal.read_parts-returns-in_ok-from_str-in-String-clause-ok
-read_parts-returns-in_ok-from_str-in-String-clause-ok t c =
-    let first : c.args.reader.now ≡ token_of c.in_ok-token.token ∷ c.next.new.self = grind arith in
-    let is : c.args.reader.now ≡ Token.string c.in-String.text.now ∷ c.next.new.self = grind (arith, first) in
-    let seen : view (Text c.in_ok-from_str-in-String.field-0) ≡ text c.in-String.text.now = search (rules, the_lemmas) in
-    (text c.in-String.text.now, ap (converted datum_of) (ap (value c.args.depth) is ∙ value_is c.args.depth _), alike_equal (parts (members_view c.args.members.now.entries) (turns_view c.args.items.now)) _ _ (ap Some (sym seen)))
+pub read_parts-returns-in_default-token-clause-ok : goal.read_parts-returns-in_default-token-clause-ok
+read_parts-returns-in_default-token-clause-ok t c =
+    let first : c.args.reader.now ≡ token_of c.in-Some.token ∷ c.next.new.self = grind arith in
+    IfOk-weaker c.scalar.result _ _
+    (λ v e. (view v, ap (datum_at c.args.depth) first ∙ scalar_read c.args.depth (token_of c.in-Some.token) _ (view v) e, alike_equal (parts (members_view c.args.members.now.entries) (turns_view c.args.items.now)) _ _ refl))
+    c.scalar.ensures
 
-pub read_parts-returns-in-Bool-clause-ok : goal.read_parts-returns-in-Bool-clause-ok
-read_parts-returns-in-Bool-clause-ok t c =
-    let first : c.args.reader.now ≡ token_of c.in_ok-token.token ∷ c.next.new.self = grind arith in
-    let is : c.args.reader.now ≡ Token.boolean c.in-Bool.b ∷ c.next.new.self = grind (arith, first) in
-    let seen : view (Bool c.in-Bool.b) ≡ truth c.in-Bool.b = search (rules, the_lemmas) in
-    (truth c.in-Bool.b, ap (converted datum_of) (ap (value c.args.depth) is ∙ value_is c.args.depth _), alike_equal (parts (members_view c.args.members.now.entries) (turns_view c.args.items.now)) _ _ (ap Some (sym seen)))
-
-pub read_parts-returns-in-Null-clause-ok : goal.read_parts-returns-in-Null-clause-ok
-read_parts-returns-in-Null-clause-ok t c =
-    let first : c.args.reader.now ≡ token_of c.in_ok-token.token ∷ c.next.new.self = grind arith in
-    let is : c.args.reader.now ≡ Token.null ∷ c.next.new.self = grind (arith, first) in
-    let seen : view Nil ≡ nil = search (rules, the_lemmas) in
-    (nil, ap (converted datum_of) (ap (value c.args.depth) is ∙ value_is c.args.depth _), alike_equal (parts (members_view c.args.members.now.entries) (turns_view c.args.items.now)) _ _ (ap Some (sym seen)))
-
-pub read_parts-returns-in-Some-clause-ok : goal.read_parts-returns-in-Some-clause-ok
-read_parts-returns-in-Some-clause-ok t c =
-    let first : c.args.reader.now ≡ token_of c.in_ok-token.token ∷ c.next.new.self = grind arith in
-    let is : c.args.reader.now ≡ Token.number c.in-Number.text.now ∷ c.next.new.self = grind (arith, first) in
-    let n = to_z w64 (of_z w64 c.in-Some.n) in
-    let same : n ≡ c.in-Some.n = search rules in
-    let seen : view (Integer n) ≡ number n = search (rules, the_lemmas) in (
-      number c.in-Some.n,
-      ap (converted datum_of) (ap (value c.args.depth) is ∙ value_is c.args.depth _)
-          ∙ ap (λ o. option_map (λ b. (b, c.next.new.self)) (option_map number o)) c.in-Some.ensures,
-      alike_equal (parts (members_view c.args.members.now.entries) (turns_view c.args.items.now)) _ _ (ap Some (sym (seen ∙ ap number same))),
-    )
-
-pub read_parts-returns-in_ok-skip_items-in-None-items-clause-ok : goal.read_parts-returns-in_ok-skip_items-in-None-items-clause-ok
-read_parts-returns-in_ok-skip_items-in-None-items-clause-ok t c =
-    let first : c.args.reader.now ≡ token_of c.in_ok-token.token ∷ c.next.new.self = grind arith in
+pub read_parts-returns-in-None-clause-ok : goal.read_parts-returns-in-None-clause-ok
+read_parts-returns-in-None-clause-ok t c =
+    let first : c.args.reader.now ≡ token_of c.in-Some.token ∷ c.next.new.self = grind arith in
     let opened = ap (converted datum_of) (ap (value c.args.depth) (first ∙ ap (λ k. token_of k ∷ c.next.new.self) c.in-BeginArray.is) ∙ value-begin_array c.args.depth c.next.new.self (omega arith)) ∙ converted-array (items (value (c.args.depth - 1)) (length c.next.new.self) c.next.new.self) in
     let M = members_view c.args.members.now.entries in
-    let found = c.in_ok-skip_items-in-None-items.ensures.ok in (
+    IfOk-weaker c.without_items.result _ _
+    (λ v both. let found = both.0 in (
       array found.0,
       opened ∙ ap (parse_map array) found.1,
-      subst (λ u. Alike (parts M u) (Some (array found.0)) (Some (view (Array c.new.result)))) (sym (ap turns_view c.in-None-items.is))
-          (subst (λ d. Alike (parts M uncounted) (Some (array found.0)) (Some d)) (sym (view-Array c.new.result ∙ ap (λ vs. array (items_view vs)) c.new.ensures.items)) (list_skipped M found.0 c.requires.plain_members)),
-    )
+      subst (λ u. Alike (parts M u) (Some (array found.0)) (Some (view v))) (sym (ap turns_view c.in-None.is))
+          (subst (λ d. Alike (parts M uncounted) (Some (array found.0)) (Some d)) (sym both.1) (list_skipped M found.0 c.requires.plain_members)),
+    ))
+    c.without_items.ensures.ok
 
 pub read_parts-returns-in_ok-asked_items-in-Some-items-clause-ok : goal.read_parts-returns-in_ok-asked_items-in-Some-items-clause-ok
 read_parts-returns-in_ok-asked_items-in-Some-items-clause-ok t c =
-    let first : c.args.reader.now ≡ token_of c.in_ok-token.token ∷ c.next.new.self = grind arith in
+    let first : c.args.reader.now ≡ token_of c.in-Some.token ∷ c.next.new.self = grind arith in
     let opened = ap (converted datum_of) (ap (value c.args.depth) (first ∙ ap (λ k. token_of k ∷ c.next.new.self) c.in-BeginArray.is) ∙ value-begin_array c.args.depth c.next.new.self (omega arith)) ∙ converted-array (items (value (c.args.depth - 1)) (length c.next.new.self) c.next.new.self) in
     let M = members_view c.args.members.now.entries in
     let w = c.in-Some-items.asked in
@@ -90,39 +66,37 @@ read_parts-returns-in_ok-asked_items-in-Some-items-clause-ok t c =
           (list_read M w.limit (use_view w.each.value) found.0 (items_view built.field-0.items) c.requires.plain_members found.2)),
     )
 
-pub asked_items-returns-in_ok-all-in-None-clause-ok : goal.asked_items-returns-in_ok-all-in-None-clause-ok
-asked_items-returns-in_ok-all-in-None-clause-ok t c =
+pub asked_items-returns-in-None-clause-ok : goal.asked_items-returns-in-None-clause-ok
+asked_items-returns-in-None-clause-ok t c =
     let same : c.deref.result.now ≡ c.args.asked.now.each.value = search rules in
-    let done = c.in_ok-all-in-None in
-    subst (λ n. AreFirstItems n (use_view c.args.asked.now.each.value) c.args.depth c.args.reader.now (items_view done.all.items) c.planned_items.new.reader) (sym c.in-None.is)
-    (subst (λ u. AreFirstItems None (use_view u) c.args.depth c.args.reader.now (items_view done.all.items) c.planned_items.new.reader) same done.ensures.ok)
+    subst (λ n. IfOk c.planned_items.result (λ v. AreFirstItems n (use_view c.args.asked.now.each.value) c.args.depth c.args.reader.now (items_view v.items) c.planned_items.new.reader)) (sym c.in-None.is)
+    (subst (λ u. IfOk c.planned_items.result (λ v. AreFirstItems None (use_view u) c.args.depth c.args.reader.now (items_view v.items) c.planned_items.new.reader)) same c.planned_items.ensures.ok)
 
-pub asked_items-returns-in_ok-first-in-Some-clause-ok : goal.asked_items-returns-in_ok-first-in-Some-clause-ok
-asked_items-returns-in_ok-first-in-Some-clause-ok t c =
+pub asked_items-returns-in-Some-clause-ok : goal.asked_items-returns-in-Some-clause-ok
+asked_items-returns-in-Some-clause-ok t c =
     let same : c.deref-in-Some.result.now ≡ c.args.asked.now.each.value = search rules in
-    let done = c.in_ok-first-in-Some in
-    subst (λ n. AreFirstItems n (use_view c.args.asked.now.each.value) c.args.depth c.args.reader.now (items_view done.first.items) c.first_items.new.reader) (sym c.in-Some.is)
-    (subst (λ u. AreFirstItems (Some c.in-Some.limit) (use_view u) c.args.depth c.args.reader.now (items_view done.first.items) c.first_items.new.reader) same done.ensures.ok)
+    subst (λ n. IfOk c.first_items.result (λ v. AreFirstItems n (use_view c.args.asked.now.each.value) c.args.depth c.args.reader.now (items_view v.items) c.first_items.new.reader)) (sym c.in-Some.is)
+    (subst (λ u. IfOk c.first_items.result (λ v. AreFirstItems (Some c.in-Some.limit) (use_view u) c.args.depth c.args.reader.now (items_view v.items) c.first_items.new.reader)) same c.first_items.ensures.ok)
 
-pub read_parts-returns-in_ok-planned_pairs-in-None-items-2-clause-ok : goal.read_parts-returns-in_ok-planned_pairs-in-None-items-2-clause-ok
-read_parts-returns-in_ok-planned_pairs-in-None-items-2-clause-ok t c =
-    let first : c.args.reader.now ≡ token_of c.in_ok-token.token ∷ c.next.new.self = grind arith in
+pub read_parts-returns-in_ok-planned_pairs-in-None-items-clause-ok : goal.read_parts-returns-in_ok-planned_pairs-in-None-items-clause-ok
+read_parts-returns-in_ok-planned_pairs-in-None-items-clause-ok t c =
+    let first : c.args.reader.now ≡ token_of c.in-Some.token ∷ c.next.new.self = grind arith in
     let opened = ap (converted datum_of) (ap (value c.args.depth) (first ∙ ap (λ k. token_of k ∷ c.next.new.self) c.in-BeginObject.is) ∙ value-begin_object c.args.depth c.next.new.self (omega arith)) ∙ converted-object (members (value (c.args.depth - 1)) (length c.next.new.self) c.next.new.self) in
     let M = members_view c.args.members.now.entries in
-    let built = c.in_ok-planned_pairs-in-None-items-2 in
+    let built = c.in_ok-planned_pairs-in-None-items in
     let found = built.ensures.ok in (
       object found.0,
       opened ∙ ap (parse_map object) found.1,
-      subst (λ u. Alike (parts M u) (Some (object found.0)) (Some (view (Object built.field-0)))) (sym (ap turns_view c.in-None-items-2.is))
+      subst (λ u. Alike (parts M u) (Some (object found.0)) (Some (view (Object built.field-0)))) (sym (ap turns_view c.in-None-items.is))
           (subst (λ d. Alike (parts M uncounted) (Some (object found.0)) (Some d)) (sym (view-Object built.field-0)) (map_read M found.0 (pairs_view built.field-0.entries) c.requires.plain_members found.2)),
     )
 
-pub read_parts-returns-in_ok-read_pairs-in-Some-items-2-clause-ok : goal.read_parts-returns-in_ok-read_pairs-in-Some-items-2-clause-ok
-read_parts-returns-in_ok-read_pairs-in-Some-items-2-clause-ok t c =
-    let first : c.args.reader.now ≡ token_of c.in_ok-token.token ∷ c.next.new.self = grind arith in
+pub read_parts-returns-in-Some-items-2-clause-ok : goal.read_parts-returns-in-Some-items-2-clause-ok
+read_parts-returns-in-Some-items-2-clause-ok t c =
+    let first : c.args.reader.now ≡ token_of c.in-Some.token ∷ c.next.new.self = grind arith in
     let opened = ap (converted datum_of) (ap (value c.args.depth) (first ∙ ap (λ k. token_of k ∷ c.next.new.self) c.in-BeginObject.is) ∙ value-begin_object c.args.depth c.next.new.self (omega arith)) ∙ converted-object (members (value (c.args.depth - 1)) (length c.next.new.self) c.next.new.self) in
-    let found = c.in_ok-read_pairs-in-Some-items-2 in
-    (object (pairs_view found.field-0.entries), opened ∙ ap (parse_map object) found.ensures.ok, alike_equal (parts (members_view c.args.members.now.entries) (turns_view c.args.items.now)) _ _ (ap Some (sym (view-Object found.field-0))))
+    IfOk-weaker c.whole_map.result _ _
+    (λ v e. (view v, opened ∙ e, alike_equal (parts (members_view c.args.members.now.entries) (turns_view c.args.items.now)) _ _ refl)) c.whole_map.ensures.ok
 
 pub planned_items-items-init : goal.planned_items-items-init
 planned_items-items-init t c = (
@@ -230,8 +204,8 @@ pub planned_pairs-read_planned-requires : goal.planned_pairs-read_planned-requir
 planned_pairs-read_planned-requires t c =
     (omega arith, subst (λ u. is_plain_use u ≡ true) c.in-Some-member_of.ensures (plain_in (members_view c.args.members.now.entries) c.in-Some.name.now c.requires.plain))
 
-pub planned_pairs-pairs-preserved-in-Some-member_of : goal.planned_pairs-pairs-preserved-in-Some-member_of
-planned_pairs-pairs-preserved-in-Some-member_of t c =
+pub planned_pairs-pairs-preserved-in-Continue-branch-4 : goal.planned_pairs-pairs-preserved-in-Continue-branch-4
+planned_pairs-pairs-preserved-in-Continue-branch-4 t c =
     let p = value c.args.depth in
     let l = c.pairs in
     let n = l.invariant.0 in
@@ -245,9 +219,7 @@ planned_pairs-pairs-preserved-in-Some-member_of t c =
     let r = c.read_planned.new.reader in
     let less = read_key-shorter l.reader (Some k) s named in
     let lesser = done.shorter in
-    let copied : string_bytes c.in_ok-key-in-Some-member_of.key ≡ k = search rules in
-    let inserted : pairs_view c.insert.new.self.entries ≡ put k (view v) (pairs_view l.found.entries) =
-    ap pairs_view c.in_ok-insert-in-Some-member_of.ensures.entries ∙ pairs_view-insert_entry l.found.entries c.in_ok-key-in-Some-member_of.key v ∙ ap (λ name. put name (view v) (pairs_view l.found.entries)) copied in (
+    let inserted : pairs_view c.put_member.new.found.entries ≡ put k (view v) (pairs_view l.found.entries) = c.in_ok-put_member-in-Some-member_of.ensures in (
       n - 1,
       omega (arith, l.invariant.1),
       (
@@ -292,13 +264,16 @@ planned_pairs-returns-clause-ok t c =
     let now = l.invariant.2 in
     (now.0, now.1 ∙ pairs_over p now.0 n l.reader c.next_key.new.self l.invariant.1 (grind arith), now.2)
 
-pub read_planned-returns-in_ok-value-in-Parts-clause-ok : goal.read_planned-returns-in_ok-value-in-Parts-clause-ok
-read_planned-returns-in_ok-value-in-Parts-clause-ok t c =
+pub read_planned-returns-in-Everything-clause-ok : goal.read_planned-returns-in-Everything-clause-ok
+read_planned-returns-in-Everything-clause-ok t c =
+    IfOk-weaker c.read.result _ _ (λ v e. (view v, e, alike_equal (use_view c.args.asked.now) _ _ refl)) c.read.ensures.ok
+
+pub read_planned-returns-in-Parts-clause-ok : goal.read_planned-returns-in-Parts-clause-ok
+read_planned-returns-in-Parts-clause-ok t c =
     let same : use_view c.args.asked.now ≡ parts (members_view c.in-Parts.members.entries) (turns_view c.in-Parts.items) =
     ap use_view c.in-Parts.is ∙ view-Parts c.in-Parts.members c.in-Parts.items in
-    subst (λ u. IsPlanned u c.args.depth c.args.reader.now (view c.in_ok-value-in-Parts.value) c.read_parts.new.reader) (sym same) c.in_ok-value-in-Parts.ensures.ok
+    subst (λ u. IfOk c.read_parts.result (λ v. IsPlanned u c.args.depth c.args.reader.now (view v) c.read_parts.new.reader)) (sym same) c.read_parts.ensures.ok
 
-pub read_item-returns-in_ok-whole-in-Whole-clause-ok : goal.read_item-returns-in_ok-whole-in-Whole-clause-ok
-read_item-returns-in_ok-whole-in-Whole-clause-ok t c =
-    let done = c.in_ok-whole-in-Whole.ensures in
-    (view c.in_ok-whole-in-Whole.whole, done.ok, alike_equal (use_view c.args.asked.now) _ _ refl)
+pub read_item-returns-in-Whole-clause-ok : goal.read_item-returns-in-Whole-clause-ok
+read_item-returns-in-Whole-clause-ok t c =
+    IfOk-weaker c.read.result _ _ (λ v e. (view v, e, alike_equal (use_view c.args.asked.now) _ _ refl)) c.read.ensures.ok

@@ -1,57 +1,31 @@
-use Rattle.std.proofs.Common.{◌≡◌, ◌-◌, ◌<◌, ◌∷◌, length, Some, None, option_map, refl, ap, ◌∙◌, arith}
-use Rattle.std.specs.Prelude.{Result, Ok, Err, IfOk}
-use Rattle.json.specs.Token.{Token}
+use Rattle.std.proofs.Common.{◌≡◌, ◌-◌, ◌<◌, ◌∷◌, length, Some, None, refl, ap, ◌∙◌, arith}
+use Rattle.std.proofs.lemmas.Result.{IfOk-weaker}
 use Rattle.json.specs.Json.{parse_map, after_end_array, read_key, items, members, value}
 use Rattle.json.specs.Reads.{token_of}
-use Rattle.json.proofs.Grammar.{value_is, value-begin_array, value-begin_object, read_key-shorter}
+use Rattle.json.proofs.Grammar.{value-begin_array, value-begin_object, read_key-shorter}
 use Rattle.serde_json.specs.Read.{converted}
-use Rattle.liquid_model.specs.Data.{truth, nil, number, text, array, object, no_pairs, item, no_items, put}
-use Rattle.liquid_json.specs.inside.Tokens.{datum_of}
+use Rattle.liquid_model.specs.Data.{array, object, no_pairs, item, no_items, put}
+use Rattle.liquid_json.specs.inside.Tokens.{datum_of, datum_at}
+use Rattle.liquid_json.proofs.ScalarTokens.{scalar_read, some_given}
 use Rattle.liquid_json.proofs.Turns.{converted-array, converted-object, item_read, items_over, pair_read, pairs_over}
 use Rattle.liquid_json.proofs.skip.+skipped.Goals as goal
 
-pub skipped-returns-in-String-clause-ok : goal.skipped-returns-in-String-clause-ok
-skipped-returns-in-String-clause-ok t c =
-    let first : c.args.reader.now ≡ token_of c.in_ok-token.token ∷ c.next.new.self = grind arith in
-    let is : c.args.reader.now ≡ Token.string c.in-String._text.now ∷ c.next.new.self = grind (arith, first) in
-    (text c.in-String._text.now, ap (converted datum_of) (ap (value c.args.depth) is ∙ value_is c.args.depth _))
-
-pub skipped-returns-in-Bool-clause-ok : goal.skipped-returns-in-Bool-clause-ok
-skipped-returns-in-Bool-clause-ok t c =
-    let first : c.args.reader.now ≡ token_of c.in_ok-token.token ∷ c.next.new.self = grind arith in
-    let is : c.args.reader.now ≡ Token.boolean c.in-Bool._b ∷ c.next.new.self = grind (arith, first) in
-    (truth c.in-Bool._b, ap (converted datum_of) (ap (value c.args.depth) is ∙ value_is c.args.depth _))
-
-pub skipped-returns-in-Null-clause-ok : goal.skipped-returns-in-Null-clause-ok
-skipped-returns-in-Null-clause-ok t c =
-    let first : c.args.reader.now ≡ token_of c.in_ok-token.token ∷ c.next.new.self = grind arith in
-    let is : c.args.reader.now ≡ Token.null ∷ c.next.new.self = grind (arith, first) in
-    (nil, ap (converted datum_of) (ap (value c.args.depth) is ∙ value_is c.args.depth _))
-
-pub skipped-returns-in-Some-clause-ok : goal.skipped-returns-in-Some-clause-ok
-skipped-returns-in-Some-clause-ok t c =
-    let first : c.args.reader.now ≡ token_of c.in_ok-token.token ∷ c.next.new.self = grind arith in
-    let is : c.args.reader.now ≡ Token.number c.in-Number.text.now ∷ c.next.new.self = grind (arith, first) in (
-      number c.in-Some._n,
-      ap (converted datum_of) (ap (value c.args.depth) is ∙ value_is c.args.depth _)
-          ∙ ap (λ o. option_map (λ b. (b, c.next.new.self)) (option_map number o)) c.in-Some.ensures,
-    )
-
-over_ok : {E : Type 0} (P Q : Unit {0} → Type 0) (r : Result (Unit {0}) E) → IfOk r P → ((u : Unit {0}) → P u → Q u) → IfOk r Q
-over_ok P Q (Ok u) h k = k u h
-over_ok P Q (Err e) h k = h
+pub skipped-returns-in_default-token-clause-ok : goal.skipped-returns-in_default-token-clause-ok
+skipped-returns-in_default-token-clause-ok t c =
+    let first : c.args.reader.now ≡ token_of c.in-Some.token ∷ c.next.new.self = grind arith in
+    IfOk-weaker c.check_scalar.result _ _ (λ u h. let d = some_given _ h in (d.0, ap (datum_at c.args.depth) first ∙ scalar_read c.args.depth (token_of c.in-Some.token) _ d.0 d.1)) c.check_scalar.ensures
 
 pub skipped-returns-else-depth-eq0-clause-ok : goal.skipped-returns-else-depth-eq0-clause-ok
 skipped-returns-else-depth-eq0-clause-ok t c =
-    let first : c.args.reader.now ≡ token_of c.in_ok-token.token ∷ c.next.new.self = grind arith in
+    let first : c.args.reader.now ≡ token_of c.in-Some.token ∷ c.next.new.self = grind arith in
     let opened = ap (converted datum_of) (ap (value c.args.depth) (first ∙ ap (λ k. token_of k ∷ c.next.new.self) c.in-BeginArray.is) ∙ value-begin_array c.args.depth c.next.new.self (omega arith)) ∙ converted-array (items (value (c.args.depth - 1)) (length c.next.new.self) c.next.new.self) in
-    over_ok _ _ c.skip_items.result c.skip_items.ensures.ok (λ u found. (array found.0, opened ∙ ap (parse_map array) found.1))
+    IfOk-weaker c.skip_items.result _ _ (λ u found. (array found.0, opened ∙ ap (parse_map array) found.1)) c.skip_items.ensures.ok
 
 pub skipped-returns-else-depth-eq0-2-clause-ok : goal.skipped-returns-else-depth-eq0-2-clause-ok
 skipped-returns-else-depth-eq0-2-clause-ok t c =
-    let first : c.args.reader.now ≡ token_of c.in_ok-token.token ∷ c.next.new.self = grind arith in
+    let first : c.args.reader.now ≡ token_of c.in-Some.token ∷ c.next.new.self = grind arith in
     let opened = ap (converted datum_of) (ap (value c.args.depth) (first ∙ ap (λ k. token_of k ∷ c.next.new.self) c.in-BeginObject.is) ∙ value-begin_object c.args.depth c.next.new.self (omega arith)) ∙ converted-object (members (value (c.args.depth - 1)) (length c.next.new.self) c.next.new.self) in
-    over_ok _ _ c.skip_pairs.result c.skip_pairs.ensures.ok (λ u found. let all = found no_pairs in (object all.0, opened ∙ ap (parse_map object) all.1))
+    IfOk-weaker c.skip_pairs.result _ _ (λ u found. let all = found no_pairs in (object all.0, opened ∙ ap (parse_map object) all.1)) c.skip_pairs.ensures.ok
 
 pub skip_items-items-preserved : goal.skip_items-items-preserved
 skip_items-items-preserved t c =

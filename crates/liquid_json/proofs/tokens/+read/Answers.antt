@@ -1,60 +1,33 @@
-use Rattle.std.proofs.Common.{◌≡◌, ◌-◌, ◌<◌, ◌∷◌, length, Some, None, option_map, string_bytes, w64, sym, ap, ◌∙◌, arith, rules}
-use mir.Val.{to_z, of_z}
-use Rattle.json.specs.Token.{Token}
+use Rattle.std.proofs.Common.{◌≡◌, ◌-◌, ◌<◌, ◌∷◌, length, Some, None, sym, ap, ◌∙◌, arith}
+use Rattle.std.proofs.lemmas.Result.{IfOk-weaker}
 use Rattle.json.specs.Json.{parse_map, after_end_array, read_key, items, members, value}
 use Rattle.json.specs.Reads.{token_of}
-use Rattle.json.proofs.Grammar.{value_is, value-begin_array, value-begin_object, read_key-shorter}
+use Rattle.json.proofs.Grammar.{value-begin_array, value-begin_object, read_key-shorter}
 use Rattle.serde_json.specs.Read.{converted}
-use Rattle.liquid_model.specs.Data.{truth, nil, number, text, array, object, put}
+use Rattle.liquid_model.specs.Data.{array, object, put}
 use Rattle.liquid_model.specs.View.{view, pairs_view}
-use Rattle.liquid_model.specs.declared.value.Value.{Text, Integer, Bool, Nil, the_lemmas}
-use Rattle.liquid_model.proofs.Views.{view-Array, view-Object, pairs_view-insert_entry}
-use Rattle.liquid_json.specs.inside.Tokens.{datum_of, token_pairs, list_items_at}
+use Rattle.liquid_model.proofs.Views.{view-Array, view-Object}
+use Rattle.liquid_json.specs.inside.Tokens.{datum_of, token_pairs, datum_at, list_items_at}
 use Rattle.liquid_json.proofs.After.{after, after_none}
+use Rattle.liquid_json.proofs.ScalarTokens.{scalar_read}
 use Rattle.liquid_json.proofs.Turns.{converted-array, converted-object, item_read, items_over, pair_read, pairs_over, none_before, one_more_item}
 use Rattle.liquid_json.proofs.tokens.+read.Goals as goal
 
-pub read-returns-in_ok-from_str-in-String-clause-ok : goal.read-returns-in_ok-from_str-in-String-clause-ok
-read-returns-in_ok-from_str-in-String-clause-ok t c =
-    let first : c.args.reader.now ≡ token_of c.in_ok-token.token ∷ c.next.new.self = grind arith in
-    let is : c.args.reader.now ≡ Token.string c.in-String.text.now ∷ c.next.new.self = grind (arith, first) in
-    let seen : view (Text c.in_ok-from_str-in-String.field-0) ≡ text c.in-String.text.now = search (rules, the_lemmas) in
-    ap (converted datum_of) (ap (value c.args.depth) is ∙ value_is c.args.depth _) ∙ ap (λ d. Some (d, c.next.new.self)) (sym seen)
-
-pub read-returns-in-Bool-clause-ok : goal.read-returns-in-Bool-clause-ok
-read-returns-in-Bool-clause-ok t c =
-    let first : c.args.reader.now ≡ token_of c.in_ok-token.token ∷ c.next.new.self = grind arith in
-    let is : c.args.reader.now ≡ Token.boolean c.in-Bool.b ∷ c.next.new.self = grind (arith, first) in
-    let seen : view (Bool c.in-Bool.b) ≡ truth c.in-Bool.b = search (rules, the_lemmas) in
-    ap (converted datum_of) (ap (value c.args.depth) is ∙ value_is c.args.depth _) ∙ ap (λ d. Some (d, c.next.new.self)) (sym seen)
-
-pub read-returns-in-Null-clause-ok : goal.read-returns-in-Null-clause-ok
-read-returns-in-Null-clause-ok t c =
-    let first : c.args.reader.now ≡ token_of c.in_ok-token.token ∷ c.next.new.self = grind arith in
-    let is : c.args.reader.now ≡ Token.null ∷ c.next.new.self = grind (arith, first) in
-    let seen : view Nil ≡ nil = search (rules, the_lemmas) in
-    ap (converted datum_of) (ap (value c.args.depth) is ∙ value_is c.args.depth _) ∙ ap (λ d. Some (d, c.next.new.self)) (sym seen)
-
-pub read-returns-in-Some-clause-ok : goal.read-returns-in-Some-clause-ok
-read-returns-in-Some-clause-ok t c =
-    let first : c.args.reader.now ≡ token_of c.in_ok-token.token ∷ c.next.new.self = grind arith in
-    let is : c.args.reader.now ≡ Token.number c.in-Number.text.now ∷ c.next.new.self = grind (arith, first) in
-    let n = to_z w64 (of_z w64 c.in-Some.n) in
-    let same : n ≡ c.in-Some.n = search rules in
-    let seen : view (Integer n) ≡ number n = search (rules, the_lemmas) in
-    ap (converted datum_of) (ap (value c.args.depth) is ∙ value_is c.args.depth _)
-    ∙ ap (λ o. option_map (λ b. (b, c.next.new.self)) (option_map number o)) c.in-Some.ensures ∙ ap (λ d. Some (d, c.next.new.self)) (sym (seen ∙ ap number same))
+pub read-returns-in_default-token-clause-ok : goal.read-returns-in_default-token-clause-ok
+read-returns-in_default-token-clause-ok t c =
+    let first : c.args.reader.now ≡ token_of c.in-Some.token ∷ c.next.new.self = grind arith in
+    IfOk-weaker c.scalar.result _ _ (λ v e. ap (datum_at c.args.depth) first ∙ scalar_read c.args.depth (token_of c.in-Some.token) _ (view v) e) c.scalar.ensures
 
 pub read-returns-in_ok-read_items-in-BeginArray-clause-ok : goal.read-returns-in_ok-read_items-in-BeginArray-clause-ok
 read-returns-in_ok-read_items-in-BeginArray-clause-ok t c =
-    let first : c.args.reader.now ≡ token_of c.in_ok-token.token ∷ c.next.new.self = grind arith in
+    let first : c.args.reader.now ≡ token_of c.in-Some.token ∷ c.next.new.self = grind arith in
     let opened = ap (converted datum_of) (ap (value c.args.depth) (first ∙ ap (λ k. token_of k ∷ c.next.new.self) c.in-BeginArray.is) ∙ value-begin_array c.args.depth c.next.new.self (omega arith)) ∙ converted-array (items (value (c.args.depth - 1)) (length c.next.new.self) c.next.new.self) in
     let found = c.in_ok-read_items-in-BeginArray in
     opened ∙ ap (parse_map array) found.ensures.ok ∙ ap (λ d. Some (d, c.read_items.new.reader)) (sym (view-Array found.field-0))
 
 pub read-returns-in_ok-read_pairs-in-BeginObject-clause-ok : goal.read-returns-in_ok-read_pairs-in-BeginObject-clause-ok
 read-returns-in_ok-read_pairs-in-BeginObject-clause-ok t c =
-    let first : c.args.reader.now ≡ token_of c.in_ok-token.token ∷ c.next.new.self = grind arith in
+    let first : c.args.reader.now ≡ token_of c.in-Some.token ∷ c.next.new.self = grind arith in
     let opened = ap (converted datum_of) (ap (value c.args.depth) (first ∙ ap (λ k. token_of k ∷ c.next.new.self) c.in-BeginObject.is) ∙ value-begin_object c.args.depth c.next.new.self (omega arith)) ∙ converted-object (members (value (c.args.depth - 1)) (length c.next.new.self) c.next.new.self) in
     let found = c.in_ok-read_pairs-in-BeginObject in
     opened ∙ ap (parse_map object) found.ensures.ok ∙ ap (λ d. Some (d, c.read_pairs.new.reader)) (sym (view-Object found.field-0))
@@ -109,9 +82,7 @@ read_pairs-pairs-preserved t c =
     let r = c.read.new.reader in
     let less = read_key-shorter l.reader (Some k) s named in
     let lesser = done.shorter in
-    let copied : string_bytes c.in_ok-key.key ≡ k = search rules in
-    let inserted : pairs_view c.insert.new.self.entries ≡ put k (view v) old =
-    ap pairs_view c.in_ok-insert.ensures.entries ∙ pairs_view-insert_entry l.found.entries c.in_ok-key.key v ∙ ap (λ name. put name (view v) old) copied in (
+    let inserted : pairs_view c.put_member.new.found.entries ≡ put k (view v) old = c.in_ok-put_member.ensures in (
       n - 1,
       omega (arith, l.invariant.1),
       l.invariant.2 ∙ pair_read p old n k l.reader s r (view v) (omega (arith, l.invariant.1)) named done.ok

@@ -7,4 +7,4 @@ loop-asked-init c = adds_no_more IsDoubt _
 
 pub loop-asked-preserved : goal.loop-asked-preserved
 loop-asked-preserved c =
-    adds_found IsDoubt _ _ _ _ c.loop-asked.invariant c.in_ok-push_found.ensures (kept_found IsDoubt _ _ c.in_ok-found.ensures.doubts c.in_ok-unless_seen.ensures)
+    adds_found IsDoubt _ _ _ _ c.loop-asked.invariant c.in_ok-push_found.ensures (kept_found IsDoubt _ _ c.in_ok-found.ensures c.in_ok-unless_seen.ensures)

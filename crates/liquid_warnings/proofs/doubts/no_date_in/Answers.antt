@@ -3,4 +3,4 @@ use Rattle.liquid_warnings.proofs.AddedRemarks.{warns}
 use Rattle.liquid_warnings.proofs.doubts.no_date_in.Goals as goal
 
 pub returns : goal.returns
-returns c = (c.args.path.now, c.args.text.now, warns _ c.args.at (codes "NoDate") _ _ c.warning.ensures c.in_ok-no_date.ensures)
+returns c = (c.args.path.now, c.args.text.now, warns _ c.args.at (codes "NoDate") _ _ c.warning.ensures c.in_ok-message.ensures)

@@ -1,11 +1,13 @@
 use Rattle.std.proofs.Common.{inl, inr}
+use Rattle.liquid_warnings.proofs.AddedRemarks.{found_of}
+use Rattle.liquid_warnings.specs.Sorts.{IsDoubt, IsPastEnd, IsUndated, IsUnlisted}
 use Rattle.liquid_warnings.proofs.doubts.remark_of.Goals as goal
 
-pub returns-in-NoList-clause-doubts : goal.returns-in-NoList-clause-doubts
-returns-in-NoList-clause-doubts c = inr (inl c.in_ok-no_list_in-in-NoList.ensures)
+pub returns-in-NoList : goal.returns-in-NoList
+returns-in-NoList c = found_of IsUnlisted IsDoubt _ (λ s is. inr (inl is)) c.no_list_in.ensures
 
-pub returns-in-PastEnd-clause-doubts : goal.returns-in-PastEnd-clause-doubts
-returns-in-PastEnd-clause-doubts c = inr (inr (inl c.in_ok-past_end_in-in-PastEnd.ensures))
+pub returns-in-PastEnd : goal.returns-in-PastEnd
+returns-in-PastEnd c = found_of IsPastEnd IsDoubt _ (λ s is. inr (inr (inl is))) c.past_end_in.ensures
 
-pub returns-clause-doubts : goal.returns-clause-doubts
-returns-clause-doubts c = inr (inr (inr c.in_ok-no_date_in-in-NoDate.ensures))
+pub returns : goal.returns
+returns c = found_of IsUndated IsDoubt _ (λ s is. inr (inr (inr is))) c.no_date_in.ensures

@@ -1,3 +1,0 @@
-pub mod MoneyFormats
-pub mod Settings
-pub mod Views

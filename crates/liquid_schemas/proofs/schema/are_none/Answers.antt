@@ -1,5 +1,0 @@
-use Rattle.liquid_schemas.proofs.Members.{none_there}
-use Rattle.liquid_schemas.proofs.schema.are_none.Goals as goal
-
-pub returns : goal.returns
-returns c = none_there c.is_empty.result c.args.members.now.entries c.is_empty.ensures

@@ -1,8 +1,0 @@
-use Rattle.std.proofs.Common.{All}
-use Rattle.liquid_warnings.specs.Sorts.{IsElseIf}
-use Rattle.liquid_warnings.specs.inside.Added.{AddsRemarks}
-use Rattle.liquid_warnings.proofs.else_if.add_else_if.Given as goal
-
--- all that is added so far is of this sort
-abbrev pub invariant-loop-place : goal.invariant-loop-place
-invariant-loop-place l = AddsRemarks (All IsElseIf) l.fn.remarks.items l.remarks.items
