@@ -12,7 +12,8 @@ use Rattle.liquid_warnings.specs.Remarks.{Said, all_said, remark_view, warning, 
 use Rattle.liquid_warnings.specs.Sorts.{InOrder, IsUnescaped, IsUnlisted, OnlyWhere, WarnsOf}
 use Rattle.liquid_warnings.specs.Messages.{in_data, kind_word, value_message}
 use Rattle.liquid_warnings.specs.Warnings.{AreOfSource}
-use Rattle.liquid_warnings.specs.inside.Added.{AddsRemarks, maybe_said}
+use Rattle.liquid_model.specs.declared.location.Location.{Location}
+use Rattle.liquid_warnings.specs.inside.Added.{AddsRemarks, maybe_said, said_at, said_at_each}
 use Rattle.liquid_warnings.specs.declared.remark.Remark.{Remark}
 
 -- none
@@ -57,6 +58,24 @@ kept_found p found (Some s) is same = subst (λ o. IfSome o (λ w. p (remark_vie
 pub found_of : {E : Type 0} (p q : Said → Type 0) (found : Result (Option Remark) E) → ((s : Said) → p s → q s) → IfOk found (λ r. IfSome r (λ w. p (remark_view w)))
     → IfOk found (λ r. IfSome r (λ w. q (remark_view w)))
 found_of p q found more is = IfOk-weaker found _ _ (λ r one. IfSome_then r one (λ w. more (remark_view w))) is
+
+-- ---- at each of some places
+
+-- what is said so far and what is left to say make all, with one more said
+pub said_one_more : (a : List Said) (b c : List Remark) (r : Remark) (kind message : Text) (place : Location) (places : List Location)
+    → a ≡ all_said b ++ said_at_each kind message (place ∷ places) → c ≡ b ++ r ∷ [] → remark_view r ≡ said_at kind message place → a ≡ all_said c ++ said_at_each kind message places
+said_one_more a b c r kind message place places before pushed is =
+    let left = said_at_each kind message places in
+    before ∙ ap (λ w. all_said b ++ (w ∷ left)) (sym is) ∙ sym (append_assoc (all_said b) (remark_view r ∷ []) left)
+    ∙ ap (λ l. l ++ left) (sym (ap all_said pushed ∙ map-append remark_view b (r ∷ [])))
+
+at_each : (kind message : Text) (places : List Location) → All (WarnsOf kind message) (said_at_each kind message places)
+at_each kind message [] = All-nil (WarnsOf kind message)
+at_each kind message (p ∷ ps) = All-cons (WarnsOf kind message) (said_at kind message p) (said_at_each kind message ps) (p.line, p.column, refl) (at_each kind message ps)
+
+-- those at places are of the sort that says this
+pub adds_at_each : (kind message : Text) (places : List Location) (a c : List Remark) → all_said c ≡ all_said a ++ said_at_each kind message places → AddsRemarks (All (WarnsOf kind message)) a c
+adds_at_each kind message places a c grown = record { added = said_at_each kind message places; grown = grown; is = at_each kind message places }
 
 -- ---- those of a sort that is looked for, or not
 

@@ -1,8 +1,7 @@
 //! What is said of a template.
-ghost use Rattle.std.specs.Prelude.{◌≡◌, ◌++◌, All, IfErr, IfOk, OnOk, string_bytes};
+ghost use Rattle.std.specs.Prelude.{◌≡◌, ◌++◌, IfErr, IfOk, OnOk, string_bytes};
 ghost use Rattle.liquid_warnings.specs.Remarks.{all_said, remark_view, warning, warning_at};
-ghost use Rattle.liquid_warnings.specs.Sorts.{WarnsOf};
-ghost use Rattle.liquid_warnings.specs.inside.Added.{AddsRemarks, maybe_said};
+ghost use Rattle.liquid_warnings.specs.inside.Added.{maybe_said, said_at_each};
 
 use liquid_core::{ErrorKind, Location};
 use liquid_syntax::Position;
@@ -53,7 +52,7 @@ impl Remark {
     }
 }
 
-/// Adds a warning with this message at each of these places of a source.
+/// Adds a warning with this message at each of these places of a source, in their order.
 pub(crate) fn add_at_each(
     alloc: Global,
     places: &[Location],
@@ -61,8 +60,8 @@ pub(crate) fn add_at_each(
     message: &str,
     remarks: &mut Vec<Remark>,
 ) -> liquid_core::Result<()>
-    ensures added { OnOk result (AddsRemarks
-        (All (WarnsOf kind.entry.now message.now)) remarks.old.items remarks.new.items) }
+    ensures added { OnOk result (all_said remarks.new.items ≡ all_said remarks.old.items
+        ++ said_at_each kind.entry.now message.now places.now) }
     ensures memory { IfErr result (λ e. e.kind ≡ ErrorKind.Memory) }
 {
     for place in places {

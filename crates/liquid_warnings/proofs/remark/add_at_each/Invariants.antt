@@ -1,8 +1,9 @@
-use Rattle.std.proofs.Common.{All}
-use Rattle.liquid_warnings.specs.Sorts.{WarnsOf}
-use Rattle.liquid_warnings.specs.inside.Added.{AddsRemarks}
+use Rattle.std.proofs.Common.{◌≡◌, ◌++◌, drop}
+use Rattle.liquid_warnings.specs.Remarks.{all_said}
+use Rattle.liquid_warnings.specs.inside.Added.{said_at_each}
 use Rattle.liquid_warnings.proofs.remark.add_at_each.Given as goal
 
--- all that is added so far has this kind and message
+-- what is said so far and the places that are left make all
 abbrev pub invariant-loop-place : goal.invariant-loop-place
-invariant-loop-place l = AddsRemarks (All (WarnsOf l.kind l.message)) l.fn.remarks.items l.remarks.items
+invariant-loop-place l = all_said l.fn.remarks.items ++ said_at_each l.kind l.message l.places
+    ≡ all_said l.remarks.items ++ said_at_each l.kind l.message (drop l.place-index l.places)
