@@ -103,6 +103,13 @@ impl Sources {
         self.names.as_slice()
     }
 
+    /// The texts of the partials.
+    pub fn partials(&self) -> &[Source]
+        ensures { result.now ≡ self.now.partials.items }
+    {
+        self.partials.as_slice()
+    }
+
     /// The partial at a place.
     pub fn partial_at(&self, place: usize) -> Option<&Source>
         ensures { option_map (λ s. s.now) result ≡ slice_get self.now.partials.items place }
