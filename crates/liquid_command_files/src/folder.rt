@@ -1,7 +1,10 @@
 //! The files of a folder, and what is left out of it.
+ghost use Rattle.std.specs.Prelude.{◌≡◌, ◌++◌, IfOk, string_bytes};
+
 use crate::stop::Stop;
-use liquid_excerpts::{Entry, LeftOut, LeftOutLine, Reason, entry_at, is_hidden};
+use liquid_excerpts::{Entry, LeftOut, LeftOutLine, Reason, listed_entry};
 use liquid_partial_names::joined_path;
+use std::alloc::{AllocError, Global};
 use std::fs::DirEntry;
 use std::{fs, io};
 
@@ -49,18 +52,18 @@ pub fn files_below(rt: &HostRuntime, folder: &str) -> Result<Found, Stop> {
 
 /// A walk through the folders below one.
 #[derive(Drop)]
-struct Walk<'r> {
+struct Walk<'r, 'f> {
     rt: &'r HostRuntime,
-    folder: &'r str,
+    folder: &'f str,
     found: Found,
     /// The folders that are still to be read, by their paths from the first one on: each is empty
     /// or ends in a slash.
     folders: Vec<String>,
 }
 
-impl<'r> Walk<'r> {
+impl<'r, 'f> Walk<'r, 'f> {
     /// A walk that is to read the folder first.
-    fn new(rt: &'r HostRuntime, folder: &'r str) -> Result<Walk<'r>, Stop> {
+    fn new(rt: &'r HostRuntime, folder: &'f str) -> Result<Walk<'r, 'f>, Stop> {
         let mut folders = Vec::new(rt.alloc());
         folders.push(String::new(rt.alloc()))?;
         let found = Found {
@@ -89,10 +92,9 @@ impl<'r> Walk<'r> {
         Ok(())
     }
 
-    /// Adds one entry of the folder at a path, unless its name begins with a dot.
+    /// Adds one entry of the folder at a path. A name that isn't UTF-8 is left out.
     fn add(&mut self, path: &str, inner: &str, entry: io::Result<DirEntry>) -> Result<(), Stop> {
         match entry {
-            Ok(entry) if is_hidden(entry.file_name()) => Ok(()),
             Ok(entry) => self.add_named(inner, &entry),
             Err(refused) if refused.kind() == io::ErrorKind::InvalidFilename => {
                 self.leave_out(path, LeftOut::Unnamed)
@@ -101,13 +103,19 @@ impl<'r> Walk<'r> {
         }
     }
 
-    /// Adds an entry by its name.
+    /// Adds an entry by its name, unless that begins with a dot.
     fn add_named(&mut self, inner: &str, entry: &DirEntry) -> Result<(), Stop> {
         let path = entry.path().as_str();
-        match entry_at(self.rt, self.folder, path) {
-            Ok(Entry::File) => Ok(self.found.files.push(self.path_of(inner, entry, "")?)?),
-            Ok(Entry::Folder) => Ok(self.folders.push(self.path_of(inner, entry, "/")?)?),
-            Ok(Entry::LinkToFolder | Entry::Gone) => Ok(()),
+        match listed_entry(self.rt, self.folder, entry) {
+            Ok(Entry::File) => {
+                let file = inner_path(self.rt.alloc(), inner, entry.file_name(), "")?;
+                Ok(self.found.files.push(file)?)
+            }
+            Ok(Entry::Folder) => {
+                let folder = inner_path(self.rt.alloc(), inner, entry.file_name(), "/")?;
+                Ok(self.folders.push(folder)?)
+            }
+            Ok(Entry::Hidden | Entry::LinkToFolder | Entry::Gone) => Ok(()),
             Ok(Entry::LeftOut(why)) => self.leave_out(path, why),
             Err(refused) => {
                 let reason = Reason::from(refused.kind());
@@ -116,16 +124,18 @@ impl<'r> Walk<'r> {
         }
     }
 
-    /// The path of an entry from the first folder on, with this after it.
-    fn path_of(&self, inner: &str, entry: &DirEntry, end: &str) -> Result<String, Stop> {
-        let mut path = String::from_str(self.rt.alloc(), inner)?;
-        path.push_str(entry.file_name())?;
-        path.push_str(end)?;
-        Ok(path)
-    }
-
     fn leave_out(&mut self, path: &str, why: LeftOut) -> Result<(), Stop> {
         let path = String::from_str(self.rt.alloc(), path)?;
         Ok(self.found.left_out.push((path, why))?)
     }
+}
+
+/// The path of an entry from the first folder on, with this after it.
+fn inner_path(alloc: Global, inner: &str, name: &str, end: &str) -> Result<String, AllocError>
+    ensures { IfOk result (λ path. string_bytes path ≡ inner.now ++ (name.now ++ end.now)) }
+{
+    let mut path = String::from_str(alloc, inner)?;
+    path.push_str(name)?;
+    path.push_str(end)?;
+    Ok(path)
 }

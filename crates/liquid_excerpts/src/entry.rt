@@ -1,11 +1,11 @@
 //! What stands in a folder whose files are read.
-ghost use Rattle.std.specs.Prelude.{◌≡◌, ◌↔◌, IsTrue};
-ghost use Rattle.std.specs.Fs.{IsDir, IsFile};
+ghost use Rattle.std.specs.Prelude.{◌≡◌, ◌↔◌, IsTrue, Ok};
+ghost use Rattle.std.specs.Fs.{IsDir, IsFile, dir_entry_name};
 ghost use Rattle.std.specs.Path.{PathStartsWith};
 ghost use Rattle.liquid_excerpts.specs.Entries.{entry_of, has_byte_zero, is_hidden};
 
 use crate::left_out::LeftOut;
-use std::fs::FileType;
+use std::fs::{DirEntry, FileType};
 use std::os::unix::fs::FileTypeExt;
 use std::path::Path;
 use std::{fs, io};
@@ -13,6 +13,8 @@ use std::{fs, io};
 /// What an entry of a folder is to a program that reads the folder's files.
 #[derive(Clone, Copy, Debug, PartialEq, Eq)]
 pub enum Entry {
+    /// Its name begins with a dot.
+    Hidden,
     /// A regular file, whose real path lies below the folder.
     File,
     Folder,
@@ -51,8 +53,21 @@ pub enum Way {
     Unnamed,
 }
 
-/// What the entry at a path is, for a program that reads the files below a folder. A file or a
-/// folder is only looked at, and nothing is opened.
+/// What an entry that was listed is, for a program that reads the files below a folder. One that is
+/// hidden isn't looked at.
+///
+/// What the system refuses to tell, as `entry_at` says.
+pub fn listed_entry(rt: &HostRuntime, folder: &str, entry: &DirEntry) -> io::Result<Entry>
+    ensures hidden { IsTrue (is_hidden (dir_entry_name entry.now)) → result ≡ Ok Entry.Hidden }
+{
+    if is_hidden(entry.file_name()) {
+        return Ok(Entry::Hidden);
+    }
+    entry_at(rt, folder, entry.path().as_str())
+}
+
+/// What the entry at a path is, whatever its name, for a program that reads the files below a
+/// folder. It is only looked at, and nothing is opened.
 ///
 /// What the system refuses to tell, other than of a link that leads nowhere or that the user may
 /// not follow.
