@@ -3,6 +3,7 @@ ghost use Rattle.std.specs.Prelude.{◌≡◌, [], IfOk, Ok, OnOk, false, true};
 
 use crate::changes::{Line, Listing, all_files, line_of};
 use crate::files::{SystemFiles, reason_of};
+use crate::readable::leave_out;
 use crate::stop::FolderStop;
 use crate::tell::tell_round;
 use liquid_model::Quoted;
@@ -91,13 +92,15 @@ impl<'r> Rounds<'r> {
     }
 
     /// Runs one round and reports it. Whether no file was refused, no page ended by a fault, and
-    /// each page's file was written. A file that is refused is looked at again in the next round.
+    /// each page's file was written. A file that is refused is looked at again in the next round;
+    /// what may not be read, as a pipe, is left out, and changes nothing.
     pub fn one_round(&mut self) -> Result<bool, FolderStop>
         ensures named { OnOk result (self.new.is_named ≡ false) }
         ensures whole { self.new.is_whole ≡ self.old.is_whole }
     {
         self.changes.sort_unstable();
         self.changes.dedup();
+        leave_out(self.rt, self.folder, &mut self.changes)?;
         let before = self.site.rendered();
         let done = round(
             self.rt.alloc(),
@@ -133,10 +136,13 @@ fn first_site(
     folder: &Folder,
     files: &SystemFiles<'_>,
 ) -> Result<Site, FolderStop> {
-    match files.read(folder.data.as_str()) {
-        Ok(Some(text)) => Ok(site_of(rt.alloc(), text.as_str())?),
+    let path = folder.data.as_str();
+    match files.read(path) {
+        Ok(Some(text)) => match site_of(rt.alloc(), text.as_str()) {
+            Ok(site) => Ok(site),
+            Err(fault) => Err(FolderStop::bad_data(rt.alloc(), path, text, fault)),
+        },
         Ok(None) | Err(DiskFault::Refused) => {
-            let path = folder.data.as_str();
             Err(FolderStop::unreadable(rt.alloc(), path, reason_of(rt, path)))
         }
         Err(DiskFault::Memory) => Err(FolderStop::from(AllocError)),
