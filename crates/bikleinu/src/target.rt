@@ -49,11 +49,7 @@ impl FileMerge<'_> {
     fn finish(&mut self, alloc: Global) -> Result<(), Stop> {
         match self.files.flush_folders() {
             Ok(()) => Ok(()),
-            Err(refused) => Err(Stop::unwritten(
-                alloc,
-                "the folder of the pages",
-                refused.kind(),
-            )),
+            Err(refused) => Err(Stop::unwritten(alloc, "the folder of the pages", refused.kind())),
         }
     }
 }

@@ -1,2 +1,2 @@
-pub mod Suffix
+pub mod Below
 pub mod Told

@@ -59,9 +59,11 @@ pub kept_both : (a b c : Option Story) → Goes IsKept a b → Goes IsKept b c �
 kept_both None b c s t = tt
 kept_both (Some a) None c s t = absurd s
 kept_both (Some a) (Some b) None s t = t
-kept_both (Some a) (Some b) (Some c) s t =
-    (t.0 ∙ s.0, since_both (λ f. without_parts f ≡ without_parts a.now) a b c s.1
-    (since_so (λ f. without_parts f ≡ without_parts b.now) (λ f. without_parts f ≡ without_parts a.now) b c (λ f e. e ∙ s.0) t.1))
+kept_both (Some a) (Some b) (Some c) s t = (
+  t.0 ∙ s.0,
+  since_both (λ f. without_parts f ≡ without_parts a.now) a b c s.1
+      (since_so (λ f. without_parts f ≡ without_parts b.now) (λ f. without_parts f ≡ without_parts a.now) b c (λ f e. e ∙ s.0) t.1),
+)
 
 -- a part that changed, or was made, or got its text
 pub part_changed : (a b : Option Story) (part : Text) → is_part_path part ≡ true → Goes (Changes part) a b → Goes IsKept a b
@@ -111,10 +113,12 @@ placed (Some a) (Some b) (Some c) part path text is isnt s h r =
     let same : (Files → Type 0) = λ f. without_parts f ≡ without_parts a.now in
     let page : Files = with_page path text a in
     let there : without_parts c.now ≡ page =
-        ap without_parts r.0 ∙ part_gone (with_file b.now path (b.now part)) part gone is ∙ page_there b.now path (b.now part) isnt
-        ∙ ap (λ file. with_file (without_parts b.now) path file) h ∙ ap (λ f. with_file f path (holds text)) s.0 in
-    (there, since_so same (λ f. (without_parts f ≡ without_parts a.now) ⊎ (without_parts f ≡ page)) a c (λ f e. inl e)
-    (since_both same a b c s.1 (since_so (λ f. f ≡ b.now) same b c (λ f e. ap without_parts e ∙ s.0) r.1)))
+    ap without_parts r.0 ∙ part_gone (with_file b.now path (b.now part)) part gone is ∙ page_there b.now path (b.now part) isnt
+    ∙ ap (λ file. with_file (without_parts b.now) path file) h ∙ ap (λ f. with_file f path (holds text)) s.0 in (
+      there,
+      since_so same (λ f. (without_parts f ≡ without_parts a.now) ⊎ (without_parts f ≡ page)) a c (λ f e. inl e)
+          (since_both same a b c s.1 (since_so (λ f. f ≡ b.now) same b c (λ f e. ap without_parts e ∙ s.0) r.1)),
+    )
 
 pub placed_since : (a b c : Option Story) (path text : Text) → Goes IsKept a b → Goes (TakesPlace path text) b c → Goes (TakesPlace path text) a c
 placed_since None b c path text s t = tt
@@ -124,9 +128,11 @@ placed_since (Some a) (Some b) (Some c) path text s t =
     let page : with_page path text b ≡ with_page path text a = ap (λ f. with_file f path (holds text)) s.0 in
     let either : (Files → Type 0) = λ f. (without_parts f ≡ without_parts a.now) ⊎ (without_parts f ≡ with_page path text a) in
     let from_b : (f : Files) → (without_parts f ≡ without_parts b.now) ⊎ (without_parts f ≡ with_page path text b) → either f =
-        λ f. elim [ inl e ↦ inl (e ∙ s.0) | inr e ↦ inr (e ∙ page) ] in
-    (t.0 ∙ page, since_both either a b c (since_so (λ f. without_parts f ≡ without_parts a.now) either a b (λ f e. inl e) s.1)
-    (since_so (λ f. (without_parts f ≡ without_parts b.now) ⊎ (without_parts f ≡ with_page path text b)) either b c from_b t.1))
+    λ f. elim [ inl e ↦ inl (e ∙ s.0) | inr e ↦ inr (e ∙ page) ] in (
+      t.0 ∙ page,
+      since_both either a b c (since_so (λ f. without_parts f ≡ without_parts a.now) either a b (λ f e. inl e) s.1)
+          (since_so (λ f. (without_parts f ≡ without_parts b.now) ⊎ (without_parts f ≡ with_page path text b)) either b c from_b t.1),
+    )
 
 -- ---- names after a front
 

@@ -1,6 +1,7 @@
 //! Where the texts of files are.
-ghost use Rattle.std.specs.Prelude.{None, Option, IfSome};
+ghost use Rattle.std.specs.Prelude.{◌≡◌, None, Option, IfSome};
 ghost use Rattle.liquid_disk.specs.Files.{Files, IsFound, IsPut};
+ghost use Rattle.liquid_disk.specs.declared.disk.DiskFault.TheVariants.{Memory};
 
 use crate::system::Occupant;
 use std::alloc::{AllocError, AllocFailed};
@@ -35,12 +36,16 @@ pub enum Protected {
 }
 
 impl From<AllocError> for DiskFault {
+    ghost from_gives = { λ _ fault. fault ≡ Memory };
+
     fn from(_refused: AllocError) -> DiskFault {
         DiskFault::Memory
     }
 }
 
 impl<T: Drop> From<AllocFailed<T>> for DiskFault {
+    ghost from_gives = { λ _ fault. fault ≡ Memory };
+
     fn from(_refused: AllocFailed<T>) -> DiskFault {
         DiskFault::Memory
     }

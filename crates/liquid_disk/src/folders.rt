@@ -1,4 +1,5 @@
 //! The folders that pages go into.
+ghost use Rattle.std.specs.Prelude.{◌≡◌};
 ghost use Rattle.liquid_disk.specs.Parts.{IsKept};
 ghost use Rattle.liquid_disk.specs.Stories.{Goes};
 
@@ -6,6 +7,7 @@ use crate::disk::DiskFault;
 use crate::parts::{folder_of, is_part_path};
 use crate::system::FileSystem;
 use std::alloc::Global;
+use std::collections::BTreeSet;
 use std::io;
 use std::path::Path;
 
@@ -87,4 +89,18 @@ fn remove_part<S: FileSystem>(system: &mut S, path: &str)
     if is_part_path(path) {
         system.remove(path);
     }
+}
+
+/// Makes sure that the names in folders are on the disk. The answer is why the first is refused.
+pub(crate) fn flush_folders<S: FileSystem>(
+    system: &mut S,
+    folders: &BTreeSet<String>,
+) -> io::Result<()>
+    ensures { S.story system.new ≡ S.story system.old }
+{
+    for folder in folders.iter() {
+        let path = shown(folder.as_str().trim_end_matches('/'), folder.as_str());
+        system.flush_folder(path)?;
+    }
+    Ok(())
 }

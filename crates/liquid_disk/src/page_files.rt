@@ -8,7 +8,7 @@ ghost use Rattle.liquid_disk.specs.Standings.{is_own};
 ghost use Rattle.liquid_disk.specs.Stories.{Goes};
 
 use crate::disk::{Disk, DiskFault, Protected};
-use crate::folders::{is_inside, make_ready};
+use crate::folders::{flush_folders, is_inside, make_ready};
 use crate::names::hidden_names;
 use crate::parts::{folder_of, is_part_path, part_path};
 use crate::put::{Draft, WrittenPages, put_whole};
@@ -91,10 +91,7 @@ impl<S: FileSystem> PageFiles<S> {
     pub fn flush_folders(&mut self) -> io::Result<()>
         ensures { S.story self.new.system ≡ S.story self.old.system }
     {
-        for folder in self.folders.iter() {
-            self.system.flush_folder(folder.as_str())?;
-        }
-        Ok(())
+        flush_folders(&mut self.system, &self.folders)
     }
 
     /// Puts a page into what a path leads to that the caller chose: a link, a pipe or a device is
@@ -207,7 +204,12 @@ impl<S: FileSystem> PageFiles<S> {
         if !is_inside(self.alloc, &self.system, folder, self.bounds.root.as_ref())? {
             return Err(DiskFault::Protected(Protected::Outside));
         }
-        make_ready(self.alloc, &mut self.system, folder, self.bounds.makes_folders)?;
+        make_ready(
+            self.alloc,
+            &mut self.system,
+            folder,
+            self.bounds.makes_folders,
+        )?;
         self.folders.insert(name)?;
         Ok(())
     }
@@ -246,7 +248,13 @@ impl<S: FileSystem> PageFiles<S> {
     {
         let part = part_path(self.alloc, draft.path, self.process, self.parts)?;
         self.parts = self.parts.wrapping_add(1);
-        put_whole(self.alloc, &mut self.system, &mut self.pages, part.as_str(), draft)
+        put_whole(
+            self.alloc,
+            &mut self.system,
+            &mut self.pages,
+            part.as_str(),
+            draft,
+        )
     }
 
     /// The path of a page.

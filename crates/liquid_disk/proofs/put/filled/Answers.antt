@@ -19,6 +19,6 @@ pub returns-clause-held : goal.returns-clause-held
 returns-clause-held g c =
     let story = g.S.FileSystem.story in
     let there : Goes (Held c.args.part.now c.args.text.now) (story c.args.system.now) (story c.flush.new.self) =
-        subst (λ n. Goes (Held c.args.part.now c.args.text.now) (story c.args.system.now) n) (sym c.flush.ensures)
-        (filled_holds (story c.args.system.now) (story c.fill.new.self) c.args.part.now c.args.text.now c.in_ok-fill.ensures.filled) in
+    subst (λ n. Goes (Held c.args.part.now c.args.text.now) (story c.args.system.now) n) (sym c.flush.ensures)
+    (filled_holds (story c.args.system.now) (story c.fill.new.self) c.args.part.now c.args.text.now c.in_ok-fill.ensures.filled) in
     on_ok c.flush.result there

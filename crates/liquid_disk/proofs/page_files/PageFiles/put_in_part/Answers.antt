@@ -15,6 +15,7 @@ returns-then-ne-clause-kept g c =
 
 pub loop-preserved : goal.loop-preserved
 loop-preserved g c =
-    let story = g.S.FileSystem.story in
-    (kept_both (story c.args.self.now.system) (story c.loop.self.system) (story c.put_in_new_part.new.self.system) c.loop.invariant.0 c.in-Err.ensures.kept,
-    c.put_in_new_part.ensures.bounds ∙ c.loop.invariant.1)
+    let story = g.S.FileSystem.story in (
+      kept_both (story c.args.self.now.system) (story c.loop.self.system) (story c.put_in_new_part.new.self.system) c.loop.invariant.0 c.in-Err.ensures.kept,
+      c.put_in_new_part.ensures.bounds ∙ c.loop.invariant.1,
+    )
