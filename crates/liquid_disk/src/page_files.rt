@@ -223,21 +223,23 @@ impl<S: FileSystem> PageFiles<S> {
             (S.story self.new.system)) }
         ensures bounds { self.new.bounds ≡ self.old.bounds }
     {
+        let mut kind = io::ErrorKind::AlreadyExists;
         for _ in 0..PART_TRIES {
             match self.put_in_new_part(draft) {
                 Ok(()) => return Ok(()),
                 Err(refused) => {
-                    if refused.kind() != io::ErrorKind::AlreadyExists {
+                    kind = refused.kind();
+                    if !is_tried_again(kind) {
                         return Err(DiskFault::from(refused));
                     }
                 }
             }
         }
-        Err(DiskFault::Refused(io::ErrorKind::AlreadyExists))
+        Err(DiskFault::Refused(kind))
     }
 
     /// Puts a page into its file by way of the next part. It is `AlreadyExists` if somebody else
-    /// has the part's name.
+    /// has the part's name, and `NotFound` if somebody took the part away.
     fn put_in_new_part(&mut self, draft: Draft<'_>) -> io::Result<()>
         requires { is_part_path draft.path.now ≡ false }
         ensures placed { OnOk result (Goes (TakesPlace draft.entry.path.now draft.entry.text.now)
@@ -265,6 +267,15 @@ impl<S: FileSystem> PageFiles<S> {
         let front = self.bounds.front.as_str();
         format!(in self.alloc; "{front}{name}")
     }
+}
+
+/// Whether another part may have what the last one lacked: a name of its own, or the time to take
+/// its place before another run, which saw it before it was locked, took it away.
+fn is_tried_again(kind: io::ErrorKind) -> bool {
+    matches!(
+        kind,
+        io::ErrorKind::AlreadyExists | io::ErrorKind::NotFound
+    )
 }
 
 impl<S: FileSystem> Disk for PageFiles<S> {

@@ -8,8 +8,8 @@ returns-in-Ok-clause-placed g c =
     placed_since (story c.args.self.now.system) (story c.loop.self.system) (story c.put_in_new_part.new.self.system) c.args.draft.path.now c.args.draft.text.now
     c.loop.invariant.0 c.in-Ok.ensures.placed
 
-pub returns-then-ne-clause-kept : goal.returns-then-ne-clause-kept
-returns-then-ne-clause-kept g c =
+pub returns-then-not-is_tried_again-clause-kept : goal.returns-then-not-is_tried_again-clause-kept
+returns-then-not-is_tried_again-clause-kept g c =
     let story = g.S.FileSystem.story in
     kept_both (story c.args.self.now.system) (story c.loop.self.system) (story c.put_in_new_part.new.self.system) c.loop.invariant.0 c.in-Err.ensures.kept
 
