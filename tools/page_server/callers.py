@@ -47,7 +47,7 @@ KINDS = [
 
 
 class Caller:
-    """A connection of a kind, which never closes it."""
+    """A connection of a kind, which leaves it to the server to close it."""
 
     def __init__(self, port, kind):
         self.kind, self.later = kind, kind.later
@@ -155,10 +155,13 @@ def wrong_of(port, allowed, asking):
     for kind in KINDS:
         rows.append([Caller(port, kind) for _ in range(SEVERAL)])
         yield wrong_beside(port, kind.name, allowed)
+    callers = sum(rows, [])
     until = time.monotonic() + asking
-    yield wrong_until(port, sum(rows, []), until, allowed)
+    yield wrong_until(port, callers, until, allowed)
     for row in rows:
         yield next(filter(None, (caller.wrong(until + LEAVING + allowed) for caller in row)), None)
     resetting(port)
     yield wrong_beside(port, "resets its connection", allowed)
     yield from crowd(port, allowed)
+    for caller in callers:
+        caller.socket.close()
