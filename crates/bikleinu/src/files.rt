@@ -24,7 +24,7 @@ pub fn page_file<'r>(
     };
     let mut files = PageFiles::new(
         rt.alloc(),
-        SystemFiles::new(rt),
+        SystemFiles::new(rt, true),
         process::id(rt.process()),
         bounds,
     );
@@ -50,7 +50,7 @@ pub fn record_files<'r>(
     };
     let mut files = PageFiles::new(
         rt.alloc(),
-        SystemFiles::new(rt),
+        SystemFiles::new(rt, call.is_flushed),
         process::id(rt.process()),
         bounds,
     );
@@ -97,7 +97,7 @@ fn root_of(rt: &HostRuntime, front: &str, pattern: &str) -> Result<String, Stop>
         (true, true) => String::from_str(rt.alloc(), ".")?,
         _ => format!(in rt.alloc(); "{front}{folder}")?,
     };
-    let mut system = SystemFiles::new(rt);
+    let mut system = SystemFiles::new(rt, false);
     let found = system.make_folder(path.as_str());
     match found {
         Ok(()) => {}

@@ -20,6 +20,8 @@ pub struct MergeCall<'w> {
     pub from: u64,
     pub count: u64,
     pub dry_run: bool,
+    /// Whether each page is waited for, until the disk has it.
+    pub is_flushed: bool,
     pub progress: bool,
 }
 
@@ -38,6 +40,7 @@ const ARGUMENTS: &[Argument] = &[
     Argument::From,
     Argument::Count,
     Argument::DryRun,
+    Argument::NoFlush,
     Argument::Progress,
     Argument::Decimals,
     Argument::Dates,
@@ -71,6 +74,7 @@ pub fn merge_call<'w>(alloc: Global, given: &ArgMatches<'w>) -> Result<MergeCall
         from: given.get_one::<u64>("from").unwrap_or(1).max(1),
         count: given.get_one::<u64>("count").unwrap_or(u64::MAX),
         dry_run: given.get_flag("dry-run"),
+        is_flushed: !given.get_flag("no-flush"),
         progress: given.get_flag("progress"),
     })
 }

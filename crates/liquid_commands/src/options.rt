@@ -157,6 +157,15 @@ pub(crate) fn dry_run<'a>(alloc: Global) -> Arg<'a> {
     flag(alloc, "dry-run", "Writes no file: prints the name of each")
 }
 
+pub(crate) fn no_flush<'a>(alloc: Global) -> Arg<'a> {
+    flag(
+        alloc,
+        "no-flush",
+        "Doesn't wait until the disk has each file: many times as fast, \
+         but a power cut may take pages",
+    )
+}
+
 pub(crate) fn progress<'a>(alloc: Global) -> Arg<'a> {
     flag(
         alloc,

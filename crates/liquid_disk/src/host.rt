@@ -12,14 +12,36 @@ use std::{fs, io};
 #[derive(Drop)]
 pub struct SystemFiles<'r> {
     rt: &'r HostRuntime,
+    /// Whether what is written is waited for, until the disk has it.
+    is_flushed: bool,
     /// The file that was made last, while it is open.
     made: Option<File>,
 }
 
 impl<'r> SystemFiles<'r> {
-    /// The files of the system, of which none was made yet.
-    pub fn new(rt: &'r HostRuntime) -> SystemFiles<'r> {
-        SystemFiles { rt, made: None }
+    /// The files of the system, of which none was made yet. Without `is_flushed` no flush waits for
+    /// the disk, so that a power cut may take what was written last.
+    pub fn new(rt: &'r HostRuntime, is_flushed: bool) -> SystemFiles<'r> {
+        SystemFiles {
+            rt,
+            is_flushed,
+            made: None,
+        }
+    }
+
+    /// Waits until the disk has what was written into a file, if that is waited for. A system that
+    /// has nothing to wait for is no fault.
+    fn wait_for(&self, file: &File) -> io::Result<()> {
+        if !self.is_flushed {
+            return Ok(());
+        }
+        match file.sync_all() {
+            Err(refused) => match refused.kind() {
+                io::ErrorKind::InvalidInput | io::ErrorKind::Unsupported => Ok(()),
+                _ => Err(refused),
+            },
+            Ok(()) => Ok(()),
+        }
     }
 }
 
@@ -80,7 +102,7 @@ impl FileSystem for SystemFiles<'_> {
     fn flush(&mut self) -> io::Result<FileId> {
         match self.made.take() {
             Some(file) => {
-                file.sync_all()?;
+                self.wait_for(&file)?;
                 Ok(id_of(&file.metadata()?))
             }
             None => Err(io::Error::from(io::ErrorKind::NotFound)),
@@ -100,7 +122,10 @@ impl FileSystem for SystemFiles<'_> {
     }
 
     fn flush_folder(&mut self, folder: &str) -> io::Result<()> {
-        File::open(self.rt, folder)?.sync_all()
+        if !self.is_flushed {
+            return Ok(());
+        }
+        self.wait_for(&File::open(self.rt, folder)?)
     }
 
     fn real_path(&self, alloc: Global, path: &str) -> io::Result<String> {

@@ -16,7 +16,7 @@ pub fn site_pages<'r>(rt: &'r HostRuntime) -> SitePages<'r> {
     };
     PageFiles::new(
         rt.alloc(),
-        SystemFiles::new(rt),
+        SystemFiles::new(rt, true),
         process::id(rt.process()),
         bounds,
     )

@@ -34,10 +34,10 @@ stays None r = tt
 stays (Some f) (Ok x) = tt
 stays (Some f) (Err e) = refl
 
--- a fault that isn't told says nothing
-pub no_fault : {X : Type 0} (o v : Option Files) (r : Result X Error) (x : X) → r ≡ Ok x → IfSome o (λ f. OnErr r (v ≡ Some f))
-no_fault None v r x is = tt
-no_fault (Some f) v r x is = subst (λ s. OnErr s (v ≡ Some f)) (sym is) tt
+-- nothing is said where there is no fault
+pub nothing : (o : Option Files) → IfSome o (λ f. ⊤)
+nothing None = tt
+nothing (Some f) = tt
 
 pub already : (o : Option Files) (path given text : Text) (b : Bool) → given ≡ path → IfSome o (λ f. b ≡ is_held (f given) text) → b ≡ true → IfSome o (λ f. o ≡ Some (with_file f path (holds text)))
 already None path given text b is h k = tt
@@ -59,6 +59,10 @@ pub put_kept : {X : Type 0} (o v : Option Files) (path text : Text) (r : Result 
 put_kept None v path text r why s is put = tt
 put_kept (Some f) v path text r why (Ok x) is put = tt
 put_kept (Some f) v path text r why (Err e) is put = subst (λ a. IsPut path text f a v) is put
+
+pub put_same : (o v : Option Files) (path text : Text) (r : Result (Unit {0}) DiskFault) (why : DiskFault) → r ≡ Err why → IfSome o (λ f. IsPut path text f r v) → IfSome o (λ f. v ≡ Some f)
+put_same None v path text r why is put = tt
+put_same (Some f) v path text r why is put = subst (λ a. IsPut path text f a v) is put
 
 -- it holds the text where the disk takes it
 pub put_there : (o v : Option Files) (path given text : Text) (r : Result (Unit {0}) DiskFault) (u : Unit {0}) → given ≡ path → r ≡ Ok u → IfSome o (λ f. IsPut given text f r v) → IfSome o (λ f. v ≡ Some (with_file f path (holds text)))
