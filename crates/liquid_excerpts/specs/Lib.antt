@@ -1,6 +1,7 @@
 -- What the public contracts of this crate cite.
 pub mod Faults
 pub mod Lines
+pub mod Names
 pub mod Paths
 pub mod Reasons
 pub mod SystemWords

@@ -4,12 +4,14 @@
 
 mod excerpt;
 mod shown_fault;
+mod shown_name;
 mod shown_path;
 mod system;
 mod unreadable;
 
 pub use excerpt::Excerpt;
 pub use shown_fault::ShownFault;
+pub use shown_name::ShownName;
 pub use shown_path::ShownPath;
-pub use system::{reason_words, system_words};
+pub use system::{reason_words, system_words, unwritten_words};
 pub use unreadable::Reason;
