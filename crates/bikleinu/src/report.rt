@@ -1,11 +1,11 @@
 //! What is printed of a record that has no page.
 ghost use Rattle.std.specs.Prelude.{◌≡◌};
-ghost use Rattle.bikleinu.specs.Reports.{ends_merge};
+ghost use Rattle.bikleinu.specs.Reports.{ends_merge, is_forbidden};
 
 use liquid_command_files::{Sources, print_excerpt};
 use liquid_core::Error;
-use liquid_disk::is_disk_full;
-use liquid_excerpts::{ShownFault, system_words};
+use liquid_disk::refuses_every_file;
+use liquid_excerpts::{ShownFault, unwritten_words};
 use liquid_records::{Failure, Why};
 use liquid_row_records::{RecordFault, RowFault};
 use std::{fmt, io};
@@ -46,14 +46,24 @@ impl From<RecordFault> for Report {
 }
 
 impl Report {
-    /// Whether no further page can be written: the disk that refused this one is full.
+    /// Whether no further page can be written: the disk that refused this one refuses every file.
     pub fn ends_merge(&self) -> bool
         ensures { result ≡ ends_merge self.now }
     {
         match self {
-            Report::NoFile(Failure::Unwritten(_), Some(kind)) => is_disk_full(*kind),
+            Report::NoFile(Failure::Unwritten(_), Some(kind)) => refuses_every_file(*kind),
             _ => false,
         }
+    }
+
+    /// Whether its file was refused for want of permission.
+    pub fn is_forbidden(&self) -> bool
+        ensures { result ≡ is_forbidden self.now }
+    {
+        matches!(
+            self,
+            Report::NoFile(Failure::Unwritten(_), Some(io::ErrorKind::PermissionDenied))
+        )
     }
 
     /// Prints it in one line on standard error, and the line of the text that a fault is in. What
@@ -83,7 +93,7 @@ impl fmt::Display for Report {
             }
             Report::NoFile(failure, reason) => match (failure, reason) {
                 (Failure::Unwritten(_), Some(kind)) => {
-                    let words = system_words(*kind);
+                    let words = unwritten_words(*kind);
                     write!(f, "{failure}: {words}")
                 }
                 _ => write!(f, "{failure}"),

@@ -7,6 +7,6 @@ mod put;
 mod system;
 
 pub use disk::{Disk, DiskFault};
-pub use full::is_disk_full;
+pub use full::refuses_every_file;
 pub use put::{put_file, put_whole, replace_file};
 pub use system::{FileSystem, SystemFiles};
