@@ -143,6 +143,10 @@ uint32_t bikleinu_render(bikleinu_handle *template_, bikleinu_handle *data, bikl
 
 enum { BIKLEINU_LEVELS = 400, BIKLEINU_LEVEL_STACK = 3008, BIKLEINU_REST_STACK = 139264 };
 
+/* A call that runs no page takes at most so many bytes of stack, whatever it is given (as measured, bikleinu_paths up to 136,000, and
+ * bikleinu_parse, bikleinu_data, bikleinu_complete and the others less). That is more than a thread of 128 KiB has. */
+enum { BIKLEINU_CALL_STACK = 196608 };
+
 /* What a caller allows a run. A number that is 0 stands for what is usual: so many levels, and any number of bytes and turns. */
 typedef struct {
     uint32_t levels; /* how many levels it may reach: fewer on a smaller stack, and more on a larger one */

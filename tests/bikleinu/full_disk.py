@@ -1,5 +1,5 @@
-"""Merges where files can't grow, and onto a disk that is full: a page that doesn't fit leaves no part. Each record whose file would be
-too large is reported, a full disk ends the merge by one line, and `--from` goes on."""
+"""Merges where files can't grow, onto a disk that is full, and onto one that can only be read: a page that doesn't fit leaves no part. Each
+record whose file would be too large is reported, a full disk and a read-only one end the merge by one line, and `--from` goes on."""
 import os
 import resource
 import subprocess
@@ -46,6 +46,29 @@ def filled(program):
         printed, status = merged(program, room, "--from", "2")
         wanted = {str(n): str(n) for n in range(1, 5)}
         return None if status == 0 and pages_in(room) == wanted else f"gone on with: status {status}, and it prints {printed}"
+
+
+# mounts a disk that can only be read, for the call that follows alone
+READ_ONLY = ("unshare", "-rm", "sh", "-c", "mount -t tmpfs -o ro none mails || exit 77; exec \"$@\"", "sh")
+
+
+def read_only(program):
+    """What went wrong of a merge onto a disk that can only be read, or None. Where none can be mounted, that is said, and nothing tried."""
+    with tempfile.TemporaryDirectory() as room:
+        with open(f"{room}/t", "w", encoding="utf-8") as file:
+            file.write("{{ id }}")
+        with open(f"{room}/r", "w", encoding="utf-8") as file:
+            file.writelines(f'{{"id": {n}}}\n' for n in range(1, 5))
+        os.mkdir(f"{room}/mails")
+        try:
+            done = subprocess.run([*READ_ONLY, program, *MERGE], cwd=room, stdin=subprocess.DEVNULL, capture_output=True, text=True)
+        except FileNotFoundError:
+            done = None
+        if done is None or done.returncode == 77 or done.stderr.startswith("unshare: "):
+            print("bikleinu: no read-only disk can be mounted on this machine, so a merge onto one isn't tried")
+            return None
+        wanted = "error: record 1: the file `mails/1` can't be written: Read-only file system\n"
+        return None if (done.returncode, done.stderr) == (1, wanted) else f"status {done.returncode}, and it prints {done.stderr}"
 
 
 def merged(program, room, *words, **how):

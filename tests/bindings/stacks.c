@@ -1,8 +1,9 @@
 /* Runs templates in threads of small and large stacks, each at the most levels that the header says its stack holds: blocks of one
  * kind round a tag that runs a partial of the same blocks, which runs itself, with work at each level that takes stack too. Such a run
  * has to end by the depth, and one with one more partial must be refused before it begins; so must the deepest that numbers can say.
- * With an argument it measures instead: how many bytes of stack a level takes for each kind of block and tag, and how many the rest.
- * A line tells each thing that isn't well, and the last one "runs: N". */
+ * Each other call is made in a thread of just the stack that the header says it takes, with the deepest source or data that it takes.
+ * With an argument it measures instead: how many bytes of stack a level takes for each kind of block and tag, and how many the rest,
+ * and how many each other call takes. A line tells each thing that isn't well, and the last one "runs: N". */
 #define _GNU_SOURCE
 #include <pthread.h>
 #include <stdio.h>
@@ -11,7 +12,7 @@
 
 #include "bikleinu.h"
 
-enum { BLOCKS = 9, LISTS = 127, MOST = 1 << 16 };
+enum { BLOCKS = 9, LISTS = 127, NESTED = 200, MOST = 1 << 16 };
 
 static const char *const kinds[][2] = {
     {"{% if true %}", "{% endif %}"},
@@ -82,35 +83,39 @@ static void *render(void *given) {
     return NULL;
 }
 
-static void in_thread(run *it, void *stack, size_t size) {
+static void in_thread(void *(*call)(void *), void *given, void *stack, size_t size) {
     pthread_t thread;
     pthread_attr_t how;
     pthread_attr_init(&how);
     if (stack ? pthread_attr_setstack(&how, stack, size) : pthread_attr_setstacksize(&how, size)) abort();
-    if (pthread_create(&thread, &how, render, it) || pthread_join(thread, NULL)) abort();
+    if (pthread_create(&thread, &how, call, given) || pthread_join(thread, NULL)) abort();
     pthread_attr_destroy(&how);
     runs++;
 }
 
 static void wants(run it, size_t size, uint32_t answer) {
-    in_thread(&it, NULL, size);
+    in_thread(render, &it, NULL, size);
     if (it.answer == answer) return;
     wrong++;
     printf("%s %s, depth %u, levels %u, stack %zu: %u, and %u is wanted\n", it.open, it.call, (unsigned)it.depth, (unsigned)it.levels, size, (unsigned)it.answer, (unsigned)answer);
 }
 
-/* How much of a stack that was filled with a mark has another byte now. */
-static size_t used(const run *asked) {
+/* How much of a stack that was filled with a mark has another byte after a call. */
+static size_t used_by(void *(*call)(void *), void *given) {
     static const size_t size = 64 << 20;
-    run it = *asked;
     uint8_t *stack = aligned_alloc(4096, size);
     if (!stack) abort();
     memset(stack, 0xA5, size);
-    in_thread(&it, stack, size);
+    in_thread(call, given, stack, size);
     size_t clean = 0;
     while (clean < size && stack[clean] == 0xA5) clean++;
     free(stack);
     return size - clean;
+}
+
+static size_t used(const run *asked) {
+    run it = *asked;
+    return used_by(render, &it);
 }
 
 static void measure(run it) {
@@ -125,6 +130,92 @@ static void measure(run it) {
     size_t level = (many - used(&it)) / 100;
     it.depth = 0;
     printf("%-34s %-46s a partial %5zu, a block %5zu, the rest %6zu\n", it.open, it.call, call, (level - call) / BLOCKS, used(&it));
+}
+
+/* ---- the calls that run no page */
+
+/* What they are made with: the deepest that they take, and what they make. */
+static bikleinu_handle language = BIKLEINU_NONE, template_ = BIKLEINU_NONE, partials = BIKLEINU_NONE, paths = BIKLEINU_NONE, data = BIKLEINU_NONE;
+static bikleinu_handle answers = BIKLEINU_NONE, lacking = BIKLEINU_NONE, answer = BIKLEINU_NONE, made = BIKLEINU_NONE;
+static char source[MOST], json[MOST], text[MOST];
+
+static void write_times(char *into, const char *piece, size_t times) {
+    for (into += strlen(into); times; times--) into += strlen(strcpy(into, piece));
+}
+
+/* The most blocks round a value of the most brackets, members of members as deep as maps may be, and a call of a caller's filter. */
+static void write_deepest_source(void) {
+    *source = 0;
+    write_times(source, "{% if true %}", NESTED);
+    write_times(source, "{{ d | f: m }}{{ m", 1), write_times(source, ".m", LISTS - 1), write_times(source, " }}{{ d", 1);
+    write_times(source, "[d", NESTED), write_times(source, "]", NESTED), write_times(source, " }}{% include 'p' %}", 1);
+    write_times(source, "{% endif %}", NESTED);
+}
+
+/* Lists and maps in one another, as deep as they may be, under the name that an answer has too. */
+static void write_deepest_data(void) {
+    *json = 0;
+    write_times(json, "{\"d\":", 1), write_times(json, "[", LISTS - 1), write_times(json, "]", LISTS - 1);
+    write_times(json, ",\"answer\":", 1), write_times(json, "[", LISTS - 1), write_times(json, "]", LISTS - 1);
+    write_times(json, ",\"m\":", 1), write_times(json, "{\"m\":", LISTS - 2), write_times(json, "{}", 1), write_times(json, "}", LISTS - 1);
+}
+
+static uint32_t parses(void) { return bikleinu_parse(&language, bytes(source), strlen(source), &made); }
+static uint32_t reads_names(void) { return bikleinu_names(&template_, &partials, &made); }
+static uint32_t finds_paths(void) { return bikleinu_paths(&template_, &partials, &made); }
+static uint32_t reads_data(void) { return bikleinu_data(bytes(json), strlen(json), &made); }
+static uint32_t reads_data_for(void) { return bikleinu_data_for(bytes(json), strlen(json), &paths, &made); }
+static uint32_t completes(void) { return bikleinu_complete(&data, &paths, &made); }
+static uint32_t answers_call(void) { return bikleinu_answer(&answers, &lacking, 0, &answer); }
+static uint32_t shares(void) { return bikleinu_share(&data, &made); }
+static uint32_t copies(void) {
+    size_t length = bikleinu_length(&lacking, BIKLEINU_TEXT);
+    return length == 0 || length > sizeof text || bikleinu_copy(&lacking, BIKLEINU_TEXT, (uint8_t *)text, sizeof text) != length;
+}
+
+static const struct {
+    const char *name;
+    uint32_t (*call)(void);
+} others[] = {
+    {"bikleinu_parse", parses}, {"bikleinu_names", reads_names}, {"bikleinu_paths", finds_paths}, {"bikleinu_data", reads_data},
+    {"bikleinu_data_for", reads_data_for}, {"bikleinu_complete", completes}, {"bikleinu_answer", answers_call},
+    {"bikleinu_share", shares}, {"bikleinu_copy", copies}};
+
+/* Makes one of them, and frees what it makes. */
+static void *call_other(void *given) {
+    size_t number = *(size_t *)given;
+    if (others[number].call() != BIKLEINU_DONE) {
+        wrong++;
+        printf("%s doesn't end as it has to\n", others[number].name);
+    }
+    bikleinu_free(&made);
+    return NULL;
+}
+
+static void make_deepest(void) {
+    bikleinu_handle partial = BIKLEINU_NONE;
+    write_deepest_source(), write_deepest_data();
+    need(bikleinu_language(&language));
+    need(bikleinu_register(&language, bytes("f"), 1, 1, 1));
+    need(bikleinu_parse(&language, bytes(source), strlen(source), &template_));
+    need(bikleinu_parse(&language, bytes(source), strlen(source), &partial));
+    need(bikleinu_partials(&partials));
+    need(bikleinu_insert(&partials, bytes("p"), 1, &partial));
+    need(bikleinu_paths(&template_, &partials, &paths));
+    need(bikleinu_data(bytes(json), strlen(json), &data));
+    need(bikleinu_data(bytes(json), strlen(json), &answer));
+    need(bikleinu_answers(&answers));
+    need(bikleinu_answers_filter(&answers, bytes("f"), 1));
+    bikleinu_limits limits = {.levels = UINT32_MAX};
+    if (bikleinu_render_with(&template_, &data, &partials, 0, &limits, &answers, &lacking) != BIKLEINU_LACKING) abort();
+}
+
+static void try_others(bool measures) {
+    make_deepest();
+    for (size_t number = 0; number < sizeof others / sizeof *others; number++) {
+        if (measures) printf("%-34s %6zu\n", others[number].name, used_by(call_other, &number));
+        else in_thread(call_other, &number, NULL, BIKLEINU_CALL_STACK);
+    }
 }
 
 int main(int count, char **words) {
@@ -151,6 +242,7 @@ int main(int count, char **words) {
             it.depth++, wants(it, 1 << 20, BIKLEINU_TOO_MANY_LEVELS);
         }
     }
+    try_others(count > 1);
     printf("runs: %zu\n", runs);
     return wrong != 0;
 }

@@ -1,12 +1,29 @@
 -- What is printed of a record that has no page.
---     ends_merge report      no further page can be written, since the disk is full
-use Rattle.std.specs.Prelude.{Bool, false}
-use Rattle.liquid_disk.specs.Full.{is_disk_full}
+--     ends_merge report      no further page can be written, since the disk refuses every file
+--     is_forbidden report      its file was refused for want of permission
+--     in_a_row n b      how many in a row there are with the one after n of them, which is one
+--                       of them or not
+--     ends_the_row n      so many in a row, that the merge ends
+use Rattle.std.specs.Prelude.{ℕ, ◌+◌, Bool, true, false, min, nat_le}
+use Rattle.std.specs.declared.io.ErrorKind.TheVariants.{PermissionDenied}
+use Rattle.liquid_disk.specs.Full.{refuses_every_file}
 use Rattle.liquid_disk.specs.declared.disk.DiskFault.TheVariants.{Refused}
 use Rattle.liquid_records.specs.declared.merge.Failure.TheVariants.{Unwritten}
 use Rattle.bikleinu.specs.declared.report.Report.{Report}
 use Rattle.bikleinu.specs.declared.report.Report.TheVariants.{NoFile}
 
 abbrev pub ends_merge : Report → Bool
-ends_merge (NoFile (Unwritten name (Refused kind))) = is_disk_full kind
+ends_merge (NoFile (Unwritten name (Refused kind))) = refuses_every_file kind
 ends_merge _ = false
+
+abbrev pub is_forbidden : Report → Bool
+is_forbidden (NoFile (Unwritten name (Refused PermissionDenied))) = true
+is_forbidden _ = false
+
+abbrev pub in_a_row : ℕ → Bool → ℕ
+in_a_row n true = min (n + 1) 18446744073709551615
+in_a_row n false = 0
+
+-- ten of them
+abbrev pub ends_the_row : ℕ → Bool
+ends_the_row n = nat_le 10 n

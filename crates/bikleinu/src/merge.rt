@@ -14,7 +14,8 @@ use std::io::Read;
 use std::{fs, io};
 
 /// Writes the page of each record. A record's fault is printed, and stops no other: the merge ends
-/// where the disk is full, or where the records or standard output fail.
+/// where the disk takes no more files, where ten in a row are refused for want of permission, or
+/// where the records or standard output fail.
 pub fn merge(rt: &HostRuntime, call: &MergeCall<'_>) -> Result<(), Stop> {
     let (sources, job) = read_parts(rt, &call.inputs)?.into_job();
     let mut target = target_of(rt, call, &sources, job)?;
@@ -82,7 +83,25 @@ impl Run<'_> {
             self.one(target, records, &mut progress)?;
         }
         target.finish(self.rt.alloc())?;
+        self.check_begun(records.number())?;
         progress.end(self.rt)
+    }
+
+    /// Refuses a `--from` past the last record, which is printed. Without one there may be no
+    /// records at all.
+    fn check_begun(&self, last: u64) -> Result<(), Stop> {
+        let from = self.call.from;
+        if from <= last.max(1) {
+            return Ok(());
+        }
+        let path = ShownPath {
+            path: called(self.call.records),
+        };
+        let _ = match last {
+            0 => eprintln!(self.rt; "error: {path}: --from {from}: there are no records"),
+            _ => eprintln!(self.rt; "error: {path}: --from {from}: the last record is {last}"),
+        };
+        Err(Stop::Faulted)
     }
 
     /// The records that a reader gives. A fault of their head is printed.
@@ -120,7 +139,7 @@ impl Run<'_> {
         Ok(false)
     }
 
-    /// Merges one record. A disk that is full ends the merge, and that is printed.
+    /// Merges one record. What ends the merge is printed.
     fn one<R: Read + Drop>(
         &self,
         target: &mut Target<'_>,
@@ -136,7 +155,13 @@ impl Run<'_> {
         if report.ends_merge() {
             return Err(Stop::Faulted);
         }
-        progress.failed(self.rt);
+        progress.failed(self.rt, report.is_forbidden());
+        if progress.is_forbidden() {
+            let _ = eprintln!(self.rt;
+                "error: ten files in a row can't be written; the merge ends"
+            );
+            return Err(Stop::Faulted);
+        }
         Ok(())
     }
 

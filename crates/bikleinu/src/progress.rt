@@ -1,15 +1,21 @@
 //! How far a merge is.
 ghost use Rattle.std.specs.Prelude.{◌≡◌, ◌+◌, ◌<◌, min, IfErr, IfOk};
+ghost use Rattle.bikleinu.specs.Reports.{ends_the_row, in_a_row};
 ghost use Rattle.liquid_command_files.specs.declared.stop.Stop.TheVariants.{Faulted};
 
 use liquid_command_files::Stop;
 use std::time::Instant;
+
+/// The most records in a row whose files are refused for want of permission.
+const MOST_FORBIDDEN: u64 = 10;
 
 /// How many pages there are, and how many records failed.
 #[derive(Drop)]
 pub struct Progress {
     pages: u64,
     failed: u64,
+    /// How many of the last records failed, one after another, for want of permission.
+    forbidden: u64,
     /// When the merge began, where each second is to be printed; and the last second that was.
     began: Option<Instant>,
     last_printed: u64,
@@ -21,6 +27,7 @@ impl Progress {
     pub fn new(rt: &HostRuntime, is_shown: bool) -> Progress
         ensures pages { result.pages ≡ 0 }
         ensures failed { result.failed ≡ 0 }
+        ensures forbidden { result.forbidden ≡ 0 }
     {
         let began = if is_shown {
             Instant::now(rt).ok()
@@ -30,6 +37,7 @@ impl Progress {
         Progress {
             pages: 0,
             failed: 0,
+            forbidden: 0,
             began,
             last_printed: 0,
         }
@@ -39,24 +47,41 @@ impl Progress {
     pub fn done(&mut self, rt: &HostRuntime)
         ensures pages { self.new.pages ≡ min (self.old.pages + 1) 18446744073709551615 }
         ensures failed { self.new.failed ≡ self.old.failed }
+        ensures forbidden { self.new.forbidden ≡ 0 }
     {
         self.pages = self.pages.saturating_add(1);
+        self.forbidden = 0;
         self.print(rt);
     }
 
-    /// Counts a record that failed.
-    pub fn failed(&mut self, rt: &HostRuntime)
+    /// Counts a record that failed, maybe for want of permission.
+    pub fn failed(&mut self, rt: &HostRuntime, is_forbidden: bool)
         ensures pages { self.new.pages ≡ self.old.pages }
         ensures failed { self.new.failed ≡ min (self.old.failed + 1) 18446744073709551615 }
+        ensures forbidden { self.new.forbidden ≡ in_a_row self.old.forbidden is_forbidden }
     {
         self.failed = self.failed.saturating_add(1);
+        self.forbidden = if is_forbidden {
+            self.forbidden.saturating_add(1)
+        } else {
+            0
+        };
         self.print(rt);
+    }
+
+    /// Whether so many records failed for want of permission, one after another, that no other is
+    /// to be tried.
+    pub fn is_forbidden(&self) -> bool
+        ensures { result ≡ ends_the_row self.now.forbidden }
+    {
+        self.forbidden >= MOST_FORBIDDEN
     }
 
     /// Prints the pages so far, once a second. What standard error refuses is lost.
     fn print(&mut self, rt: &HostRuntime)
         ensures pages { self.new.pages ≡ self.old.pages }
         ensures failed { self.new.failed ≡ self.old.failed }
+        ensures forbidden { self.new.forbidden ≡ self.old.forbidden }
     {
         let Some(began) = &self.began else {
             return;

@@ -1,11 +1,11 @@
 //! What is printed of a record that has no page.
 ghost use Rattle.std.specs.Prelude.{◌≡◌};
-ghost use Rattle.bikleinu.specs.Reports.{ends_merge};
+ghost use Rattle.bikleinu.specs.Reports.{ends_merge, is_forbidden};
 
 use liquid_command_files::{Sources, print_excerpt};
 use liquid_core::Error;
-use liquid_disk::{DiskFault, is_disk_full};
-use liquid_excerpts::{ShownFault, system_words};
+use liquid_disk::{DiskFault, refuses_every_file};
+use liquid_excerpts::{ShownFault, system_words, unwritten_words};
 use liquid_records::{Failure, Why};
 use liquid_row_records::{RecordFault, RowFault};
 use std::{fmt, io};
@@ -46,16 +46,29 @@ impl From<RecordFault> for Report {
 }
 
 impl Report {
-    /// Whether no further page can be written: the disk that refused this one is full.
+    /// Whether no further page can be written: the disk that refused this one refuses every file.
     pub fn ends_merge(&self) -> bool
         ensures { result ≡ ends_merge self.now }
     {
         match self {
             Report::NoFile(Failure::Unwritten(_, DiskFault::Refused(kind))) => {
-                is_disk_full(*kind)
+                refuses_every_file(*kind)
             }
             _ => false,
         }
+    }
+
+    /// Whether its file was refused for want of permission.
+    pub fn is_forbidden(&self) -> bool
+        ensures { result ≡ is_forbidden self.now }
+    {
+        matches!(
+            self,
+            Report::NoFile(Failure::Unwritten(
+                _,
+                DiskFault::Refused(io::ErrorKind::PermissionDenied)
+            ))
+        )
     }
 
     /// Prints it in one line on standard error, and the line of the text that a fault is in. What
@@ -85,7 +98,7 @@ impl fmt::Display for Report {
             }
             Report::NoFile(failure) => match failure {
                 Failure::Unwritten(_, DiskFault::Refused(kind)) => {
-                    let words = system_words(*kind);
+                    let words = unwritten_words(*kind);
                     write!(f, "{failure}: {words}")
                 }
                 Failure::Unwritten(_, DiskFault::Memory) => {

@@ -5,6 +5,7 @@ use crate::files::{Nowhere, SystemPages};
 use crate::report::Report;
 use liquid_command_files::{Stop, print_text};
 use liquid_core::Result as Answer;
+use liquid_excerpts::ShownName;
 use liquid_records::{Disk, Fate, Job, Made, Merge, RecordResult};
 use liquid_row_records::RecordData;
 use std::alloc::Global;
@@ -123,12 +124,14 @@ fn file_outcome(fate: Answer<Fate>) -> RecordOutcome {
     }
 }
 
-/// A record whose file's name is printed.
+/// A record whose file's name is printed: in a line, and no two names alike.
 fn print_name(rt: &HostRuntime, fate: Answer<Fate>) -> Result<RecordOutcome, Stop> {
     match fate {
         Ok(Ok(name)) => {
-            print_text(rt, name.as_str())?;
-            print_text(rt, "\n")?;
+            let name = ShownName {
+                name: name.as_str(),
+            };
+            print_text(rt, format!(in rt.alloc(); "{name}\n")?.as_str())?;
             Ok(Ok(()))
         }
         Ok(Err(failure)) => Ok(Err(Report::NoFile(failure))),

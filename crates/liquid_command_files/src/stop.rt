@@ -5,7 +5,7 @@ ghost use Rattle.liquid_command_files.specs.Stops.{IsNotWritten, RanOutOfMemory,
 ghost use Rattle.liquid_command_files.specs.declared.stop.Stop.TheVariants.{Fault};
 
 use liquid_commands::{Gap, WordFault};
-use liquid_excerpts::{Reason, ShownFault, ShownPath, reason_words, system_words};
+use liquid_excerpts::{Reason, ShownFault, ShownPath, reason_words, system_words, unwritten_words};
 use liquid_model::Error;
 use std::alloc::{AllocError, AllocFailed, Global};
 use std::{fmt, io};
@@ -173,7 +173,7 @@ fn write_unwritten<W: fmt::Write>(
     kind: io::ErrorKind,
 ) -> fmt::Result {
     let path = shown(path);
-    let words = system_words(kind);
+    let words = unwritten_words(kind);
     write!(f, "{path}: it can't be written: {words}")
 }
 

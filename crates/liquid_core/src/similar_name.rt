@@ -27,20 +27,49 @@ pub fn more_similar<'n>(
     meant: &str,
     similar: Option<SimilarName<'n>>,
 ) -> Result<Option<SimilarName<'n>>, AllocError> {
-    if meant.len() > LONGEST || name.len().abs_diff(meant.len()) > MOST_EDITS {
+    let most = most_edits(meant, similar);
+    if meant.is_empty() || meant.len() > LONGEST || name.len().abs_diff(meant.len()) > most {
         return Ok(similar);
     }
-    let edits = if name.eq_ignore_ascii_case(meant) {
-        0
-    } else {
-        generic_damerau_levenshtein(alloc, name.as_bytes(), meant.as_bytes())?
-    };
+    if name.eq_ignore_ascii_case(meant) {
+        return Ok(Some(SimilarName { name, edits: 0 }));
+    }
+    if have_other_letters(name, meant, most) {
+        return Ok(similar);
+    }
+    let edits = generic_damerau_levenshtein(alloc, name.as_bytes(), meant.as_bytes())?;
+    if edits > most {
+        return Ok(similar);
+    }
+    Ok(Some(SimilarName { name, edits }))
+}
+
+/// The most edits between `meant` and a name that is more similar to it than the one that was found
+/// before: fewer than its bytes, or any name would be similar to it.
+fn most_edits(meant: &str, similar: Option<SimilarName<'_>>) -> usize {
     let most = match similar {
         Some(similar) => similar.edits.saturating_sub(1),
         None => MOST_EDITS,
     };
-    if edits > most || edits >= meant.len() {
-        return Ok(similar);
+    most.min(meant.len().saturating_sub(1))
+}
+
+/// Whether the letters of two names alone show that more edits than these lie between them: an edit
+/// brings at most one letter that wasn't there, and takes at most one away. This costs a small part
+/// of what counting the edits does, and few pairs of names pass it.
+fn have_other_letters(name: &str, meant: &str, most: usize) -> bool {
+    let name = letters_of(name);
+    let meant = letters_of(meant);
+    let brought = (name & !meant).count_ones() as usize;
+    let taken = (meant & !name).count_ones() as usize;
+    brought > most || taken > most
+}
+
+/// Which bytes a name has: a bit for each, by its last seven bits.
+fn letters_of(name: &str) -> u128 {
+    let mut letters = 0_u128;
+    for letter in name.as_bytes() {
+        letters |= 1_u128.wrapping_shl(u32::from(*letter));
     }
-    Ok(Some(SimilarName { name, edits }))
+    letters
 }

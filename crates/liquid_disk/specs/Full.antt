@@ -1,10 +1,13 @@
--- A disk that is full.
---     is_disk_full kind      the disk, or the user's share of it, has no room for a write
+-- A disk that takes no more files.
+--     refuses_every_file kind      the disk, or the user's share of it, has no room for a write, or
+--                                  the disk can only be read
 use Rattle.std.specs.Prelude.{Bool, true, false}
 use Rattle.std.specs.declared.io.ErrorKind.{ErrorKind}
 use Rattle.std.specs.declared.io.ErrorKind.TheVariants.{StorageFull, QuotaExceeded}
+use Rattle.std.specs.declared.io.ErrorKind.TheVariants.{ReadOnlyFilesystem}
 
-abbrev pub is_disk_full : ErrorKind → Bool
-is_disk_full StorageFull = true
-is_disk_full QuotaExceeded = true
-is_disk_full _ = false
+abbrev pub refuses_every_file : ErrorKind → Bool
+refuses_every_file StorageFull = true
+refuses_every_file QuotaExceeded = true
+refuses_every_file ReadOnlyFilesystem = true
+refuses_every_file _ = false

@@ -13,7 +13,7 @@ mod put;
 mod system;
 
 pub use disk::{Disk, DiskFault, Protected};
-pub use full::is_disk_full;
+pub use full::refuses_every_file;
 pub use host::SystemFiles;
 pub use names::hidden_names;
 pub use page_files::{Bounds, PageFiles};

@@ -2,6 +2,7 @@
 pub mod Entries
 pub mod Faults
 pub mod Lines
+pub mod Names
 pub mod Paths
 pub mod Reasons
 pub mod SystemWords

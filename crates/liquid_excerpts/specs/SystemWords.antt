@@ -1,12 +1,13 @@
 -- What is said of a file that can't be read or written.
 --     system_words kind      what the system says of a call that fails, as other tools write it;
 --                         of memory that ran out what is said of it in a fault
+--     unwritten_words kind      what is said of a file that can't be written
 --     reason_words reason      the same of why a file has no text; none where its bytes are no text
 use Rattle.std.specs.Prelude.{Option, Some, None, codes}
 use Rattle.liquid_model.specs.Texts.{Text}
 use Rattle.std.specs.declared.io.ErrorKind.{ErrorKind}
 use Rattle.std.specs.declared.io.ErrorKind.TheVariants.{NotFound, PermissionDenied}
-use Rattle.std.specs.declared.io.ErrorKind.TheVariants.{BrokenPipe, NotADirectory}
+use Rattle.std.specs.declared.io.ErrorKind.TheVariants.{AlreadyExists, BrokenPipe, NotADirectory}
 use Rattle.std.specs.declared.io.ErrorKind.TheVariants.{IsADirectory, ReadOnlyFilesystem}
 use Rattle.std.specs.declared.io.ErrorKind.TheVariants.{FilesystemLoop, StorageFull}
 use Rattle.std.specs.declared.io.ErrorKind.TheVariants.{QuotaExceeded, FileTooLarge}
@@ -19,6 +20,7 @@ use Rattle.liquid_excerpts.specs.declared.unreadable.Reason.TheVariants.{NoRight
 abbrev pub system_words : ErrorKind → Text
 system_words NotFound = codes "No such file or directory"
 system_words PermissionDenied = codes "Permission denied"
+system_words AlreadyExists = codes "File exists"
 system_words IsADirectory = codes "Is a directory"
 system_words NotADirectory = codes "Not a directory"
 system_words StorageFull = codes "No space left on device"
@@ -32,6 +34,11 @@ system_words ExecutableFileBusy = codes "Text file busy"
 system_words BrokenPipe = codes "Broken pipe"
 system_words OutOfMemory = codes "out of memory"
 system_words _ = codes "Input/output error"
+
+-- a file that is written needn't be there, so what the system misses is its folder
+abbrev pub unwritten_words : ErrorKind → Text
+unwritten_words NotFound = codes "its folder isn't there"
+unwritten_words kind = system_words kind
 
 abbrev pub reason_words : Reason → Option Text
 reason_words Missing = Some (codes "No such file or directory")

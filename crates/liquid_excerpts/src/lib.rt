@@ -6,6 +6,7 @@ mod entry;
 mod excerpt;
 mod left_out;
 mod shown_fault;
+mod shown_name;
 mod shown_path;
 mod system;
 mod unreadable;
@@ -17,6 +18,7 @@ pub use entry::{
 pub use excerpt::Excerpt;
 pub use left_out::{LeftOut, LeftOutLine};
 pub use shown_fault::ShownFault;
+pub use shown_name::ShownName;
 pub use shown_path::ShownPath;
-pub use system::{reason_words, system_words};
+pub use system::{reason_words, system_words, unwritten_words};
 pub use unreadable::Reason;

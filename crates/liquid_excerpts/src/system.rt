@@ -1,6 +1,6 @@
 //! What is wrong with a file, in the words of other tools.
 ghost use Rattle.std.specs.Prelude.{◌≡◌, option_map};
-ghost use Rattle.liquid_excerpts.specs.SystemWords.{reason_words, system_words};
+ghost use Rattle.liquid_excerpts.specs.SystemWords.{reason_words, system_words, unwritten_words};
 
 use crate::unreadable::Reason;
 use std::io;
@@ -14,6 +14,7 @@ pub fn system_words(kind: io::ErrorKind) -> &'static str
     match kind {
         io::ErrorKind::NotFound => "No such file or directory",
         io::ErrorKind::PermissionDenied => "Permission denied",
+        io::ErrorKind::AlreadyExists => "File exists",
         io::ErrorKind::IsADirectory => "Is a directory",
         io::ErrorKind::NotADirectory => "Not a directory",
         io::ErrorKind::StorageFull => "No space left on device",
@@ -27,6 +28,17 @@ pub fn system_words(kind: io::ErrorKind) -> &'static str
         io::ErrorKind::BrokenPipe => "Broken pipe",
         io::ErrorKind::OutOfMemory => "out of memory",
         _ => "Input/output error",
+    }
+}
+
+/// What is said of a file that can't be written: what the system says, but where it misses
+/// something, that this is the folder, since the file needn't be there. It takes no memory.
+pub fn unwritten_words(kind: io::ErrorKind) -> &'static str
+    ensures { result.now ≡ unwritten_words kind }
+{
+    match kind {
+        io::ErrorKind::NotFound => "its folder isn't there",
+        kind => system_words(kind),
     }
 }
 

@@ -90,3 +90,33 @@ fn file_with_suffix(
         None => Ok(None),
     }
 }
+
+/// Whether a tag runs the file, for each; none where a tag may run any of them.
+pub(crate) fn used_files(
+    alloc: Global,
+    calls: &[Vec<Call<'_>>],
+) -> Result<Option<Vec<bool>>, AllocError> {
+    let mut used = Vec::new(alloc);
+    used.resize(calls.len(), false)?;
+    for of_file in calls {
+        if !mark_used(of_file, &mut used) {
+            return Ok(None);
+        }
+    }
+    Ok(Some(used))
+}
+
+/// Marks the files that tags run. Whether the name of each is known.
+fn mark_used(calls: &[Call<'_>], used: &mut [bool]) -> bool {
+    for call in calls {
+        if call.name.is_none() {
+            return false;
+        }
+        if let Some(place) = call.file {
+            if let Some(file) = used.get_mut(place) {
+                *file = true;
+            }
+        }
+    }
+    true
+}

@@ -17,6 +17,7 @@ mod path_texts;
 mod pieces;
 mod recursion;
 mod remark;
+mod suggestions;
 mod unescaped;
 mod used_path;
 mod warnings;

@@ -5,9 +5,10 @@ ghost use Rattle.liquid_warnings.specs.Remarks.{remark_view, warning};
 ghost use Rattle.liquid_warnings.specs.Sorts.{IsUnknownName, IsUnusedName};
 ghost use Rattle.liquid_warnings.specs.inside.Tellings.{trivial_telling};
 
-use crate::messages::{lack_message, most_similar_key, most_similar_of_set, name_of};
+use crate::messages::lack_message;
 use crate::remark::Remark;
-use liquid_core::{Object, Quoted};
+use crate::suggestions::{KnownNames, Suggestions, suggestion_for};
+use liquid_core::Quoted;
 use liquid_evaluation::{
     NameVisitor, visit_chain, visit_condition, visit_expression, visit_expressions, visit_optional,
     visit_source,
@@ -65,18 +66,17 @@ pub(crate) fn names_of(alloc: Global, template: &Template) -> Result<NamesOf, Al
 /// `UnknownName`: neither the data nor a tag has the name.
 pub(crate) fn unknown_name(
     alloc: Global,
-    data: &Object,
-    set: &BTreeSet<String>,
+    known: KnownNames<'_>,
+    suggestions: &Suggestions,
     name: &str,
     position: Position,
 ) -> Result<Option<Remark>, AllocError>
     ensures { IfOk result (λ r. IfSome r (λ w. IsUnknownName (remark_view w))) }
 {
-    if data.get(name).is_some() || set.contains(name) {
+    if known.has(name) {
         return Ok(None);
     }
-    let similar = most_similar_key(alloc, data, name, None)?;
-    let similar = name_of(most_similar_of_set(alloc, set, name, similar)?);
+    let similar = suggestion_for(suggestions, name);
     let message = lack_message(alloc, "the data has no", name, similar)?;
     Ok(Some(Remark::warning(position, "UnknownName", message)))
 }

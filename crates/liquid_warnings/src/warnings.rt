@@ -58,6 +58,7 @@ pub fn warnings_of(alloc: Global, files: &[CheckedFile<'_>], given: Given<'_>) -
 {
     let whole = Whole::of(alloc, given.partials.unwrap_or(&[]), files)?;
     let mut warnings = Vec::new(alloc);
+    let whole = whole.with_suggestions(alloc, given.data)?;
     for file in files {
         let remarks = file_warnings(alloc, &whole, warnings.len(), file, given)?;
         add_list(&mut warnings, remarks)?;

@@ -7,12 +7,13 @@ ghost use Rattle.liquid_warnings.specs.Sorts.{OnlyWhere};
 ghost use Rattle.liquid_warnings.specs.Warnings.{AreOfNames, AreOfPartials, AreOfWhole};
 ghost use Rattle.liquid_warnings.specs.inside.Added.{AddsRemarks};
 
-use crate::calls::{Call, PartialFiles, calls_of};
+use crate::calls::{Call, PartialFiles, calls_of, used_files};
 use crate::doubts::add_doubts;
 use crate::names::{NamesOf, Places, add_name, names_of, unknown_name, unused_name};
 use crate::partials::{missing_partial, recursive_call, unused_partial};
 use crate::recursion::calls_back;
 use crate::remark::{Remark, push_found};
+use crate::suggestions::{KnownNames, Suggestions, suggestions_for};
 use crate::warnings::{CheckedFile, Given, is_full};
 use liquid_core::{ErrorKind, Object};
 use liquid_syntax::Template;
@@ -34,6 +35,8 @@ pub(crate) struct Whole<'t> {
     /// The names that any of them reads, and those that any of them sets.
     read: BTreeSet<String>,
     set: BTreeSet<String>,
+    /// What is suggested for those that nobody has.
+    suggestions: Suggestions,
 }
 
 impl Drop for Whole<'_> {
@@ -46,6 +49,7 @@ impl Drop for Whole<'_> {
             names: _,
             read: _,
             set: _,
+            suggestions: _,
         } = self;
     }
 }
@@ -66,6 +70,7 @@ impl<'t> Whole<'t> {
             names: Vec::new(alloc),
             read: BTreeSet::new(alloc),
             set: BTreeSet::new(alloc),
+            suggestions: BTreeMap::new(alloc),
         };
         for file in files {
             match file.template {
@@ -76,6 +81,26 @@ impl<'t> Whole<'t> {
         whole.back = calls_back(alloc, &whole.calls)?;
         whole.used = used_files(alloc, &whole.calls)?;
         Ok(whole)
+    }
+
+    /// The same, with what is suggested for the names that neither this data nor a tag has.
+    pub(crate) fn with_suggestions(
+        mut self,
+        alloc: Global,
+        data: Option<&Object>,
+    ) -> Result<Whole<'t>, AllocError> {
+        if let Some(data) = data {
+            self.suggestions = suggestions_for(alloc, &self.read, self.known(data))?;
+        }
+        Ok(self)
+    }
+
+    /// The names that are there, with this data.
+    fn known<'n>(&'n self, data: &'n Object) -> KnownNames<'n> {
+        KnownNames {
+            data,
+            set: &self.set,
+        }
     }
 
     /// Adds a file without a template.
@@ -185,11 +210,12 @@ impl<'t> Whole<'t> {
         ensures { OnOk result
             (AddsRemarks (All IsUnknownName) remarks.old.items remarks.new.items) }
     {
+        let known = self.known(data);
         for (name, position) in read {
             if is_full(remarks) {
                 return Ok(());
             }
-            let unknown = unknown_name(alloc, data, &self.set, name.as_str(), *position)?;
+            let unknown = unknown_name(alloc, known, &self.suggestions, name.as_str(), *position)?;
             push_found(remarks, unknown)?;
         }
         Ok(())
@@ -356,31 +382,4 @@ fn files_by_name(alloc: Global, partials: &[(String, usize)]) -> Result<PartialF
         drop(names.insert(String::from_str(alloc, name.as_str())?, *place)?);
     }
     Ok(names)
-}
-
-/// Whether a tag runs the file, for each; none where a tag may run any of them.
-fn used_files(alloc: Global, calls: &[Vec<Call<'_>>]) -> Result<Option<Vec<bool>>, AllocError> {
-    let mut used = Vec::new(alloc);
-    used.resize(calls.len(), false)?;
-    for of_file in calls {
-        if !mark_used(of_file, &mut used) {
-            return Ok(None);
-        }
-    }
-    Ok(Some(used))
-}
-
-/// Marks the files that tags run. Whether the name of each is known.
-fn mark_used(calls: &[Call<'_>], used: &mut [bool]) -> bool {
-    for call in calls {
-        if call.name.is_none() {
-            return false;
-        }
-        if let Some(place) = call.file {
-            if let Some(file) = used.get_mut(place) {
-                *file = true;
-            }
-        }
-    }
-    true
 }
