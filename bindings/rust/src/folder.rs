@@ -27,7 +27,7 @@ impl Partials {
             let template = language.parse(source).map_err(|fault| of_fault(name, &fault))?;
             partials.insert(name, template).map_err(|fault| of_fault(name, &fault))?;
         }
-        partials.1 = left_out;
+        partials.left_out = left_out;
         Ok(partials)
     }
 
@@ -35,7 +35,7 @@ impl Partials {
     /// byte 0`.
     #[must_use]
     pub fn left_out(&self) -> &[String] {
-        &self.1
+        &self.left_out
     }
 }
 
