@@ -86,6 +86,7 @@ def partial_cases():
         warned("no partial of the name", "t -p p", {"t": "{% include 'xyz' %}{% include 'a' %}", "p/a": ""}, warning("t", 1, 1, "MissingPartial", "no partial is named `xyz`"), 1, 2),
         warned("a render finds a name with .liquid, an include doesn't", "t -p a.liquid=x", {"t": "{% render 'a' %}{% include 'a' %}", "x": ""}, warning("t", 1, 17, "MissingPartial", "no partial is named `a`"), 1, 2),
         warned("an empty folder of partials", "t -p p", {"t": "{% render 'x' %}", "p/": ""}, warning("t", 1, 1, "MissingPartial", "no partial is named `x`"), 1, 1),
+        case("a partial that is left out", "check t -p p --format json", {"t": "{% include 'a.png' %}", "p/a.png": b"\0"}, warning("t", 1, 1, "MissingPartial", "no partial is named `a.png`"), errors=("left out: p/a.png is no text: it has a byte 0", *counted(1, 0, 1))),
         warned("no partials are given", "t", {"t": "{% include 'a' %}"}, "", 0),
         warned("a partial that nothing runs", "t -p p", {"t": "{% render 'a' %}", "p/a": "", "p/b": ""}, warning("p/b", 1, 1, "UnusedPartial", "none of the templates runs this partial"), 1, 3),
         warned("two files of one name", "t -p a=x -p a=y", {"t": "{% render 'a' %}", "x": "", "y": ""}, warning("x", 1, 1, "UnusedPartial", "none of the templates runs this partial"), 1, 3),

@@ -27,7 +27,7 @@ impl Partials {
             let template = language.parse(source).map_err(|fault| of_fault(name, &fault))?;
             partials.insert(name, template).map_err(|fault| of_fault(name, &fault))?;
         }
-        partials.1 = left_out;
+        partials.left_out = left_out;
         Ok(partials)
     }
 
@@ -35,7 +35,7 @@ impl Partials {
     /// byte 0`.
     #[must_use]
     pub fn left_out(&self) -> &[String] {
-        &self.1
+        &self.left_out
     }
 }
 
@@ -52,7 +52,9 @@ impl Found<'_> {
         let mut entries = fs::read_dir(&folder)?.collect::<io::Result<Vec<_>>>()?;
         entries.sort_by_key(DirEntry::file_name);
         if entries.iter().any(|entry| entry.file_name().to_str().is_none()) {
-            self.left_out.push(format!("left out: a name in {} isn't UTF-8", shown(&self.folder.join(inner.trim_end_matches('/')))));
+            let folder = folder.to_string_lossy();
+            let folder = shown(Path::new(folder.trim_end_matches('/')));
+            self.left_out.push(format!("left out: a name in {folder} isn't UTF-8"));
         }
         for entry in entries {
             match entry.file_name().to_str() {

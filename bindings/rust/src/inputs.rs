@@ -39,7 +39,11 @@ impl fmt::Debug for Data {
 }
 
 /// Templates by name, for the tags `include` and `render`.
-pub struct Partials(pub(crate) Shared, pub(crate) Vec<String>);
+pub struct Partials {
+    pub(crate) owner: Shared,
+    /// A line for each thing that was left out of the folder that they are from.
+    pub(crate) left_out: Vec<String>,
+}
 
 impl Partials {
     /// No partials.
@@ -51,7 +55,7 @@ impl Partials {
         let made = Owner::new();
         // SAFETY: the handle is an owner's.
         let number = unsafe { bikleinu_partials(made.at()) };
-        made.settled(number).map(|owner| Partials(Shared::new(owner), Vec::new()))
+        made.settled(number).map(|owner| Partials { owner: Shared::new(owner), left_out: Vec::new() })
     }
 
     /// Puts a template at a name, in place of the one that stood there.
@@ -61,7 +65,7 @@ impl Partials {
     /// Refused memory. Then the partials are as they were.
     pub fn insert(&mut self, name: &str, mut template: Template) -> Result<(), LiquidError> {
         // SAFETY: both handles are owners', two of them, and the bytes are a text's.
-        match unsafe { bikleinu_insert(self.0.only().at(), name.as_ptr(), name.len(), template.only().at()) } {
+        match unsafe { bikleinu_insert(self.owner.only().at(), name.as_ptr(), name.len(), template.only().at()) } {
             0 => Ok(()),
             number => Err(call_refused(number)
                 .unwrap_or_else(|| LiquidError::new(number, String::new(), String::new(), None))),

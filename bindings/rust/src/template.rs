@@ -86,7 +86,7 @@ impl Template {
     ///
     /// Refused memory.
     pub fn names(&self, partials: &Partials) -> Result<Vec<String>, LiquidError> {
-        let (lent, others, made) = (self.owner.lend()?, partials.0.lend()?, Owner::new());
+        let (lent, others, made) = (self.owner.lend()?, partials.owner.lend()?, Owner::new());
         // SAFETY: the handles are owners', three of them.
         let number = unsafe { bikleinu_names(lent.at(), others.at(), made.at()) };
         texts(&made.settled(number)?)
@@ -110,7 +110,7 @@ impl Template {
     ///
     /// Refused memory.
     pub fn paths(&self, partials: &Partials) -> Result<Paths, LiquidError> {
-        let (lent, others, made) = (self.owner.lend()?, partials.0.lend()?, Owner::new());
+        let (lent, others, made) = (self.owner.lend()?, partials.owner.lend()?, Owner::new());
         // SAFETY: the handles are owners', three of them.
         let number = unsafe { bikleinu_paths(lent.at(), others.at(), made.at()) };
         let made = made.settled(number)?;
@@ -147,7 +147,7 @@ impl Template {
         depth: u32,
         limits: Limits,
     ) -> Result<Page, LiquidError> {
-        let others = partials.0.lend()?;
+        let others = partials.owner.lend()?;
         self.render_by(data, others.at(), depth, limits)
     }
 

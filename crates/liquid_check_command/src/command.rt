@@ -1,5 +1,5 @@
 //! The command `check`.
-use crate::files::{File, checked_files, read_files};
+use crate::files::{File, checked_files, names_of_texts, read_files};
 use crate::paths::{Paths, checked_paths};
 use crate::print::{Counts, print_counts, print_file};
 use liquid_command_files::{Stop, read_data, with_time};
@@ -26,7 +26,8 @@ fn print_found(
     files: &[File],
 ) -> Result<(), Stop> {
     let data = data_of(rt, call)?;
-    let given = given_by(call, data.as_ref(), language, paths.partials.as_slice());
+    let partials = names_of_texts(rt.alloc(), files, paths.partials.as_slice())?;
+    let given = given_by(call, data.as_ref(), language, &partials);
     let warnings = warnings_in(rt.alloc(), files, paths, given)?;
     let mut counts = Counts::new(paths.unreadable);
     print_files(rt, call, files, warnings, &mut counts)?;

@@ -101,6 +101,21 @@ pub(crate) fn checked_files<'f>(
     Ok(checked)
 }
 
+/// The names of the partials that are texts, each with the place of its file.
+pub(crate) fn names_of_texts(
+    alloc: Global,
+    files: &[File],
+    names: &[(String, usize)],
+) -> Result<Vec<(String, usize)>, AllocError> {
+    let mut texts = Vec::new(alloc);
+    for (name, place) in names {
+        if !matches!(files.get(*place), Some(File::NoText)) {
+            texts.push((String::from_str(alloc, name.as_str())?, *place))?;
+        }
+    }
+    Ok(texts)
+}
+
 impl File {
     /// The text and the template, where they are there.
     fn as_checked(&self, is_page: bool) -> CheckedFile<'_> {

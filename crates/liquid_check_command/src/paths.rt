@@ -43,7 +43,7 @@ impl Drop for Paths {
 }
 
 /// The files that a call names, and the partials, which are checked too. A word that names nothing
-/// that can be read is reported, and so is an empty folder; and what is left out of a folder is told
+/// that can be read is reported, and so is an empty folder; what is left out of a folder is told
 /// once.
 pub(crate) fn checked_paths(rt: &HostRuntime, call: &CheckCall<'_>) -> Result<Paths, Stop> {
     let mut paths = Paths {

@@ -81,7 +81,10 @@ impl<'r, 'f> Walk<'r, 'f> {
     /// Adds what stands in one folder.
     fn read(&mut self, inner: &str) -> Result<(), Stop> {
         let path = joined_path(self.rt.alloc(), self.folder, inner)?;
-        let path = path.as_str().strip_suffix('/').unwrap_or(self.folder);
+        let path = match path.as_str().strip_suffix('/') {
+            Some(path) if !path.is_empty() => path,
+            _ => self.folder,
+        };
         let entries = match fs::read_dir(self.rt, path) {
             Ok(entries) => entries,
             Err(refused) => return Err(Stop::no_folder(self.rt.alloc(), path, refused.kind())),

@@ -31,8 +31,8 @@ pub fn text_at(rt: &HostRuntime, path: &str) -> Result<String, Stop> {
     }
 }
 
-/// The text of a file that was found in a folder; none where it has a byte 0, as images do and texts
-/// don't.
+/// The text of a file that was found in a folder; none where it has a byte 0, as images do and
+/// texts don't.
 pub fn found_text_at(rt: &HostRuntime, path: &str) -> Result<Option<String>, Stop> {
     match bytes_at(rt, path) {
         Ok(bytes) => found_text_of(rt.alloc(), path, bytes),

@@ -1,8 +1,8 @@
 -- What a program makes of an entry of a folder whose files it reads.
---     is_hidden name      the name begins with a dot
+--     is_hidden_name name      the name begins with a dot
 --     has_byte_zero bytes      a file of these bytes is no text
---     entry_of way standing      what the entry is: a regular file counts, itself or by a link that
---                         stays below the folder, and a folder; anything else has a reason
+--     folder_entry way standing      what the entry is: a regular file counts, itself or by a link
+--                         that stays below the folder, and a folder; anything else has a reason
 --     left_out_line path why      the line that tells what is left out, and why
 use Rattle.std.specs.Prelude.{ℕ, Bool, ◌&&◌, ◌==◌, ◌++◌, List, codes, length, nat_lt, slice_index}
 use Rattle.std.specs.List.{list_any}
@@ -18,8 +18,8 @@ use Rattle.liquid_excerpts.specs.declared.entry.Way.TheVariants as way
 use Rattle.liquid_excerpts.specs.declared.left_out.LeftOut.{LeftOut}
 use Rattle.liquid_excerpts.specs.declared.left_out.LeftOut.TheVariants as why
 
-abbrev pub is_hidden : Text → Bool
-is_hidden name = nat_lt 0 (length name) && slice_index name 0 == dot
+abbrev pub is_hidden_name : Text → Bool
+is_hidden_name name = nat_lt 0 (length name) && slice_index name 0 == dot
 
 -- images have one, and texts don't
 abbrev pub has_byte_zero : List ℕ → Bool
@@ -49,11 +49,11 @@ entry_elsewhere reason standing.Nothing = entry.LeftOut why.LeadsNowhere
 entry_elsewhere reason standing.Barred = entry.LeftOut why.Barred
 entry_elsewhere reason standing = entry.LeftOut reason
 
-abbrev pub entry_of : Way → Standing → Entry
-entry_of way.Itself standing = entry_itself standing
-entry_of way.Inside standing = entry_inside standing
-entry_of way.Outside standing = entry_elsewhere why.LeadsOut standing
-entry_of way.Unnamed standing = entry_elsewhere why.LeadsUnnamed standing
+abbrev pub folder_entry : Way → Standing → Entry
+folder_entry way.Itself standing = entry_itself standing
+folder_entry way.Inside standing = entry_inside standing
+folder_entry way.Outside standing = entry_elsewhere why.LeadsOut standing
+folder_entry way.Unnamed standing = entry_elsewhere why.LeadsUnnamed standing
 
 -- ---- the line
 

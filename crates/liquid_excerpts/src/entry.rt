@@ -2,7 +2,7 @@
 ghost use Rattle.std.specs.Prelude.{◌≡◌, ◌↔◌, IsTrue, Ok};
 ghost use Rattle.std.specs.Fs.{IsDir, IsFile, dir_entry_name};
 ghost use Rattle.std.specs.Path.{PathStartsWith};
-ghost use Rattle.liquid_excerpts.specs.Entries.{entry_of, has_byte_zero, is_hidden};
+ghost use Rattle.liquid_excerpts.specs.Entries.{folder_entry, has_byte_zero, is_hidden_name};
 
 use crate::left_out::LeftOut;
 use std::fs::{DirEntry, FileType};
@@ -58,9 +58,9 @@ pub enum Way {
 ///
 /// What the system refuses to tell, as `entry_at` says.
 pub fn listed_entry(rt: &HostRuntime, folder: &str, entry: &DirEntry) -> io::Result<Entry>
-    ensures hidden { IsTrue (is_hidden (dir_entry_name entry.now)) → result ≡ Ok Entry.Hidden }
+    ensures hidden { IsTrue (is_hidden_name (dir_entry_name entry.now)) → result ≡ Ok Entry.Hidden }
 {
-    if is_hidden(entry.file_name()) {
+    if is_hidden_name(entry.file_name()) {
         return Ok(Entry::Hidden);
     }
     entry_at(rt, folder, entry.path().as_str())
@@ -80,7 +80,7 @@ pub fn entry_at(rt: &HostRuntime, folder: &str, path: &str) -> io::Result<Entry>
     if itself.is_symlink() {
         linked_entry(rt, folder, path)
     } else {
-        Ok(entry_of(Way::Itself, standing_of(itself)))
+        Ok(folder_entry(Way::Itself, standing_of(itself)))
     }
 }
 
@@ -89,9 +89,9 @@ fn linked_entry(rt: &HostRuntime, folder: &str, path: &str) -> io::Result<Entry>
     match fs::metadata(rt, path) {
         Ok(target) => {
             let way = way_of(rt, folder, path)?;
-            Ok(entry_of(way, standing_of(target.file_type())))
+            Ok(folder_entry(way, standing_of(target.file_type())))
         }
-        Err(refused) => Ok(entry_of(Way::Inside, refused_standing(refused)?)),
+        Err(refused) => Ok(folder_entry(Way::Inside, refused_standing(refused)?)),
     }
 }
 
@@ -126,8 +126,8 @@ fn way_of(rt: &HostRuntime, folder: &str, path: &str) -> io::Result<Way> {
 }
 
 /// What an entry is that leads so to what stands there. It takes no memory.
-pub fn entry_of(way: Way, standing: Standing) -> Entry
-    ensures { result ≡ entry_of way standing }
+pub fn folder_entry(way: Way, standing: Standing) -> Entry
+    ensures { result ≡ folder_entry way standing }
 {
     match (way, standing) {
         (Way::Itself, Standing::Nothing) => Entry::Gone,
@@ -163,8 +163,8 @@ pub fn standing_of(found: FileType) -> Standing
 }
 
 /// Whether a file of this name is hidden: it begins with a dot. It takes no memory.
-pub fn is_hidden(name: &str) -> bool
-    ensures { result ≡ is_hidden name.now }
+pub fn is_hidden_name(name: &str) -> bool
+    ensures { result ≡ is_hidden_name name.now }
 {
     match name.as_bytes().first() {
         Some(byte) => *byte == b'.',

@@ -12,8 +12,8 @@ mod system;
 mod unreadable;
 
 pub use entry::{
-    Entry, Standing, Way, entry_at, entry_of, has_byte_zero, is_hidden, lies_in, listed_entry,
-    standing_of,
+    Entry, Standing, Way, entry_at, folder_entry, has_byte_zero, is_hidden_name, lies_in,
+    listed_entry, standing_of,
 };
 pub use excerpt::Excerpt;
 pub use left_out::{LeftOut, LeftOutLine};

@@ -3,9 +3,9 @@
 --     IsMemoryStop stop      memory ran out
 --     IsMissing path stop, IsInside path stop, IsUnreadable path stop      it is about this path,
 --                                         unless memory ran out
---     IsBadData path text fault stop      the data at this path, of this text, has this fault, unless
---                                         memory ran out
-use Rattle.std.specs.Prelude.{◌≡◌, ◌×◌, ℕ, Option, string_bytes, ⊤}
+--     IsBadData path text fault stop      the data at this path, of this text, has this fault,
+--                                         unless memory ran out
+use Rattle.std.specs.Prelude.{◌≡◌, ℕ, Option, string_bytes, ⊤}
 use Rattle.std.specs.declared.io.ErrorKind.{ErrorKind as IoKind}
 use Rattle.liquid_excerpts.specs.declared.unreadable.Reason.{Reason}
 use Rattle.liquid_model.specs.Texts.{Text}
