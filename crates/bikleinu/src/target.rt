@@ -1,5 +1,5 @@
 //! Where the pages of a merge go.
-ghost use Rattle.std.specs.Prelude.{◌≡◌, None};
+ghost use Rattle.std.specs.Prelude.{◌≡◌, IfSome, None};
 
 use crate::files::{Nowhere, SystemPages};
 use crate::report::Report;
@@ -59,6 +59,8 @@ impl<'r> Target<'r> {
     /// The files of a merge, or, without any, their names alone: a dry run writes no file.
     pub fn files(merge: Merge, files: Option<SystemPages<'r>>) -> Target<'r>
         ensures names { files ≡ None → result ≡ Target.Names merge }
+        ensures written { IfSome files (λ f. result
+            ≡ Target.Files (record { merge = merge; files = f })) }
     {
         match files {
             Some(files) => Target::Files(FileMerge { merge, files }),
