@@ -1,8 +1,8 @@
 //! The files that pages go into.
 use liquid_command_files::{Sources, Stop};
 use liquid_commands::{Inputs, MergeCall};
-use liquid_disk::{Bounds, DiskFault, FileSystem, PageFiles, SystemFiles, hidden_names};
-use liquid_excerpts::ShownPath;
+use liquid_disk::{Bounds, DiskFault, PageFiles, SystemFiles, hidden_names};
+use liquid_excerpts::{Reason, ShownPath};
 use liquid_records::Disk;
 use std::alloc::AllocError;
 use std::process;
@@ -18,7 +18,6 @@ pub fn page_file<'r>(
 ) -> Result<SystemPages<'r>, Stop> {
     let bounds = Bounds {
         front: String::new(rt.alloc()),
-        root: None,
         hidden: usize::MAX,
         makes_folders: false,
     };
@@ -28,7 +27,7 @@ pub fn page_file<'r>(
         process::id(rt.process()),
         bounds,
     );
-    keep_sources(&mut files, inputs, sources)?;
+    keep_sources(rt, &mut files, inputs, sources)?;
     Ok(files)
 }
 
@@ -45,7 +44,6 @@ pub fn record_files<'r>(
     let bounds = Bounds {
         hidden: hidden_names(front.as_str()).saturating_add(hidden_names(pattern)),
         front,
-        root: Some(root),
         makes_folders: true,
     };
     let mut files = PageFiles::new(
@@ -54,9 +52,12 @@ pub fn record_files<'r>(
         process::id(rt.process()),
         bounds,
     );
-    keep_sources(&mut files, &call.inputs, sources)?;
-    files.keep_source(path_of(call.records))?;
-    Ok(files)
+    keep_sources(rt, &mut files, &call.inputs, sources)?;
+    keep_source(rt, &mut files, path_of(call.records))?;
+    match files.keep_inside(root.as_str()) {
+        Ok(()) => Ok(files),
+        Err(fault) => Err(unwritten(rt, root.as_str(), fault)),
+    }
 }
 
 /// Why a command ends that can't write the file of its page. A file that is never written is
@@ -85,44 +86,44 @@ fn front_of(rt: &HostRuntime, into: Option<&str>) -> Result<String, Stop> {
     Ok(front)
 }
 
-/// The folder that no page leaves, which is made if need be: as far as the pattern names one before
-/// its first value.
+/// The folder that no page leaves: as far as the pattern names one before its first value.
 fn root_of(rt: &HostRuntime, front: &str, pattern: &str) -> Result<String, Stop> {
     let written = pattern.split('{').next().unwrap_or("");
     let folder = match written.rfind('/') {
         Some(at) => written.get(..at).unwrap_or(""),
         None => "",
     };
-    let path = match (front.is_empty(), folder.is_empty()) {
-        (true, true) => String::from_str(rt.alloc(), ".")?,
-        _ => format!(in rt.alloc(); "{front}{folder}")?,
-    };
-    let mut system = SystemFiles::new(rt, false);
-    let found = system.make_folder(path.as_str());
-    match found {
-        Ok(()) => {}
-        Err(refused) => return Err(Stop::unwritten(rt.alloc(), path.as_str(), refused.kind())),
-    }
-    match system.real_path(rt.alloc(), path.as_str()) {
-        Ok(root) => Ok(root),
-        Err(refused) => Err(Stop::unwritten(rt.alloc(), path.as_str(), refused.kind())),
+    match (front.is_empty(), folder.is_empty()) {
+        (true, true) => Ok(String::from_str(rt.alloc(), ".")?),
+        _ => Ok(format!(in rt.alloc(); "{front}{folder}")?),
     }
 }
 
 /// Keeps every file that the call reads for a template, as it is.
 fn keep_sources(
+    rt: &HostRuntime,
     files: &mut SystemPages<'_>,
     inputs: &Inputs<'_>,
     sources: &Sources,
 ) -> Result<(), Stop> {
-    files.keep_source(path_of(inputs.template))?;
+    keep_source(rt, files, path_of(inputs.template))?;
     for file in inputs.data.as_slice() {
-        files.keep_source(path_of(file.path))?;
+        keep_source(rt, files, path_of(file.path))?;
     }
     for source in sources.partials() {
-        files.keep_source(source.path.as_str())?;
+        keep_source(rt, files, source.path.as_str())?;
     }
     Ok(())
+}
+
+fn keep_source(rt: &HostRuntime, files: &mut SystemPages<'_>, path: &str) -> Result<(), Stop> {
+    match files.keep_source(path) {
+        Ok(()) => Ok(()),
+        Err(DiskFault::Refused(kind)) => {
+            Err(Stop::unreadable(rt.alloc(), path, Reason::from(kind)))
+        }
+        Err(_) => Err(Stop::from(AllocError)),
+    }
 }
 
 /// Where a word of the command line leads: `-` is standard input.

@@ -88,7 +88,7 @@ fn into_of<'w>(
     let into = given.get_str("into");
     match pattern {
         Some(pattern) if leaves_folder(pattern) => Err(WordFault::Wrong(
-            "the names of --out are below a folder, so none begins with /, ./ or ../: \
+            "the names of --out are below a folder, so no part of them is empty or only dots: \
              write the folder after --into",
         )),
         None if into.is_some() => Err(WordFault::Wrong(

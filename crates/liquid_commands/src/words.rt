@@ -126,13 +126,25 @@ pub fn missing_of(word: Option<&str>) -> Missing
     }
 }
 
-/// Whether a pattern of names begins as no name below a folder does: with a slash, `./` or `../`.
-/// It takes no memory.
+/// Whether a pattern of names leaves the folder that they are in: before its first `{` a part
+/// between slashes has nothing but dots, or nothing at all. It takes no memory.
 pub fn leaves_folder(pattern: &str) -> bool
-    ensures { result ≡ leaves_folder pattern.now }
+    ensures { result ≡ leaves_folder true pattern.now }
 {
-    let bytes = pattern.as_bytes();
-    bytes.starts_with(b"/") || bytes.starts_with(b"./") || bytes.starts_with(b"../")
+    let mut only_dots = true;
+    for byte in pattern.as_bytes() {
+        match *byte {
+            b'{' => return false,
+            b'/' => {
+                if only_dots {
+                    return true;
+                }
+                only_dots = true;
+            }
+            other => only_dots = only_dots && other == b'.',
+        }
+    }
+    false
 }
 
 /// Whether records are a table in CSV: as the format says, and where none is given, by the end of

@@ -5,7 +5,7 @@ use Rattle.std.proofs.lemmas.Slice.Eq.{bytes_eq-Decides}
 use Rattle.std.proofs.lemmas.List.{append_cancel_left}
 use mathlib.Core.Path.{refl, sym, ap, subst, fun_ext, ◌∙◌}
 use Rattle.liquid_model.specs.Texts.{Text}
-use Rattle.liquid_disk.specs.Files.{File, Files, gone, holds, with_file, IsPut}
+use Rattle.liquid_disk.specs.Files.{File, Files, gone, holds, unreadable, with_file, IsPut}
 use Rattle.liquid_disk.specs.Parts.{is_part_path, without_parts, files_below, IsKept, with_page, TakesPlace}
 use Rattle.liquid_disk.specs.Stories.{Changes, DifferAt, Each, Goes, IsFilled, IsMade, IsRenamed, Since, Story}
 use Rattle.liquid_disk.specs.declared.disk.DiskFault.{DiskFault}
@@ -32,18 +32,18 @@ part_gone : (f : Files) (part : Text) (file : File) → is_part_path part ≡ tr
 unfolding with_file without_parts
 part_gone f part file is = fun_ext (λ q. at q (bytes_eq part q) refl)
   where
-    at : (q : Text) (b : Bool) → bytes_eq part q ≡ b → cond (is_part_path q) gone (cond b file (f q)) ≡ cond (is_part_path q) gone (f q)
+    at : (q : Text) (b : Bool) → bytes_eq part q ≡ b → cond (is_part_path q) unreadable (cond b file (f q)) ≡ cond (is_part_path q) unreadable (f q)
     at q true e =
         let same : is_part_path q ≡ true = sym (ap is_part_path ((bytes_eq-Decides part q).0 e)) ∙ is in
-        ap (λ b. cond b gone file) same ∙ sym (ap (λ b. cond b gone (f q)) same)
+        ap (λ b. cond b unreadable file) same ∙ sym (ap (λ b. cond b unreadable (f q)) same)
     at q false e = refl
 
 page_there : (f : Files) (path : Text) (file : File) → is_part_path path ≡ false → without_parts (with_file f path file) ≡ with_file (without_parts f) path file
 unfolding with_file without_parts
 page_there f path file is = fun_ext (λ q. at q (bytes_eq path q) refl)
   where
-    at : (q : Text) (b : Bool) → bytes_eq path q ≡ b → cond (is_part_path q) gone (cond b file (f q)) ≡ cond b file (cond (is_part_path q) gone (f q))
-    at q true e = ap (λ b. cond b gone file) (sym (ap is_part_path ((bytes_eq-Decides path q).0 e)) ∙ is)
+    at : (q : Text) (b : Bool) → bytes_eq path q ≡ b → cond (is_part_path q) unreadable (cond b file (f q)) ≡ cond b file (cond (is_part_path q) unreadable (f q))
+    at q true e = ap (λ b. cond b unreadable file) (sym (ap is_part_path ((bytes_eq-Decides path q).0 e)) ∙ is)
     at q false e = refl
 
 differ_kept : (part : Text) (old new : Files) → is_part_path part ≡ true → DifferAt part old new → without_parts new ≡ without_parts old

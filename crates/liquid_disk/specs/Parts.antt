@@ -1,21 +1,21 @@
 -- Pages that are written beside their places before they take them, in files called parts.
 --     is_part_path path      the path is one of a part
---     files_below front story      the files that are no parts, by their names after a front
+--     files_below front story      the files by their names after a front, without parts
 --     IsKept old new      no file but parts changed, at any moment
 --     TakesPlace path text old new      a page is in its file; at each moment the file held it
 --       or what it held before, and no other file but parts changed
 use Rattle.std.specs.Prelude.{◌≡◌, ◌⊎◌, ◌++◌, cond, codes, nat_eq, Bool}
 use Rattle.std.specs.List.{ends_with}
 use Rattle.liquid_model.specs.Texts.{Text}
-use Rattle.liquid_disk.specs.Files.{File, Files, gone, holds, with_file}
+use Rattle.liquid_disk.specs.Files.{File, Files, holds, unreadable, with_file}
 use Rattle.liquid_disk.specs.Stories.{Since, Story}
 
 abbrev pub is_part_path : Text → Bool
 is_part_path path = ends_with nat_eq path (codes ".bikleinu-part")
 
--- the files without parts
+-- the files, of which parts can't be read
 unfoldable pub without_parts : Files → Files
-without_parts files path = cond (is_part_path path) gone (files path)
+without_parts files path = cond (is_part_path path) unreadable (files path)
 
 abbrev pub files_below : Text → Story → Files
 files_below front story name = without_parts story.now (front ++ name)

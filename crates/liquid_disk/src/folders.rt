@@ -5,7 +5,7 @@ ghost use Rattle.liquid_disk.specs.Stories.{Goes};
 
 use crate::disk::DiskFault;
 use crate::parts::{folder_of, is_part_path};
-use crate::system::FileSystem;
+use crate::system::{FileSystem, Standing};
 use std::alloc::Global;
 use std::collections::BTreeSet;
 use std::io;
@@ -33,6 +33,11 @@ pub(crate) fn is_inside<S: FileSystem>(
         }
     }
     Ok(Path::new(system.real_path(alloc, shown("", folder))?.as_str()).starts_with(root.as_str()))
+}
+
+/// Whether nothing is at a path, as far as the system tells.
+pub(crate) fn is_missing<S: FileSystem>(system: &S, path: &str) -> bool {
+    matches!(system.standing(path), Ok(Standing::Nothing))
 }
 
 /// The path of a folder without the slash after it: the root of the system, or the folder of the

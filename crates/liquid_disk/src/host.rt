@@ -60,8 +60,9 @@ impl FileSystem for SystemFiles<'_> {
         Ok(id_of(&fs::metadata(self.rt, path)?))
     }
 
+    // a pipe or a device isn't opened, since it may never end
     fn read(&self, path: &str) -> Result<Option<String>, DiskFault> {
-        match fs::read_to_string(self.rt, path) {
+        match read_file(self.rt, path) {
             Ok(text) => Ok(Some(text)),
             Err(refused) => match refused.kind() {
                 io::ErrorKind::NotFound => Ok(None),
@@ -136,11 +137,11 @@ impl FileSystem for SystemFiles<'_> {
     fn left_parts(&self, alloc: Global, folder: &str) -> io::Result<Vec<String>> {
         let mut left = Vec::new(alloc);
         for entry in fs::read_dir(self.rt, folder)? {
-            let Ok(entry) = entry else {
-                continue;
-            };
-            if is_left(self.rt, &entry) {
-                left.push(String::from_str(alloc, entry.path().as_str())?)?;
+            match entry {
+                Ok(entry) => if is_left(self.rt, &entry)? {
+                    left.push(String::from_str(alloc, entry.path().as_str())?)?;
+                },
+                Err(refused) => pass_over(refused)?,
             }
         }
         Ok(left)
@@ -173,17 +174,40 @@ fn id_of(found: &Metadata) -> FileId {
     }
 }
 
-/// Whether an entry of a folder is a part that no process is writing: none has its lock.
-fn is_left(rt: &HostRuntime, entry: &DirEntry) -> bool {
+/// The text of a regular file.
+fn read_file(rt: &HostRuntime, path: &str) -> io::Result<String> {
+    let found = fs::metadata(rt, path)?;
+    if found.is_file() || found.is_dir() {
+        return fs::read_to_string(rt, path);
+    }
+    Err(io::Error::from(io::ErrorKind::InvalidInput))
+}
+
+/// Whether an entry of a folder is a part that no process is writing: none has its lock. It fails
+/// where memory ran out.
+fn is_left(rt: &HostRuntime, entry: &DirEntry) -> io::Result<bool> {
     let name = entry.file_name();
     if !name.starts_with('.') || !name.ends_with(PART_SUFFIX) {
-        return false;
+        return Ok(false);
     }
-    match entry.file_type() {
-        Ok(kind) if kind.is_file() => match File::open(rt, entry.path()) {
-            Ok(file) => file.try_lock().is_ok(),
-            Err(_) => false,
-        },
-        _ => false,
+    let opened = match entry.file_type() {
+        Ok(kind) if kind.is_file() => File::open(rt, entry.path()),
+        Ok(_) => return Ok(false),
+        Err(refused) => Err(refused),
+    };
+    match opened {
+        Ok(file) => Ok(file.try_lock().is_ok()),
+        Err(refused) => {
+            pass_over(refused)?;
+            Ok(false)
+        }
+    }
+}
+
+/// Passes over what the system refuses to tell of an entry, unless memory ran out.
+fn pass_over(refused: io::Error) -> io::Result<()> {
+    match refused.kind() {
+        io::ErrorKind::OutOfMemory => Err(refused),
+        _ => Ok(()),
     }
 }

@@ -8,7 +8,7 @@ ghost use Rattle.liquid_disk.specs.Standings.{is_own};
 ghost use Rattle.liquid_disk.specs.Stories.{Goes};
 
 use crate::disk::{Disk, DiskFault, Protected};
-use crate::folders::{flush_folders, is_inside, make_ready};
+use crate::folders::{flush_folders, is_inside, is_missing, make_ready};
 use crate::names::hidden_names;
 use crate::parts::{folder_of, is_part_path, part_path};
 use crate::put::{Draft, WrittenPages, put_whole};
@@ -22,8 +22,6 @@ use std::io;
 pub struct Bounds {
     /// What stands before the name of a page in its path: no text, or a folder with a slash after.
     pub front: String,
-    /// The folder that no page leaves, links followed; none where each may go anywhere.
-    pub root: Option<String>,
     /// How many parts of a path may begin with a dot.
     pub hidden: usize,
     /// Whether folders are made that aren't there.
@@ -47,8 +45,11 @@ pub struct PageFiles<S> {
     /// The files that the call reads.
     sources: BTreeSet<FileId>,
     pages: WrittenPages,
-    /// The folders that pages may go into.
+    /// The folder that no page leaves; none where each may go anywhere.
+    root: Option<String>,
+    /// The folders that pages may go into, and those around folders that were made.
     folders: BTreeSet<String>,
+    around: BTreeSet<String>,
 }
 
 impl<S: FileSystem> PageFiles<S> {
@@ -65,16 +66,54 @@ impl<S: FileSystem> PageFiles<S> {
             parts: 0,
             sources: BTreeSet::new(alloc),
             pages: BTreeMap::new(alloc),
+            root: None,
             folders: BTreeSet::new(alloc),
+            around: BTreeSet::new(alloc),
         }
     }
 
-    /// Keeps the file at a path as it is: the call reads it. A path without a file keeps nothing.
-    pub fn keep_source(&mut self, path: &str) -> Result<(), AllocError>
-        ensures { self.new.system ≡ self.old.system }
+    /// Keeps the file at a path as it is: the call reads it. A path without a file keeps nothing,
+    /// and what the system refuses to tell of a path is a fault.
+    pub fn keep_source(&mut self, path: &str) -> Result<(), DiskFault>
+        ensures system { self.new.system ≡ self.old.system }
+        ensures bounds { self.new.bounds ≡ self.old.bounds }
     {
-        if let Ok(id) = self.system.file_at(path) {
-            self.sources.insert(id)?;
+        match self.system.file_at(path) {
+            Ok(id) => {
+                self.sources.insert(id)?;
+                Ok(())
+            }
+            Err(refused) => match refused.kind() {
+                io::ErrorKind::NotFound => Ok(()),
+                _ => Err(DiskFault::from(refused)),
+            },
+        }
+    }
+
+    /// Keeps all pages in a folder, links followed: it is made if need be, and no page leaves it.
+    pub fn keep_inside(&mut self, folder: &str) -> Result<(), DiskFault>
+        ensures story { S.story self.new.system ≡ S.story self.old.system }
+        ensures bounds { self.new.bounds ≡ self.old.bounds }
+    {
+        self.note_new_folders(folder)?;
+        self.system.make_folder(folder)?;
+        self.root = Some(self.system.real_path(self.alloc, folder)?);
+        Ok(())
+    }
+
+    /// Notes the folders around those that aren't there yet, so that their names are flushed.
+    fn note_new_folders(&mut self, folder: &str) -> Result<(), DiskFault>
+        ensures system { self.new.system ≡ self.old.system }
+        ensures bounds { self.new.bounds ≡ self.old.bounds }
+    {
+        let mut path = folder.trim_end_matches('/');
+        for _ in 0..folder.len() {
+            if path.is_empty() || !is_missing(&self.system, path) {
+                break;
+            }
+            let around = folder_of(path);
+            self.around.insert(String::from_str(self.alloc, around)?)?;
+            path = around.trim_end_matches('/');
         }
         Ok(())
     }
@@ -91,7 +130,8 @@ impl<S: FileSystem> PageFiles<S> {
     pub fn flush_folders(&mut self) -> io::Result<()>
         ensures { S.story self.new.system ≡ S.story self.old.system }
     {
-        flush_folders(&mut self.system, &self.folders)
+        flush_folders(&mut self.system, &self.folders)?;
+        flush_folders(&mut self.system, &self.around)
     }
 
     /// Puts a page into what a path leads to that the caller chose: a link, a pipe or a device is
@@ -201,7 +241,7 @@ impl<S: FileSystem> PageFiles<S> {
             return Ok(());
         }
         let name = String::from_str(self.alloc, folder)?;
-        if !is_inside(self.alloc, &self.system, folder, self.bounds.root.as_ref())? {
+        if !is_inside(self.alloc, &self.system, folder, self.root.as_ref())? {
             return Err(DiskFault::Protected(Protected::Outside));
         }
         make_ready(
@@ -272,10 +312,7 @@ impl<S: FileSystem> PageFiles<S> {
 /// Whether another part may have what the last one lacked: a name of its own, or the time to take
 /// its place before another run, which saw it before it was locked, took it away.
 fn is_tried_again(kind: io::ErrorKind) -> bool {
-    matches!(
-        kind,
-        io::ErrorKind::AlreadyExists | io::ErrorKind::NotFound
-    )
+    matches!(kind, io::ErrorKind::AlreadyExists | io::ErrorKind::NotFound)
 }
 
 impl<S: FileSystem> Disk for PageFiles<S> {
@@ -285,7 +322,7 @@ impl<S: FileSystem> Disk for PageFiles<S> {
     fn read(&self, name: &str) -> Result<Option<String>, DiskFault> {
         let path = self.path_of(name)?;
         if is_part_path(path.as_str()) {
-            return Ok(None);
+            return Err(DiskFault::Refused(io::ErrorKind::InvalidFilename));
         }
         self.system.read(path.as_str())
     }

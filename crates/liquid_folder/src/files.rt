@@ -10,7 +10,6 @@ pub type SitePages<'r> = PageFiles<SystemFiles<'r>>;
 pub fn site_pages<'r>(rt: &'r HostRuntime) -> SitePages<'r> {
     let bounds = Bounds {
         front: String::new(rt.alloc()),
-        root: None,
         hidden: usize::MAX,
         makes_folders: false,
     };

@@ -102,7 +102,7 @@ impl<'r> Rounds<'r> {
         self.changes.sort_unstable();
         self.changes.dedup();
         leave_out(self.rt, self.folder, &mut self.changes)?;
-        self.files.keep_source(self.folder.data.as_str())?;
+        self.keep_data()?;
         let before = self.site.rendered();
         let done = round(
             self.rt.alloc(),
@@ -123,6 +123,20 @@ impl<'r> Rounds<'r> {
         let is_kept = self.flush(done.written.as_ref().is_ok_and(|written| *written > 0));
         let is_clean = tell_round(self.rt, &self.site, self.folder, done, rendered)?;
         Ok(is_clean && is_kept)
+    }
+
+    /// Keeps the data's file as it is.
+    fn keep_data(&mut self) -> Result<(), FolderStop>
+        ensures whole { self.new.is_whole ≡ self.old.is_whole }
+    {
+        let path = self.folder.data.as_str();
+        match self.files.keep_source(path) {
+            Ok(()) => Ok(()),
+            Err(DiskFault::Refused(kind)) => {
+                Err(FolderStop::unreadable_by(self.rt.alloc(), path, kind))
+            }
+            Err(_) => Err(FolderStop::from(AllocError)),
+        }
     }
 
     /// Makes sure that the names of pages that were written are on the disk, and tells it if they
