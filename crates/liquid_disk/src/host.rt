@@ -186,8 +186,7 @@ fn read_file(rt: &HostRuntime, path: &str) -> io::Result<String> {
 /// Whether an entry of a folder is a part that no process is writing: none has its lock. It fails
 /// where memory ran out.
 fn is_left(rt: &HostRuntime, entry: &DirEntry) -> io::Result<bool> {
-    let name = entry.file_name();
-    if !name.starts_with('.') || !name.ends_with(PART_SUFFIX) {
+    if !is_part_name(entry.file_name()) {
         return Ok(false);
     }
     let opened = match entry.file_type() {
@@ -202,6 +201,25 @@ fn is_left(rt: &HostRuntime, entry: &DirEntry) -> io::Result<bool> {
             Ok(false)
         }
     }
+}
+
+/// Whether a name is one that parts are given: a dot, two numbers with a hyphen between them, and
+/// what each part ends with.
+fn is_part_name(name: &str) -> bool {
+    let Some(numbers) = name.strip_prefix('.') else {
+        return false;
+    };
+    let Some(numbers) = numbers.strip_suffix(PART_SUFFIX) else {
+        return false;
+    };
+    match numbers.split_once('-') {
+        Some((process, count)) => is_number(process) && is_number(count),
+        None => false,
+    }
+}
+
+fn is_number(text: &str) -> bool {
+    !text.is_empty() && text.bytes().all(|byte| byte.is_ascii_digit())
 }
 
 /// Passes over what the system refuses to tell of an entry, unless memory ran out.
