@@ -4,11 +4,11 @@ import os
 
 from entries import DEVICE, PIPE, SOCKET, Hard, Link, Of
 
-# parts of pages of a run that was killed and of one that goes on, by the numbers of their processes
-DEAD, LIVE = ".bikleinu-999999999-1.part", f".bikleinu-{os.getpid()}-1.part"
+# a part of a page of a run that was killed
+DEAD = ".999999999-1.bikleinu-part"
 PAGE, OLD = {"t": "{{ name }}", "d": '{"name": "Ada"}'}, "old"
 # names of files beside parts that are none
-NO_PARTS = ("bikleinu-1-1.part", ".bikleinu-1-1.part~", ".bikleinu-1.part", ".bikleinu-x-1.part", ".bikleinu-999999999-.part", "x.bikleinu-part", ".bikleinu-999999999-1.parts")
+NO_PARTS = ("x.bikleinu-part", "1-1.bikleinu-part", ".1-1.bikleinu-part~", ".1-1.bikleinu-parts", ".1-1.part", ".1-1", "bikleinu-part")
 WRITE = "can't be written"
 
 
@@ -41,8 +41,9 @@ def part_cases():
     long, longest = "n" * 245, "n" * 255
     others = {f"m/{name}": "mine" for name in NO_PARTS}
     return [
-        merged("a name that ends as another's part did", ["x.bikleinu-part", "x"], {}, {"m/x.bikleinu-part": "x.bikleinu-part.", "m/x": "x."}),
-        merged("the other way round", ["x", "x.bikleinu-part"], {}, {"m/x.bikleinu-part": "x.bikleinu-part.", "m/x": "x."}),
+        merged("a name that ends as a part's does", ["x.bikleinu-part", "x"], {}, {"m/x": "x."}, (1,)),
+        merged("the other way round", ["x", "x.bikleinu-part"], {}, {"m/x": "x."}, (2,)),
+        refused("a page of a name that ends so", "render t d -o x.bikleinu-part", PAGE),
         merged("files beside a page", ["x"], others, {"m/x": "x."}),
         case("files beside a page of render", "render t d -o m/x", {**PAGE, **others}, {"m/x": "Ada"}),
         merged("links and pipes beside pages", ["x", "y"], {"m/x.bikleinu-part": Link("../t"), "m/y.bikleinu-part": PIPE}, {"m/x": "x.", "m/y": "y."}),
@@ -50,7 +51,6 @@ def part_cases():
         case("a part of a run that was killed", "render t d -o m/x", {**PAGE, f"m/{DEAD}": "A", "m/x": OLD}, {"m/x": "Ada"}, gone=(f"m/{DEAD}",)),
         merged("parts of a run that was killed", ["a/x", "x"], {f"m/{DEAD}": "A", f"m/a/{DEAD}": "A", f"m/b/{DEAD}": "A", DEAD: ""}, {"m/a/x": "a/x.", "m/x": "x."}) | {"gone": (f"m/{DEAD}", f"m/a/{DEAD}")},
         case("a part beside a page in the folder of the call", "render t d -o x", {**PAGE, DEAD: "A"}, {"x": "Ada"}, gone=(DEAD,)),
-        case("a part of a run that goes on", "render t d -o m/x", {**PAGE, f"m/{LIVE}": "A"}, {"m/x": "Ada"}),
         case("a folder of a part's name", "render t d -o m/x", {**PAGE, f"m/{DEAD}/a": "A"}, {"m/x": "Ada"}),
         case("a page of a long name", f"render t d -o {long}", PAGE, {long: "Ada"}),
         case("a page of the longest name", f"render t d -o {longest}", PAGE, {longest: "Ada"}),
@@ -104,6 +104,7 @@ def name_cases():
         merged("a folder with a dot of the pattern", ["a", ".b"], {}, {".m/a": "a."}, (2,), pattern=".m/{{ id }}"),
         merged("a dot of the pattern after the record's", ["a"], {}, {"a/.x": "a."}, pattern="{{ id }}/.x"),
         merged("a name of a part's form", ["a", DEAD], {}, {"m/a": "a."}, (2,)),
+        merged("a name of a part's form, the dot of which is the pattern's", ["a", DEAD[1:]], {}, {"m/.a": "a."}, (2,), "m/.{{ id }}"),
         merged("two names of one file", ["real/x", "link/x", "real/y"], {"real/": "", "link": Link("real")}, {"real/x": "real/x.", "real/y": "real/y."}, (2,), "{{ id }}"),
         merged("two names of one file, the linked one first", ["link/x", "real/x", "real/y"], {"real/": "", "link": Link("real")}, {"real/x": "link/x.", "real/y": "real/y."}, (2,), "{{ id }}"),
         merged("two names of one file that was there", ["real/x", "link/x"], {"real/x": OLD, "link": Link("real")}, {"real/x": "real/x."}, (2,), "{{ id }}"),
@@ -139,7 +140,7 @@ def odd_cases():
     fine = {"notes": "n", "kept": Of(0o400, OLD), "a~": OLD, "a\nb": OLD, "caf\u00e9": OLD, "hard": Hard("m/notes"), "folder/in/": None}
     if os.geteuid() == 0:
         odd["device"] = DEVICE
-    files = {f"m/{name}": what for name, what in {**fine, **odd}.items() if what is not None} | {"m/linked": Link("folder"), f"m/{LIVE}": "l"}
+    files = {f"m/{name}": what for name, what in {**fine, **odd}.items() if what is not None} | {"m/linked": Link("folder")}
     names = [*odd, "folder", "pipe/x", "notes/x", "nowhere/x", "self/x"]
     names.remove("folder/in")
     return [

@@ -74,7 +74,7 @@ CALLS = [
 ]
 
 # calls of which each call in files fails; the number in the name of a part is of no process
-DEAD = ".bikleinu-999999999-1.part"
+DEAD = ".999999999-1.bikleinu-part"
 FEW_RECORDS = '{"id": 1, "name": "Ada"}\n{"id": 2, "name": "Bo"}\n{"id": "a/3", "name": "Cy"}\n{"id": 4, "name": "Di"}\n'
 SMALL_SITE = {"site/data": DATA, "site/partials/foot": "{{ name }}", "out/a": "old", f"out/{DEAD}": "dea"}
 SMALL_SITE |= {f"site/pages/{name}": f"{name}: {{% include 'foot' %}}" for name in "ab"}

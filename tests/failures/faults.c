@@ -9,12 +9,13 @@
 // FAULT_PAUSE=MS: it is made after so many milliseconds.
 // FAULT_PID=N: the program has this number as a process, so that the name of what it makes is known before.
 // FAULT_NOTES=FILE: a line of each call is put at the end of this file: its name, what it answers, which is -E where it fails, its flags or
-// mode or 0, its path, and the second path of a rename, with tabs between them. The path of a descriptor is the one that the system has.
+// mode, which of a write is that of the file, its path, and the second path of a rename, with tabs between them. The path of a descriptor is the one that the system has.
 typedef unsigned long size_t;
 typedef unsigned mode_t;
 struct statx;
 
 enum { STREAMS = 3, NOTES_FROM = 700, TO_DUPLICATE = 1030, TO_APPEND = 02002101, PATH_ROOM = 4200, LINE_ROOM = 9000 };
+enum { FOUND_ROOM = 128, EMPTY_PATH = 0x1000, MODE_ALONE = 2 };
 #define NEXT ((void *)-1)
 #define ANY ((size_t)-1)
 
@@ -109,6 +110,13 @@ static long noted(const struct call *call, long answer, unsigned flags, const ch
     return answer;
 }
 
+// The mode of an open file: a number of two bytes at the place 28 of what statx finds.
+static unsigned mode_of(int fd) {
+    unsigned short found[FOUND_ROOM] = {0};
+    int (*real)(int, const char *, int, unsigned, void *) = (int (*)(int, const char *, int, unsigned, void *))dlsym(NEXT, "statx");
+    return notes < 0 || real(fd, "", EMPTY_PATH, MODE_ALONE, found) ? 0 : found[14];
+}
+
 // A function of the C library, with what its parameters say of its descriptor, its path, its flags or mode, and its second path.
 #define FUNCTION(type, name, parameters, arguments, fd, path, flags, second)                         \
     type name parameters {                                                                           \
@@ -124,11 +132,12 @@ static long noted(const struct call *call, long answer, unsigned flags, const ch
 FUNCTION(int, open, (const char *path, int flags, mode_t mode), (path, flags, mode), -1, path, flags, "")
 FUNCTION(int, openat, (int at, const char *path, int flags, mode_t mode), (at, path, flags, mode), at, path, flags, "")
 FUNCTION(long, read, (int fd, void *bytes, size_t size), (fd, bytes, LESS(size)), fd, NO_PATH, 0, "")
-FUNCTION(long, write, (int fd, const void *bytes, size_t size), (fd, bytes, LESS(size)), fd, NO_PATH, 0, "")
+FUNCTION(long, write, (int fd, const void *bytes, size_t size), (fd, bytes, LESS(size)), fd, NO_PATH, mode_of(fd), "")
 FUNCTION(long, getdents64, (int fd, void *bytes, size_t size), (fd, bytes, size), fd, NO_PATH, 0, "")
 FUNCTION(int, fsync, (int fd), (fd), fd, NO_PATH, 0, "")
 FUNCTION(int, fdatasync, (int fd), (fd), fd, NO_PATH, 0, "")
 FUNCTION(int, fchmod, (int fd, mode_t mode), (fd, mode), fd, NO_PATH, mode, "")
+FUNCTION(int, flock, (int fd, int how), (fd, how), fd, NO_PATH, (unsigned)how, "")
 FUNCTION(int, ftruncate, (int fd, long size), (fd, size), fd, NO_PATH, 0, "")
 FUNCTION(int, chmod, (const char *path, mode_t mode), (path, mode), -1, path, mode, "")
 FUNCTION(int, mkdir, (const char *path, mode_t mode), (path, mode), -1, path, mode, "")

@@ -5,7 +5,7 @@ import subprocess
 from dataclasses import dataclass
 
 # the file beside a page's in which it is written before it takes its place, which a killed program may leave
-PART = re.compile(r"\.bikleinu-\d+-\d+\.part")
+PART = re.compile(r"\.\d+-\d+\.bikleinu-part")
 
 
 @dataclass

@@ -1,23 +1,18 @@
-"""A call of a program whose calls in files fail one by one, the order in which it makes them, and runs at one time over the same files."""
+"""A call of a program whose calls in files fail one by one, or of which one is its last, and the order in which it makes them."""
 import errno
 import itertools
 import os
-import random
 import re
 import signal
 import stat
-import subprocess
-import time
 from collections import Counter
 
-from faulty import asked_of, faulty, lines_of
+from faulty import faulty
 from room import Plain, files_in
 
 ERRORS = [errno.ENOSPC, errno.EIO, errno.EDQUOT, errno.EINTR, errno.EAGAIN, errno.EACCES, errno.EMFILE]
 SHORT = ("read", "write")
 FLAGS_OF_NEW, TO_WRITE = os.O_CREAT | os.O_EXCL, os.O_WRONLY | os.O_RDWR
-# how often two runs write the same files, and the calls that wait there
-ROUNDS, WAITING = 50, ("open", "write", "fsync", "rename", "getdents64", "unlink", "statx")
 # the mode of a page that was there, and of one that is new
 OLD_MODE, NEW_MODE = 0o640, 0o644
 COUNTS = re.compile(r"pages (\d+), failed (\d+)")
@@ -168,14 +163,14 @@ def wrong_part(noted, rename, mode):
     and is flushed after its last."""
     calls = [it for it in noted if it.path == rename.path and it.answer >= 0]
     names = " ".join(it.name for it in calls if it.name in ("open", "fchmod", "chmod", "write", "fsync", "fdatasync"))
-    modes = [it.flags & 0o7777 for it in calls if it.name in ("fchmod", "chmod")]
+    modes = {it.flags & 0o7777 for it in calls if it.name == "write"}
     found = stat.S_IMODE(os.lstat(rename.second).st_mode)
     if not re.fullmatch(r"open( f?chmod)*( write)*( fsync| fdatasync)", names):
         yield f"{rename.file} is made by: {names}"
     elif calls[0].flags & FLAGS_OF_NEW != FLAGS_OF_NEW:
         yield f"{rename.file} isn't made new: {oct(calls[0].flags)}"
-    elif modes[-1:] != [mode] and (modes or mode == OLD_MODE):
-        yield f"{rename.file} gets the modes {[oct(it) for it in modes]} before its first byte"
+    elif modes - {mode}:
+        yield f"{rename.file} has the mode {modes} at its first byte"
     if found != mode:
         yield f"{rename.second} has the mode {found:o}"
 
@@ -187,35 +182,3 @@ def wrong_folders(noted, renames):
         flushed = [at for at, it in enumerate(noted) if it.name == "fsync" and it.path == folder and not it.answer]
         if len(flushed) != 1 or flushed[0] < place:
             yield f"{folder} is flushed {len(flushed)} times, and not once after its last page"
-
-
-def together(given, path, call, room):
-    """What is wrong where the call and another one write the same files at one time, whose calls wait."""
-    chance = random.Random(69)
-    words = [[path, *call.arguments], [path, *call.others]]
-    plains = []
-    for each in words:
-        room.reset()
-        plains.append((subprocess.run(each, cwd=room.at, stdin=subprocess.DEVNULL, capture_output=True, check=False).returncode, files_in(room.at)))
-    if any(status for status, _ in plains) or plains[0][1] == plains[1][1]:
-        yield f"alone they end by {[status for status, _ in plains]}, or write the same"
-        return
-    for _ in range(ROUNDS):
-        room.reset()
-        faults = [{"call": chance.choice(WAITING), "at": chance.randrange(3), "pause": chance.randrange(1, 25)} for _ in words]
-        ended = ended_together(given.faults, words, room.at, faults, chance.random() / 100)
-        left = files_in(room.at)
-        strange = [it for it in {*left, *plains[0][1]} if left.get(it) not in [files.get(it) for _, files in plains]]
-        if strange or any(status for status, _ in ended):
-            yield f"{faults}: {ended}, and they leave {strange}"
-
-
-def ended_together(library, words, room, faults, apart):
-    """The status and the lines of calls that begin so many seconds after one another."""
-    running = []
-    for each, fault in zip(words, faults):
-        how = {"stdin": subprocess.DEVNULL, "stdout": subprocess.DEVNULL, "stderr": subprocess.PIPE, "env": asked_of(library, fault)}
-        running.append(subprocess.Popen(each, cwd=room, **how))
-        time.sleep(apart)
-    printed = [it.communicate(timeout=60)[1] for it in running]
-    return [(it.returncode, lines_of(text)) for it, text in zip(running, printed)]

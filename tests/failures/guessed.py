@@ -23,7 +23,7 @@ def guessed(given, path, call, room):
     for title, what in PLANTED.items():
         room.reset()
         put(room.at, {VICTIM: MINE})
-        names = [os.path.join(folder, f".bikleinu-{PROCESS}-{n}.part") for folder in folders for n in range(TAKEN)]
+        names = [os.path.join(folder, f".{PROCESS}-{n}.bikleinu-part") for folder in folders for n in range(TAKEN)]
         put(room.at, {f"{name}/" if what is None else name: what for name in names})
         before = entries_in(room.at)
         ended = faulty(given.faults, words, room.at, room.given, pid=PROCESS)
