@@ -26,9 +26,10 @@ def counted(pages, failed=0):
     return f"pages {pages}, failed {failed}"
 
 
-def merged(title, ids, files, left, refused=(), pattern="m/{{ id }}", more=""):
-    """A merge of which the records of these numbers have no page, each told by one line."""
-    errors = [f"error: record {number}: " for number in refused] + [counted(len(ids) - len(refused), len(refused))]
+def merged(title, ids, files, left, refused=(), pattern="m/{{ id }}", more="", words=f"the file `%s` {WRITE}: "):
+    """A merge of which the records of these numbers have no page, each told by one line with the name of its file."""
+    errors = [f"error: record {number}: {words % pattern.replace('{{ id }}', ids[number - 1])}" for number in refused]
+    errors.append(counted(len(ids) - len(refused), len(refused)))
     return case(title, f"merge t r -o '{pattern}'{more}", {"t": "{{ id }}.", "r": lines(*ids), **files}, left, 1 if refused else 0, tuple(errors))
 
 
@@ -68,6 +69,8 @@ def mode_cases():
         merged("pages keep modes", ["a", "b", "c"], {"m/a": Of(0o600, OLD), "m/b": Of(0o640, OLD)}, {"m/a": Of(0o600, "a."), "m/b": Of(0o640, "b."), "m/c": Of(0o644, "c.")}),
         case("one more name of the file keeps its text", "render t d -o x", {**PAGE, "x": OLD, "y": Hard("x")}, {"x": "Ada"}),
         case("a page through a link", "render t d -o m/x", {**PAGE, "a": Of(0o600, OLD), "m/x": Link("../a")}, {"a": Of(0o600, "Ada")}),
+        case("a page through a link to a file that isn't there", "render t d -o l", {**PAGE, "l": Link("a")}, {"a": "Ada"}),
+        case("a page through a link to standard output", "render t d -o /dev/stdout", PAGE, out="Ada"),
     ]
 
 
@@ -123,12 +126,12 @@ def into_cases():
         refused(f"{front}: the folder above", "merge t r -o '../x/{{ id }}'", both, 2),
         refused(f"{front}: one of two", "merge t r -o 'a/../../{{ id }}'", both, 2),
         refused(f"{front}, without a page", "merge t r -o '/abs/{{ id }}' --dry-run", both, 2),
-        merged("names of a record from the root and above", ["/a", "../a", "a/../../b", "b"], {}, {"m/b": "b."}, (1, 2, 3)),
+        merged("names of a record from the root and above", ["/a", "../a", "a/../../b", "b"], {}, {"m/b": "b."}, (1, 2, 3), words="the name of its file is `%s`"),
         case("pages into a folder", "merge t r --into m -o '{{ id }}.eml'", both, {"m/a.eml": "a.", "m/b.eml": "b."}, errors=(counted(2),)),
         case("pages into a folder above", "merge t r --into ./m/../n -o 'x/{{ id }}'", {**both, "m/": ""}, {"n/x/a": "a.", "n/x/b": "b."}, errors=(counted(2),)),
         refused("a folder without a pattern", "merge t r --into m", both, 2),
         refused("a folder of no name", "merge t r --into '' -o '{{ id }}'", both, 2),
-        case("a link that leaves the folder", "merge t r --into m -o '{{ id }}'", {"t": "{{ id }}.", "r": lines("sub/x", "in/x", "y"), **linked}, {"m/deep/x": "in/x.", "m/y": "y."}, 1, ("error: record 1: ", counted(2, 1))),
+        case("a link that leaves the folder", "merge t r --into m -o '{{ id }}'", {"t": "{{ id }}.", "r": lines("sub/x", "in/x", "y"), **linked}, {"m/deep/x": "in/x.", "m/y": "y."}, 1, (f"error: record 1: the file `sub/x` {WRITE}: ", counted(2, 1))),
         case("a folder that is a link", "merge t r --into m -o '{{ id }}'", {**both, "m": Link("n"), "n/": ""}, {"n/a": "a.", "n/b": "b."}, errors=(counted(2),)),
         refused("a file in place of the folder", "merge t r --into t -o '{{ id }}'", both),
     ]

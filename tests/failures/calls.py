@@ -82,6 +82,7 @@ IN_FILES = [
     Call("a page in a file", "bikleinu render t d -p parts -o m/p", {**PAGE, "m/p": "old", f"m/{DEAD}": "dea"}, prints=False),
     Call("a page in a file that isn't there", "bikleinu render t d -p parts -o p", PAGE, prints=False),
     Call("pages in files", "bikleinu merge t r -d d -p parts -o 'm/{{ id }}'", {**PAGE, "r": FEW_RECORDS, "m/2": "old", f"m/{DEAD}": "dea"}, prints=False, merges=True),
+    Call("pages in the folder of the call", "bikleinu merge t r -d d -p parts -o '{{ id }}'", {**PAGE, "r": FEW_RECORDS, "2": "old", DEAD: "dea"}, prints=False, merges=True),
     Call("a site", "liquid_folder site site/data out", SMALL_SITE, prints=False, within="out"),
 ]
 

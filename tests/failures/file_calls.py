@@ -52,6 +52,9 @@ def file_calls(given, path, call, room):
     """What is wrong where a call of a function in files fails."""
     plain, noted = plain_of(given.faults, path, call, room)
     words = [path, *call.arguments]
+    if plain.status:
+        yield f"alone it ends by status {plain.status}: {plain.printed}"
+        return
     yield from (f"{part} stays, of a run that was killed" for part in call.dead if part in plain.left)
     for fault in faults_of(noted, call.within, given.every):
         room.reset()
