@@ -89,8 +89,9 @@ IN_FILES = [
 # calls that write the same files as another one at the same time: of each file one is longer than the other
 BESIDE = {"t": LINES, "u": "{{ name }} is alone", "d": DATA, "r": "".join(f'{{"id": {n}}}\n' for n in range(4))}
 TWO = [
-    Call("a page in a file", "bikleinu render t d -o p", {**BESIDE, "p": "old"}, beside="bikleinu render u d -o p"),
-    Call("pages in files", "bikleinu merge t r -d d -o 'm/{{ id }}'", BESIDE, beside="bikleinu merge u r -d d -o 'm/{{ id }}'"),
+    Call("a page in a file", "bikleinu render t d -o m/p", {**BESIDE, "m/p": "old", f"m/{DEAD}": "dea"}, beside="bikleinu render u d -o m/p"),
+    Call("pages in files", "bikleinu merge t r -d d -o 'm/{{ id }}'", {**BESIDE, "m/1": "old", f"m/{DEAD}": "dea"}, beside="bikleinu merge u r -d d -o 'm/{{ id }}'"),
+    Call("pages in a folder that isn't there", "bikleinu merge t r -d d -o 'm/{{ id }}'", BESIDE, beside="bikleinu merge u r -d d -o 'm/{{ id }}'"),
     Call("a site", "liquid_folder site d out", {"d": DATA, **{f"site/pages/{n}": LINES for n in "ab"}, **{f"sight/pages/{n}": "{{ name }}" for n in "ab"}}, beside="liquid_folder sight d out"),
 ]
 

@@ -4,8 +4,9 @@ import re
 import subprocess
 from dataclasses import dataclass
 
-# the file beside a page's in which it is written before it takes its place, which a killed program may leave
-PART = re.compile(r"\.\d+-\d+\.bikleinu-part")
+# how many seconds a call may take, and the file beside a page's in which it is written before it takes its place, which a killed program
+# may leave
+LONGEST, PART = 20, re.compile(r"\.\d+-\d+\.bikleinu-part")
 
 
 @dataclass
@@ -44,8 +45,11 @@ def asked_of(library, faults):
 
 
 def faulty(library, words, room, given=subprocess.DEVNULL, **faults):
-    """Makes a call in the folder. A pipe that nobody reads would stop it for ever, so it has a minute."""
-    done = subprocess.run(words, cwd=room, stdin=given, capture_output=True, timeout=60, env=asked_of(library, faults))
+    """Makes a call in the folder. One that waits for a pipe, or a lock, has no status."""
+    try:
+        done = subprocess.run(words, cwd=room, stdin=given, capture_output=True, timeout=LONGEST, env=asked_of(library, faults))
+    except subprocess.TimeoutExpired:
+        return Ended(b"", ["it doesn't end"], None, [])
     return Ended(done.stdout, lines_of(done.stderr), done.returncode, noted_in(faults["notes"]) if "notes" in faults else [])
 
 

@@ -6,7 +6,7 @@ import subprocess
 import time
 from collections import Counter
 
-from faulty import asked_of, faulty, lines_of
+from faulty import LONGEST, asked_of, faulty, lines_of
 from room import files_in
 
 # how often both run at one time, and the calls that wait there
@@ -32,9 +32,19 @@ class Two:
         how = {"stdin": subprocess.DEVNULL, "stdout": subprocess.DEVNULL, "stderr": subprocess.PIPE, "env": asked_of(self.library, fault)}
         return subprocess.Popen(words, cwd=self.room.at, **how)
 
+    def printed(self, running):
+        running.send_signal(signal.SIGCONT)
+        return running.communicate(timeout=LONGEST)[1]
+
     def wrong_end(self, running):
-        """What is wrong once both have ended."""
-        printed = [it.communicate(timeout=60)[1] for it in running]
+        """What is wrong once both have ended, one after another, where the latter may stand until then."""
+        try:
+            printed = [self.printed(it) for it in running]
+        except subprocess.TimeoutExpired:
+            return "they don't end"
+        finally:
+            for it in running:
+                it.kill()
         left, names = files_in(self.room.at), {*self.alone[0], *self.alone[1]}
         strange = [name for name in {*left, *names} if left.get(name) not in [files.get(name) for files in self.alone]]
         if strange or any(it.returncode for it in running):
@@ -70,9 +80,7 @@ def within(given, path, call, room):
                 yield f"{name} {at}: it doesn't come so far"
                 continue
             second = two.start(two.words[1], {})
-            second.wait(timeout=60)
-            first.send_signal(signal.SIGCONT)
-            if wrong := two.wrong_end([first, second]):
+            if wrong := two.wrong_end([second, first]):
                 yield f"the first stands at {name} {at}: {wrong}"
 
 
