@@ -1,6 +1,7 @@
 """The cases of files that `bikleinu` writes, for tests/bikleinu/run: what stands at a name before, what is never written, and which names
 a record may have."""
 import os
+import shlex
 
 from entries import DEVICE, PIPE, SOCKET, Hard, Link, Of
 
@@ -36,6 +37,12 @@ def merged(title, ids, files, left, refused=(), pattern="m/{{ id }}", more="", w
 def refused(title, words, files, status=1):
     """A call that writes nothing and tells why by one line."""
     return case(title, words, files, status=status, errors=("error: ",))
+
+
+def kept(title, words, files):
+    """A call whose page would come into a file that the call reads."""
+    path = shlex.split(words)[-1]
+    return case(title, words, files, status=1, errors=(f"error: {path}: it {WRITE}: ",))
 
 
 def part_cases():
@@ -77,20 +84,20 @@ def mode_cases():
 def source_cases():
     page, parts = {**PAGE, "e": '{"a": 1}', "f": "{{ name }}"}, {**PAGE, "t": "{% include 'foot' %}", "parts/foot": "{{ name }}"}
     return [
-        refused("a page over its template", "render t d -o t", page, 2),
-        refused("a page over its data", "render t d -o d", page, 2),
-        refused("a page over more data", "render t d -d e -o e", page, 2),
-        refused("a page over data of a name", "render t d -d x=e -o e", page, 2),
-        refused("a page over a partial", "render t d -p foot=f -o f", page, 2),
-        refused("a page over a partial of a folder", "render t d -p parts -o parts/foot", parts),
-        refused("a page over its template by another path", "render t d -o ./l/../t", {**page, "l/": ""}),
-        refused("a page over its template in a folder that is linked", "render t d -o l/t", {**page, "l": Link(".")}),
-        refused("a page over its template that is read by a link", "render l d -o t", {**page, "l": Link("t")}),
-        refused("a page through a link to its template", "render t d -o l", {**page, "l": Link("t")}),
-        refused("a page through a link to its data", "render t d -o l", {**page, "l": Link("d")}),
-        refused("a page over one more name of its template", "render t d -o h", {**page, "h": Hard("t")}),
-        refused("pages over the template", "merge t r -o t", {"t": "{{ id }}", "r": lines("a")}, 2),
-        refused("pages over the records", "merge t r -o r", {"t": "{{ id }}", "r": lines("a")}, 2),
+        kept("a page over its template", "render t d -o t", page),
+        kept("a page over its data", "render t d -o d", page),
+        kept("a page over more data", "render t d -d e -o e", page),
+        kept("a page over data of a name", "render t d -d x=e -o e", page),
+        kept("a page over a partial", "render t d -p foot=f -o f", page),
+        kept("a page over a partial of a folder", "render t d -p parts -o parts/foot", parts),
+        kept("a page over its template by another path", "render t d -o ./l/../t", {**page, "l/": ""}),
+        kept("a page over its template in a folder that is linked", "render t d -o l/t", {**page, "l": Link(".")}),
+        kept("a page over its template that is read by a link", "render l d -o t", {**page, "l": Link("t")}),
+        kept("a page through a link to its template", "render t d -o l", {**page, "l": Link("t")}),
+        kept("a page through a link to its data", "render t d -o l", {**page, "l": Link("d")}),
+        kept("a page over one more name of its template", "render t d -o h", {**page, "h": Hard("t")}),
+        merged("pages over the template", ["a"], {}, {}, (1,), "t"),
+        merged("pages over the records", ["a"], {}, {}, (1,), "r"),
         merged("records named as the template and the records", ["t", "a", "r"], {}, {"a": "a."}, (1, 3), "{{ id }}"),
         merged("records named as data and partials", ["d", "parts/foot", "e", "f", "a"], {**page, **parts, "t": "{{ id }}."}, {"a": "a."}, (1, 2, 3, 4), "{{ id }}", " -d d -d x=e -p parts -p y=f"),
         merged("a record named as the template in a folder that is linked", ["l/t", "a"], {"l": Link(".")}, {"a": "a."}, (1,), "{{ id }}"),

@@ -11,7 +11,7 @@ from faulty import faulty
 from room import Plain, files_in
 
 ERRORS = [errno.ENOSPC, errno.EIO, errno.EDQUOT, errno.EINTR, errno.EAGAIN, errno.EACCES, errno.EMFILE]
-SHORT = ("read", "write")
+SHORT, NEEDED = ("read", "write"), ("open", "write", "fsync", "rename")
 FLAGS_OF_NEW, TO_WRITE = os.O_CREAT | os.O_EXCL, os.O_WRONLY | os.O_RDWR
 # the mode of a page that was there, and of one that is new
 OLD_MODE, NEW_MODE = 0o640, 0o644
@@ -56,9 +56,11 @@ def file_calls(given, path, call, room):
         yield f"alone it ends by status {plain.status}: {plain.printed}"
         return
     yield from (f"{part} stays, of a run that was killed" for part in call.dead if part in plain.left)
+    told = Counter()
     for fault in faults_of(noted, call.within, given.every):
         room.reset()
         ended = faulty(given.faults, words, room.at, room.given, path=call.within, **fault)
+        told[fault["call"]] += ended.status == 1
         wrong = wrong_end(plain, call, room, ended, fault)
         if not wrong:
             room.given.seek(0)
@@ -66,6 +68,7 @@ def file_calls(given, path, call, room):
             wrong = [f"called again it leaves {unlike}" for unlike in room.unlike_files(plain)]
         if wrong:
             yield f"{shown(fault)}: {wrong[0]}"
+    yield from (f"no {name} that fails is told" for name in NEEDED if not told[name])
 
 
 def ended_at(given, path, call, room):
