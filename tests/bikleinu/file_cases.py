@@ -144,7 +144,7 @@ def into_cases():
         refused("a folder of no name", "merge t r --into '' -o '{{ id }}'", both, 2),
         case("a link that leaves the folder", "merge t r --into m -o '{{ id }}'", {"t": "{{ id }}.", "r": lines("sub/x", "in/x", "y"), **linked}, {"m/deep/x": "in/x.", "m/y": "y."}, 1, (f"error: record 1: the file `sub/x` {WRITE}: ", counted(2, 1))),
         case("a folder that is a link", "merge t r --into m -o '{{ id }}'", {**both, "m": Link("n"), "n/": ""}, {"n/a": "a.", "n/b": "b."}, errors=(counted(2),)),
-        refused("a file in place of the folder", "merge t r --into t -o '{{ id }}'", both),
+        case("a file in place of the folder", "merge t r --into t -o '{{ id }}'", both, status=1, errors=("error: t",)),
     ]
 
 

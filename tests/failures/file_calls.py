@@ -105,7 +105,7 @@ def wrong_end(plain, call, room, ended, fault):
         return wrong_without_word(plain, call, room, ended, fault)
     if ended.status != 1 or not told or (len(told) > 1 and is_alone(fault)):
         return [f"status {ended.status}, and it prints {ended.printed[-3:]}"]
-    return wrong_merge(plain, room, ended) if call.merges else []
+    return wrong_merge(plain, room, ended, fault) if call.merges else []
 
 
 def is_alone(fault):
@@ -123,11 +123,11 @@ def wrong_without_word(plain, call, room, ended, fault):
     return []
 
 
-def wrong_merge(plain, room, ended):
+def wrong_merge(plain, room, ended, fault):
     """What is wrong with a merge in which a call failed: a record stops no other, but for a full disk, and what is counted is there."""
     pages, failed = counts_of(ended.printed)
     if pages is None:
-        return [f"it ends without a reason: {ended.printed}"] if len(told_in(plain, ended)) != 1 else []
+        return [f"it counts nothing: {ended.printed}"] if len(told_in(plain, ended)) > 1 and is_alone(fault) else []
     lacking = [it for it in room.unlike_files(plain) if it not in room.call.dead]
     if pages + failed != sum(counts_of(plain.printed)) or len(lacking) > failed:
         return [f"it counts {ended.printed[-1]}, and leaves {lacking}"]
