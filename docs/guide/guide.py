@@ -3,26 +3,29 @@ stand on it."""
 import json
 import os
 import re
+import shlex
 import subprocess
 import tempfile
 from dataclasses import dataclass, field
 
 HERE = os.path.dirname(os.path.abspath(__file__))
 TOP = os.path.dirname(os.path.dirname(HERE))
-PROGRAM = f"{TOP}/crates/liquid_page/out/liquid_page"
+PROGRAM = f"{TOP}/crates/bikleinu/out/bikleinu"
 STANDARD = f"{TOP}/crates/liquid_tags/specs/Standard.antt"
 FILTER_KINDS = f"{TOP}/crates/liquid_filters/specs/Kinds.antt"
 
 # what an entry and its parts must hold, and what they may hold besides
 ENTRY = {"name", "kind", "set", "form", "summary", "arguments", "examples", "mistakes"}, {"title", "notes"}
 ARGUMENT = {"name", "what"}, {"default"}
-EXAMPLE = {"title", "template"}, {"data", "partials", "page", "fault", "program"}
+EXAMPLE = {"title", "template"}, {"data", "partials", "options", "page", "fault"}
 FAULT = {"kind", "comes", "what", "mend"}, {"template", "data", "partials"}
-MISTAKE = {"why", "wrong", "right", "page"}, {"data", "partials", "wrong_page", "fault"}
+TASK = {"id", "title", "template", "page", "trap"}, {"data", "partials", "options"}
+MISTAKE = {"why", "wrong", "right", "page"}, {"data", "partials", "options", "wrong_page", "fault"}
 KINDS = ["basics", "tag", "block", "filter"]
 # where a text may be a list of its lines
 LINES = {"form", "template", "page", "wrong", "wrong_page", "right"}
-PRINTED = re.compile(r"error: (\w+)(?:: .*)?\n", re.S)
+# the kind of a fault, after the name of the file that it is in
+PRINTED = re.compile(r"error: [\w.]+: (\w+): .*\n", re.S)
 
 
 @dataclass
@@ -36,6 +39,7 @@ class Case:
     fault: str = None
     data: dict = field(default_factory=dict)
     partials: dict = field(default_factory=dict)
+    options: list = field(default_factory=list)
 
 
 def read_json(path):
@@ -76,7 +80,7 @@ def read_entry(name):
         must_hold(argument, ARGUMENT, f"{name}: an argument")
     for example in entry["examples"]:
         must_hold(example, EXAMPLE, f"{name}: an example")
-        must_answer(example.get("program", example), {"page", "fault"}, f"{name}: an example")
+        must_answer(example, {"page", "fault"}, f"{name}: an example")
     for mistake in entry["mistakes"]:
         must_hold(mistake, MISTAKE, f"{name}: a mistake")
         must_answer(mistake, {"wrong_page", "fault"}, f"{name}: a mistake")
@@ -101,6 +105,12 @@ def read_guide():
     guide["faults"] = read_json(f"{HERE}/faults.json")["faults"]
     for fault in guide["faults"]:
         must_hold(fault, FAULT, fault["kind"])
+    guide["parts"] = read_json(f"{HERE}/howto.json")["parts"]
+    for part in guide["parts"]:
+        for task in part["tasks"]:
+            must_hold(task, TASK, task.get("id"))
+        part["tasks"] = [with_whole_texts(task) for task in part["tasks"]]
+    guide["words"] = read_json(f"{HERE}/words.json")
     # what a word in a sentence may be a link to
     guide["names"] = [entry["id"] for entry in entries(guide) if entry["kind"] != "basics"] + [one["kind"] for one in guide["faults"]]
     return guide
@@ -110,36 +120,40 @@ def entries(guide):
     return [entry for group in guide["groups"] for entry in group["entries"]]
 
 
-def example_case(entry, example):
-    """Where a host is needed, the program answers what `program` says, and not the page."""
-    answer = example.get("program", example)
-    given = {name: example[name] for name in ("data", "partials") if name in example}
-    return Case(entry["id"], example["title"], example["template"], answer.get("page", ""), answer.get("fault"), **given)
+def tasks(guide):
+    return [task for part in guide["parts"] for task in part["tasks"]]
 
 
-def mistake_cases(entry, mistake):
-    given = {name: mistake[name] for name in ("data", "partials") if name in mistake}
-    wrong = Case(entry["id"], f"wrong: {mistake['why']}", mistake["wrong"], mistake.get("wrong_page", ""), mistake.get("fault"), **given)
-    right = Case(entry["id"], f"right: {mistake['why']}", mistake["right"], mistake["page"], **given)
-    return [wrong, right]
+def given(part):
+    """What the program is given besides the template."""
+    return {name: part[name] for name in ("data", "partials", "options") if name in part}
+
+
+def example_case(name, example):
+    return Case(name, example["title"], example["template"], example.get("page", ""), example.get("fault"), **given(example))
+
+
+def mistake_cases(name, mistake):
+    wrong = Case(name, f"wrong: {mistake['why']}", mistake["wrong"], mistake.get("wrong_page", ""), mistake.get("fault"), **given(mistake))
+    return [wrong, Case(name, f"right: {mistake['why']}", mistake["right"], mistake["page"], **given(mistake))]
 
 
 def cases(guide):
-    """Every template of the guide."""
-    found = []
+    """Every template of the guide but those of faults."""
+    found = [example_case(f"how-{task['id']}", task) for task in tasks(guide)]
     for entry in entries(guide):
-        found += [example_case(entry, example) for example in entry["examples"]]
+        found += [example_case(entry["id"], example) for example in entry["examples"]]
         for mistake in entry["mistakes"]:
-            found += mistake_cases(entry, mistake)
+            found += mistake_cases(entry["id"], mistake)
     return found
 
 
 def fault_cases(guide):
     """The template of each fault that has one; what it writes before plays no part."""
-    return [Case(one["kind"], "its template", one["template"], None, one["kind"], one.get("data", {}), one.get("partials", {})) for one in guide["faults"] if "template" in one]
+    return [Case(one["kind"], "its template", one["template"], None, one["kind"], **given(one)) for one in guide["faults"] if "template" in one]
 
 
-def called(template, data, partials, program):
+def called(case, program):
     """How a call of the program ended."""
     with tempfile.TemporaryDirectory(prefix="guide-") as room:
         def put(name, text):
@@ -147,14 +161,15 @@ def called(template, data, partials, program):
                 file.write(text)
             return name
 
-        words = [program, put("template", template), put("data", json.dumps(data, ensure_ascii=False))]
-        words += [f"{name}={put(f'partial-{at}', text)}" for at, (name, text) in enumerate(partials.items())]
-        return subprocess.run(words, cwd=room, capture_output=True, timeout=60)
+        words = [program, "render", put("page.liquid", case.template), put("data.json", json.dumps(case.data, ensure_ascii=False))]
+        for at, (name, text) in enumerate(case.partials.items()):
+            words += ["-p", f"{name}={put(f'partial-{at}', text)}"]
+        return subprocess.run(words + case.options, cwd=room, capture_output=True, timeout=60)
 
 
-def rendered(template, data, partials, program=PROGRAM):
+def rendered(case, program=PROGRAM):
     """What the program writes, and the kind of the fault that it tells, if any."""
-    ran = called(template, data, partials, program)
+    ran = called(case, program)
     printed = ran.stderr.decode(errors="replace")
     page = ran.stdout.decode(errors="replace")
     if ran.returncode == 0 and not printed:
@@ -169,16 +184,14 @@ def read_template(name):
 
 
 def for_templates(guide, program):
-    """The guide with the data of each example as a text too, since a template can't write JSON, without missing names, and with
-    what the program tells of each fault."""
-    for entry in entries(guide):
-        for part in entry["examples"] + entry["mistakes"]:
-            part["data_text"] = data_text(part["data"]) if "data" in part else None
-            for answer in (part, part.get("program", {})):
-                answer.update({name: answer.get(name, absent) for name, absent in (("page", ""), ("wrong_page", ""), ("fault", None))})
+    """The guide with data and options as texts, without missing names, and with what the program tells of each fault."""
+    shown = [part for entry in entries(guide) for part in entry["examples"] + entry["mistakes"]]
+    for part in shown + tasks(guide) + guide["faults"]:
+        part["data_text"] = data_text(part["data"]) if "data" in part else None
+        part["options_text"] = shlex.join(part["options"]) if "options" in part else None
+        part.update({name: part.get(name, absent) for name, absent in (("page", ""), ("wrong_page", ""), ("fault", None))})
     for case, fault in zip(fault_cases(guide), [one for one in guide["faults"] if "template" in one]):
-        fault["data_text"] = data_text(case.data) if case.data else None
-        fault["printed"] = called(case.template, case.data, case.partials, program).stderr.decode(errors="replace")
+        fault["printed"] = called(case, program).stderr.decode(errors="replace")
     return guide
 
 
@@ -203,14 +216,15 @@ def pages(program=PROGRAM):
     guide = for_templates(read_guide(), program)
     names = sorted(name.removesuffix(".liquid") for name in os.listdir(f"{HERE}/templates/parts"))
     parts = {name: read_template(f"parts/{name}") for name in names}
-    wanted = {"README.md": ("index.md", guide), "faults.md": ("faults.md", guide), "guide.html": ("guide.html", guide)}
+    wanted = {"README.md": ("index.md", guide), "guide.html": ("guide.html", guide)}
+    wanted |= {f"{name}.md": (f"{name}.md", guide) for name in ("howto", "faults")}
     for group in guide["groups"]:
         wanted[f"{group['id']}.md"] = ("group.md", {"group": group})
     made = {}
     for name, (template, data) in wanted.items():
-        page, fault = rendered(read_template(template), data, parts, program)
+        page, fault = rendered(Case(name, template, read_template(template), None, None, data, parts, ["--decimals", "text"]), program)
         if fault:
-            raise SystemExit(f"guide: {template} ends by {fault}, behind {page[-200:]!r}")
+            raise SystemExit(f"guide: {template} ends by {fault}, after {page[-200:]!r}")
         made[name] = page
     return made
 

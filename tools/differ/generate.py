@@ -16,7 +16,7 @@ ITEM = re.compile(r"\s+|[A-Za-z_][\w-]*|[+-]?\d+|'[^']*'|\"[^\"]*\"|\{\{-?|\{%-?
 # data is read projected where it has so many bytes for each node
 BYTES_OF_A_NODE = 4096
 MOST_NODES = 60
-# one in so many cases of uses is about the bounds of docs/USES.md
+# one in so many cases of uses is about the bounds of docs/use/paths.md
 CROWDED = 16
 # members that nobody asks for, with which the data is refused or isn't
 UNSEEN = ('"zz": 1.5', '"zz": [1e999]', '"zz": {"a": -0}', '"zz": [1,]', '"zz": "\\ud800"', '"zz": 9223372036854775808', '"zz": [[[]], {}]', '"zz": 1.5, "zz": 1')

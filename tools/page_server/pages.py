@@ -3,6 +3,7 @@
 The worker renders one page after another and keeps nothing of a page. It refuses itself memory beyond its share (the engine then ends the
 page by `Memory`), and a page that takes too long ends with its worker: another one, made ahead, takes its place.
 """
+import contextlib
 import json
 import os
 import resource
@@ -37,6 +38,16 @@ def kept_small():
         now = int(file.read().split()[0]) * resource.getpagesize()
     resource.setrlimit(resource.RLIMIT_AS, (now + MEMORY, now + MEMORY))
     resource.setrlimit(resource.RLIMIT_CORE, (0, 0))
+
+
+def kept_apart(channel):
+    """This process keeps no connection of its server but the channel, and the server ends it."""
+    signal.signal(signal.SIGINT, signal.SIG_IGN)
+    for held in map(int, os.listdir("/proc/self/fd")):
+        if held > 2 and held != channel.fileno():
+            # the list's own is closed by now
+            with contextlib.suppress(OSError):
+                os.close(held)
 
 
 def rendered(asked):
@@ -75,6 +86,7 @@ def given(channel, what):
 
 def work(channel):
     """What a worker does, until its server is gone."""
+    kept_apart(channel)
     kept_small()
     while True:
         try:
@@ -96,7 +108,6 @@ class Worker:
         self.channel, theirs = socket.socketpair()
         self.process = os.fork()
         if not self.process:
-            self.channel.close()
             try:
                 work(theirs)
             except MemoryError:
@@ -130,6 +141,10 @@ class Pages:
         """The answer to a request, both of them as bytes of JSON."""
         if len(asked) > SOURCE:
             return self.refusal("Request", f"at most {SOURCE} bytes are taken")
+        if not self.ready:
+            self.refill()
+        if not self.ready:
+            return self.refusal("Ended", "no worker could be started")
         worker = self.ready[0]
         until = time.monotonic() + self.seconds
         why = "Time", f"the page took more than {self.seconds} seconds"
@@ -150,9 +165,11 @@ class Pages:
         return self.refusal(*why)
 
     def refill(self):
-        """Makes workers in the place of those that ended, for a server to call once it has answered: a fork takes milliseconds."""
-        while len(self.ready) < WORKERS:
-            self.ready.append(Worker())
+        """Makes workers in the place of those that ended, for a server to call once it has answered: a fork takes milliseconds. If the
+        system starts none, the next page tries again."""
+        with contextlib.suppress(OSError):
+            while len(self.ready) < WORKERS:
+                self.ready.append(Worker())
 
     @staticmethod
     def refusal(fault, message):

@@ -32,7 +32,7 @@ class Language(Owner):
             >>> language = bikleinu.Language()
             >>> @language.filter("money")
             ... def money(cents, currency="EUR"):
-            ...     return f"{cents // 100}.{cents % 100:02} {currency}"
+            ...     return f"{cents / 100:.2f} {currency}"
             >>> bikleinu.Template("{{ 1999 | money }}", language).render()
             '19.99 EUR'
         """

@@ -56,7 +56,8 @@ impl Language {
     /// language.filter("money", |input, arguments| {
     ///     let cents = input.as_integer().ok_or("cents are wanted")?;
     ///     let currency = arguments.first().and_then(Value::as_text).unwrap_or("EUR");
-    ///     Ok(format!("{}.{:02} {currency}", cents / 100, cents % 100).into())
+    ///     let (sign, cents) = (if cents < 0 { "-" } else { "" }, cents.unsigned_abs());
+    ///     Ok(format!("{sign}{}.{:02} {currency}", cents / 100, cents % 100).into())
     /// })?;
     /// let template = language.parse("{{ 1999 | money }}, {{ 5 | money: 'USD' }}")?;
     /// assert_eq!(template.render_text(&Data::none())?, "19.99 EUR, 0.05 USD");

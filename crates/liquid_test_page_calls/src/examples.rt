@@ -1,4 +1,4 @@
-//! The examples of the README of pages, each called by its name. The README shows their files.
+//! The examples of docs/use/rattle.md, each called by its name.
 mod host;
 mod jekyll;
 mod pages;

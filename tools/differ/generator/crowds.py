@@ -1,4 +1,4 @@
-"""Templates that ask for about as much of a name as docs/USES.md keeps apart, by a seed: parts, steps, filters and rounds."""
+"""Templates that ask for about as much of a name as docs/use/paths.md keeps apart, by a seed: parts, steps, filters and rounds."""
 
 LENGTHS = (1, 5, 20, 31, 32, 40)
 ENDS = ("", "", "", " | map: 't'", " | map: ''", " | size", " | compact", " | where: 't' | first", " | first | where: 't'", " | last | sort")

@@ -1,4 +1,4 @@
-"""Data completed by what a template asks for and the data lacks (docs/bikleinu/render.md, docs/DECISIONS.md)."""
+"""Data completed by what a template asks for and the data lacks (docs/use/render.md)."""
 from .uses import uses_of
 from .values import new_map
 

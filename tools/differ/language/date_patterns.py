@@ -1,4 +1,4 @@
-"""Patterns of dates: what each directive prints of a moment, and which are refused (docs/FILTERS.md)."""
+"""Patterns of dates: what each directive prints of a moment, and which are refused (docs/language/filters.md)."""
 import re
 from dataclasses import dataclass
 from typing import Optional

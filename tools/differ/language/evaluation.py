@@ -1,4 +1,4 @@
-"""The run of a template: what each node writes, stores and ends by (docs/MEANING.md)."""
+"""The run of a template: what each node writes, stores and ends by (docs/language/meaning.md)."""
 from . import tree
 from .environment import Environment
 from .expressions import evaluate, evaluate_chain, holds

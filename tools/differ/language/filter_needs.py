@@ -1,4 +1,4 @@
-"""What filters see of their input (docs/USES.md), by what is asked of the answer."""
+"""What filters see of their input (docs/use/paths.md), by what is asked of the answer."""
 from . import tree
 from .parts import NOTHING, THERE, WHOLE, Use
 from .values import whole

@@ -1,4 +1,4 @@
-"""All filters by their names, with the least and the greatest number of their arguments (docs/FILTERS.md)."""
+"""All filters by their names, with the least and the greatest number of their arguments (docs/language/filters.md)."""
 from . import date_filters, list_filters, number_filters, text_filters, web_filters
 from .faults import TooLong
 from .values import weight

@@ -1,4 +1,4 @@
-"""The filters of Jekyll's templates (docs/JEKYLL.md), over what the data says of the site."""
+"""The filters of Jekyll's templates (docs/use/jekyll.md), over what the data says of the site."""
 import re
 
 from . import items, lexer

@@ -1,4 +1,4 @@
-"""A source, cut into texts and pieces, and a piece into its items (docs/GRAMMAR.md)."""
+"""A source, cut into texts and pieces, and a piece into its items (docs/language/grammar.md)."""
 import re
 from dataclasses import dataclass, field, replace
 from typing import Optional

@@ -1,4 +1,4 @@
-"""Moments, and which texts are dates that write one (docs/FILTERS.md)."""
+"""Moments, and which texts are dates that write one (docs/language/filters.md)."""
 import re
 from dataclasses import dataclass
 from datetime import datetime, timedelta, timezone

@@ -1,4 +1,4 @@
-"""Amounts of money: the placeholders of a shop's settings, and formats with one of them (docs/SHOPIFY.md)."""
+"""Amounts of money: the placeholders of a shop's settings, and formats with one of them (docs/use/shopify.md)."""
 import re
 from dataclasses import dataclass
 

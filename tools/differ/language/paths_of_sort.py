@@ -1,4 +1,4 @@
-"""The path of Jekyll's sort: a word, then any of .word and [literal] (docs/FILTERS.md)."""
+"""The path of Jekyll's sort: a word, then any of .word and [literal] (docs/language/filters.md)."""
 import re
 
 from .faults import Fault

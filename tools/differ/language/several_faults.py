@@ -1,4 +1,4 @@
-"""Every fault of a source, and not the first alone (docs/bikleinu/check.md)."""
+"""Every fault of a source, and not the first alone (docs/use/check.md)."""
 from .faults import Fault
 from .parser import parse
 from .tags import VERBATIM

@@ -1,4 +1,4 @@
-"""The filters of Shopify's templates (docs/SHOPIFY.md), over what the data says of the shop."""
+"""The filters of Shopify's templates (docs/use/shopify.md), over what the data says of the shop."""
 import base64
 import binascii
 import hashlib

@@ -1,4 +1,4 @@
-"""What a template asks of its data (docs/USES.md): for each name that it mentions, which parts of the value."""
+"""What a template asks of its data (docs/use/paths.md): for each name that it mentions, which parts of the value."""
 import re
 
 from . import tree
@@ -21,7 +21,7 @@ class Finder:
         # what was asked of a name in the round before
         self.before = before
         self.found = {}
-        # the names that are asked for, set or bound (docs/MEANING.md, Mentioned names)
+        # the names that are asked for, set or bound (docs/language/meaning.md, Mentioned names)
         self.mentioned = set()
 
     def ask(self, name, use):

@@ -1,4 +1,4 @@
-//! Pages of a caller who names one crate. The README shows the first of them.
+//! Pages of a caller who names one crate. docs/use/rattle.md shows the first of them.
 use liquid_lib::stdlib::Upcase;
 use liquid_lib::{
     Counted, FilterKind, Language, Object, Page, Partials, Renderable, Result, Runtime,
