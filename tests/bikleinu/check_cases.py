@@ -62,8 +62,12 @@ def file_cases():
         case("an empty folder", "check f", {"f/": ""}, status=1, errors=("error: f: there is no file in this folder", *counted(0))),
         case("no folder of partials", "check t -p u", {"t": ""}, status=1, errors=("error: u: No such file or directory", *counted(1))),
         case("a file that isn't UTF-8", "check f", {"f/a": b"a\n\xff", "f/b": ""}, status=1, errors=("error: f/a: the file isn't UTF-8: line 2, column 1", *counted(1))),
-        case("what is no text in a folder is passed over", "check f", {"f/a.png": b"\x89PNG\0\xff", "f/b": ""}, errors=counted(1)),
+        case("what is no text in a folder is left out", "check f", {"f/a.png": b"\x89PNG\0\xff", "f/b": ""}, errors=("left out: f/a.png is no text: it has a byte 0", *counted(1))),
+        case("what is left out of two folders is told once", "check f -p f", {"f/a.png": b"\x89PNG\0\xff", "f/b": ""}, errors=("left out: f/a.png is no text: it has a byte 0", *counted(1))),
         case("what is no text by its name", "check f/a.png", {"f/a.png": b"\x89PNG\0\xff"}, status=1, errors=("error: f/a.png: the file isn't UTF-8: line 1, column 1", *counted(0))),
+        case("a time that is none, without data", "check t --now rubbish", {"t": ""}, status=2, errors=("error: --now wants a day or an instant of ISO 8601",)),
+        case("a time that is none, with data", "check t -d d --now rubbish", {"t": "", "d": "{}"}, status=2, errors=("error: --now wants a day or an instant of ISO 8601",)),
+        case("a time without data", "check t --now 2026-11-27", {"t": "{{ a }}"}, errors=counted(1)),
         case("data with a fault", "check t -d d", {"t": "", "d": "["}, status=1, errors=("error: d: InvalidInput: in the data: line 1, column ",)),
     ]
 
@@ -81,6 +85,7 @@ def partial_cases():
         case("a warning is no fault", "check t -p p", {"t": "{% render 'haed' %}", "p/head.html": "{% render 'head' %}"}, "t:1:1: warning: MissingPartial: no partial is named `haed`; did you mean `head`?\n  |\n1 | {% render 'haed' %}\n  | ^\np/head.html:1:1: warning: RecursivePartial: the partial `head` runs itself from here; a run ends where partials are 32 deep\n  |\n1 | {% render 'head' %}\n  | ^\n", errors=counted(2, 0, 2)),
         warned("no partial of the name", "t -p p", {"t": "{% include 'xyz' %}{% include 'a' %}", "p/a": ""}, warning("t", 1, 1, "MissingPartial", "no partial is named `xyz`"), 1, 2),
         warned("a render finds a name with .liquid, an include doesn't", "t -p a.liquid=x", {"t": "{% render 'a' %}{% include 'a' %}", "x": ""}, warning("t", 1, 17, "MissingPartial", "no partial is named `a`"), 1, 2),
+        warned("an empty folder of partials", "t -p p", {"t": "{% render 'x' %}", "p/": ""}, warning("t", 1, 1, "MissingPartial", "no partial is named `x`"), 1, 1),
         warned("no partials are given", "t", {"t": "{% include 'a' %}"}, "", 0),
         warned("a partial that nothing runs", "t -p p", {"t": "{% render 'a' %}", "p/a": "", "p/b": ""}, warning("p/b", 1, 1, "UnusedPartial", "none of the templates runs this partial"), 1, 3),
         warned("two files of one name", "t -p a=x -p a=y", {"t": "{% render 'a' %}", "x": "", "y": ""}, warning("x", 1, 1, "UnusedPartial", "none of the templates runs this partial"), 1, 3),

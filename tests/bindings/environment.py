@@ -11,13 +11,17 @@ import sys
 import tempfile
 import types
 import uuid
+import warnings
 from datetime import date, datetime, time, timedelta, timezone
 
 sys.dont_write_bytecode = True
 
 from checks import TOP, first, raises, report, same
 
+sys.path.insert(0, f"{TOP}/tests/bikleinu")
+
 import bikleinu
+from folders import random_folders
 from bikleinu import Data, DataError, Environment, LiquidError, Partials, Template
 
 Decimal = decimal.Decimal
@@ -301,6 +305,26 @@ def folder():
         return wrong or same(lambda: Partials.from_folder(room), message)
 
 
+def read_as_by_the_program(made):
+    """A folder's texts are partials, what is no text is left out with a warning for each, and what isn't UTF-8 is an error."""
+    with warnings.catch_warnings(record=True) as told:
+        warnings.simplefilter("always")
+        try:
+            found = sorted(Environment(partials=made.path).partials.sources)
+        except LiquidError:
+            found = None
+    if made.refused or found is None:
+        return bool(made.refused) and found is None
+    names = {*made.texts, *(inner.rpartition(".")[0] for inner in made.texts if "." in inner)}
+    return found == sorted(names) and sorted(str(it.message) for it in told) == made.lines(made.path)
+
+
+def odd_folders():
+    """Folders that are made at random are read as the program reads them (tests/bikleinu/folders.py)."""
+    wrong = [number for number, _, made in random_folders() if not read_as_by_the_program(made)]
+    return f"the folders {wrong}" if wrong else None
+
+
 def examples():
     """The examples of the docstrings."""
     names = [it[: -len(".py")] for it in os.listdir(bikleinu.__path__[0]) if it.endswith(".py") and not it.startswith("__")]
@@ -320,6 +344,7 @@ CHECKS = {
     "what the data lack": missing,
     "pickles": pickled,
     "partials of a folder": folder,
+    "folders of odd things": odd_folders,
     "examples of the docstrings": examples,
 }
 

@@ -2,6 +2,8 @@
 from __future__ import annotations
 
 import os
+import stat
+import warnings
 from collections.abc import Iterator, Mapping
 from difflib import get_close_matches
 from typing import Any, Union
@@ -35,10 +37,13 @@ class Partials(Shared):
     def from_folder(cls, folder: str | os.PathLike[str], language: Language | None = None) -> Partials:
         """The files below a folder, each by its path from there, as parts/line.liquid, and also without its suffix, as parts/line. A
         whole name counts before one that lost its suffix. What has a name that begins with a dot is passed over, and so is a link
-        to a folder."""
-        paths = sorted(_files(os.fspath(folder), ""), key=os.fsencode)
-        sources = {path: _source(os.path.join(folder, path), path) for path in paths}
-        stems = {stem: sources[path] for path in paths for stem in [_stem(path)] if stem}
+        to a folder below this one. Anything else but a regular file, a link that leads out of the folder or nowhere, a file with a
+        byte 0 and a name that isn't UTF-8 are left out, each with a warning."""
+        found = _Found(os.fspath(folder))
+        sources = {path: source for path, source in found.texts()}
+        stems = {stem: sources[path] for path in sources for stem in [_stem(path)] if stem}
+        for line in found.left_out:
+            warnings.warn(line, stacklevel=2)
         return cls({**stems, **sources}, language)
 
     def insert(self, name: str, source: str) -> None:
@@ -78,25 +83,98 @@ class Partials(Shared):
         return Partials, (self.sources, self._language)
 
 
-def _files(folder: str, inner: str) -> Iterator[str]:
-    """The paths of the files below a folder, from the folder on."""
-    with os.scandir(os.path.join(folder, inner)) as entries:
-        found = [entry for entry in entries if not entry.name.startswith(".")]
-    for entry in found:
-        if entry.is_dir(follow_symlinks=False):
-            yield from _files(folder, f"{inner}{entry.name}/")
-        elif not entry.is_dir():
-            yield f"{inner}{entry.name}"
+class _Found:
+    """The files below a folder, and a line for each thing that is left out of it."""
+
+    def __init__(self, folder: str) -> None:
+        self._folder = folder
+        self._real = os.path.realpath(folder)
+        self.left_out: list[str] = []
+
+    def texts(self) -> Iterator[tuple[str, str]]:
+        """The paths of the files from the folder on, in their order, and their texts."""
+        for inner in sorted(self._files(""), key=os.fsencode):
+            path = os.path.join(self._folder, inner)
+            with open(path, "rb") as file:
+                text = file.read()
+            if b"\0" in text:
+                self._leave_out(path, "is no text: it has a byte 0")
+            else:
+                yield inner, _decoded(path, text)
+
+    def _files(self, inner: str) -> Iterator[str]:
+        """The paths of the regular files, from the folder on."""
+        folder = os.path.join(self._folder, inner)
+        with os.scandir(folder) as entries:
+            found = sorted(entries, key=lambda entry: os.fsencode(entry.name))
+        if not all(_is_utf8(entry.name) for entry in found):
+            shown = _shown(folder.rstrip("/") or "/")
+            self.left_out.append(f"left out: a name in {shown} isn't UTF-8")
+        for entry in found:
+            if entry.name.startswith(".") or not _is_utf8(entry.name):
+                continue
+            if entry.is_dir(follow_symlinks=False):
+                yield from self._files(f"{inner}{entry.name}/")
+            elif self._is_file(entry):
+                yield f"{inner}{entry.name}"
+
+    def _is_file(self, entry: os.DirEntry[str]) -> bool:
+        """Whether it is a regular file below the folder. What is neither that nor a link to a folder there is left out."""
+        try:
+            mode = entry.stat().st_mode
+        except OSError as refused:
+            if not entry.is_symlink():
+                if isinstance(refused, FileNotFoundError):
+                    return False
+                raise
+            barred = isinstance(refused, PermissionError)
+            why = "is a link that you have no right to follow" if barred else "is a link that leads nowhere"
+        else:
+            why = self._leads(entry) or _kind(mode)
+            if not why:
+                return stat.S_ISREG(mode)
+        self._leave_out(entry.path, why)
+        return False
+
+    def _leads(self, entry: os.DirEntry[str]) -> str:
+        """Where a link leads that doesn't lead below the folder, and else nothing."""
+        if not entry.is_symlink():
+            return ""
+        target = os.path.realpath(entry.path)
+        if not _is_utf8(target) or not _is_utf8(self._real):
+            return "is a link to a path that isn't UTF-8"
+        is_below = os.path.commonpath([self._real, target]) == self._real
+        return "" if is_below else "is a link that leads out of the folder"
+
+    def _leave_out(self, path: str, why: str) -> None:
+        self.left_out.append(f"left out: {_shown(path)} {why}")
 
 
-def _source(path: str, name: str) -> str:
-    with open(path, "rb") as file:
-        text = file.read()
+def _shown(path: str) -> str:
+    """The path, in which nothing can be taken for another line."""
+    return path if path.isprintable() else repr(path)
+
+
+def _kind(mode: int) -> str:
+    """What is neither a file nor a folder."""
+    if stat.S_ISREG(mode) or stat.S_ISDIR(mode):
+        return ""
+    if stat.S_ISFIFO(mode):
+        return "is a pipe"
+    return "is a socket" if stat.S_ISSOCK(mode) else "is a device"
+
+
+def _is_utf8(name: str) -> bool:
     try:
         name.encode()
-        return text.decode()
     except UnicodeEncodeError:
-        raise LiquidError(NO_TEXT, "NoText", f"the name of the file {path!r} is no UTF-8") from None
+        return False
+    return True
+
+
+def _decoded(path: str, text: bytes) -> str:
+    try:
+        return text.decode()
     except UnicodeDecodeError as error:
         line = text.count(b"\n", 0, error.start) + 1
         raise LiquidError(NO_TEXT, "NoText", f"the file {path!r} is no UTF-8 in line {line}") from None

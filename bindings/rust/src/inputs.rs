@@ -39,7 +39,7 @@ impl fmt::Debug for Data {
 }
 
 /// Templates by name, for the tags `include` and `render`.
-pub struct Partials(pub(crate) Shared);
+pub struct Partials(pub(crate) Shared, pub(crate) Vec<String>);
 
 impl Partials {
     /// No partials.
@@ -51,7 +51,7 @@ impl Partials {
         let made = Owner::new();
         // SAFETY: the handle is an owner's.
         let number = unsafe { bikleinu_partials(made.at()) };
-        made.settled(number).map(|owner| Partials(Shared::new(owner)))
+        made.settled(number).map(|owner| Partials(Shared::new(owner), Vec::new()))
     }
 
     /// Puts a template at a name, in place of the one that stood there.

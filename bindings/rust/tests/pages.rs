@@ -154,6 +154,13 @@ fn partials_of_a_folder() -> Result<(), Box<dyn Error>> {
     let partials = Partials::from_folder(&room, &language)?;
     let page = language.parse("{% include 'a' %}{% include 'a.liquid' %}{% include 'b.html' %}{% render 'parts/line', x: 7 %}{% render 'c' %}")?;
     assert_eq!(page.render(&Data::none(), &partials, 32)?.into_text()?, "12374");
+    assert_eq!(partials.left_out(), <[String; 0]>::default());
+    std::os::unix::fs::symlink("nowhere", room.join("parts/away"))?;
+    std::os::unix::fs::symlink("/dev/null", room.join("out"))?;
+    std::fs::write(room.join("icon"), b"\0\xff")?;
+    let lines = [("icon", "is no text: it has a byte 0"), ("out", "is a link that leads out of the folder"), ("parts/away", "is a link that leads nowhere")];
+    let lines = lines.map(|(path, why)| format!("left out: {} {why}", room.join(path).display()));
+    assert_eq!(Partials::from_folder(&room, &language)?.left_out(), lines);
     std::fs::write(room.join("c.d"), "\n{{ x | pope }}")?;
     let fault = Partials::from_folder(&room, &language).unwrap_err().to_string();
     assert!(fault.starts_with("c: UnknownFilter: line 2, column 8: "), "{fault}");

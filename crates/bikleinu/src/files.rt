@@ -1,68 +1,133 @@
-//! The files of pages.
-ghost use Rattle.std.specs.Prelude.{◌≡◌, None};
+//! The files that pages go into.
+use liquid_command_files::{Sources, Stop};
+use liquid_commands::{Inputs, MergeCall};
+use liquid_disk::{Bounds, DiskFault, FileSystem, PageFiles, SystemFiles, hidden_names};
+use liquid_excerpts::ShownPath;
+use liquid_records::Disk;
+use std::alloc::AllocError;
+use std::process;
 
-use liquid_disk::put_file;
-use liquid_records::{Disk, DiskFault};
-use std::{fs, io};
+/// The files of the system, into which the pages of a call go.
+pub type SystemPages<'r> = PageFiles<SystemFiles<'r>>;
 
-/// The files of the system. That they are what reading them says, and hold what was written to
-/// them, is trusted.
-#[derive(Drop)]
-pub struct Files<'r> {
+/// The file of a page that the call names.
+pub fn page_file<'r>(
     rt: &'r HostRuntime,
-    /// Why the system last refused a file.
-    reason: Option<io::ErrorKind>,
+    inputs: &Inputs<'_>,
+    sources: &Sources,
+) -> Result<SystemPages<'r>, Stop> {
+    let bounds = Bounds {
+        front: String::new(rt.alloc()),
+        root: None,
+        hidden: usize::MAX,
+        makes_folders: false,
+    };
+    let mut files = PageFiles::new(
+        rt.alloc(),
+        SystemFiles::new(rt),
+        process::id(rt.process()),
+        bounds,
+    );
+    keep_sources(&mut files, inputs, sources)?;
+    Ok(files)
 }
 
-impl<'r> Files<'r> {
-    /// The files of the system, none of which was refused yet.
-    pub fn new(rt: &'r HostRuntime) -> Files<'r>
-        ensures { result.reason ≡ None }
-    {
-        Files { rt, reason: None }
-    }
+/// The files that the pattern of a merge names, in folders that are made if need be. No name leaves
+/// the folder that the call names or the pattern begins with.
+pub fn record_files<'r>(
+    rt: &'r HostRuntime,
+    call: &MergeCall<'_>,
+    pattern: &str,
+    sources: &Sources,
+) -> Result<SystemPages<'r>, Stop> {
+    let front = front_of(rt, call.into)?;
+    let root = root_of(rt, front.as_str(), pattern)?;
+    let bounds = Bounds {
+        hidden: hidden_names(front.as_str()).saturating_add(hidden_names(pattern)),
+        front,
+        root: Some(root),
+        makes_folders: true,
+    };
+    let mut files = PageFiles::new(
+        rt.alloc(),
+        SystemFiles::new(rt),
+        process::id(rt.process()),
+        bounds,
+    );
+    keep_sources(&mut files, &call.inputs, sources)?;
+    files.keep_source(path_of(call.records))?;
+    Ok(files)
+}
 
-    /// Why the system last refused a file.
-    pub fn reason(&self) -> Option<io::ErrorKind>
-        ensures { result ≡ self.now.reason }
-    {
-        self.reason
-    }
-
-    /// Puts a text into a file, in a folder that is made if need be.
-    fn put(&self, path: &str, text: &str) -> io::Result<()> {
-        let put = put_file(self.rt, path, text);
-        match (&put, path.rsplit_once('/')) {
-            (Err(refused), Some((folder, _))) if refused.kind() == io::ErrorKind::NotFound => {
-                fs::create_dir_all(self.rt, folder)?;
-                put_file(self.rt, path, text)
-            }
-            _ => put,
+/// Why a command ends that can't write the file of its page. A file that is never written is
+/// printed.
+pub fn unwritten(rt: &HostRuntime, path: &str, fault: DiskFault) -> Stop {
+    match fault {
+        DiskFault::Memory => Stop::from(AllocError),
+        DiskFault::Refused(kind) => Stop::unwritten(rt.alloc(), path, kind),
+        DiskFault::Protected(why) => {
+            let path = ShownPath { path };
+            let _ = eprintln!(rt; "error: {path}: it can't be written: {why}");
+            Stop::Faulted
         }
     }
 }
 
-impl Disk for Files<'_> {
-    fn read(&self, path: &str) -> Result<Option<String>, DiskFault> {
-        match fs::read_to_string(self.rt, path) {
-            Ok(text) => Ok(Some(text)),
-            Err(refused) => match refused.kind() {
-                io::ErrorKind::NotFound => Ok(None),
-                io::ErrorKind::OutOfMemory => Err(DiskFault::Memory),
-                _ => Err(DiskFault::Refused),
-            },
+/// What stands before the name of a page in its path: the folder with a slash after it.
+fn front_of(rt: &HostRuntime, into: Option<&str>) -> Result<String, Stop> {
+    let mut front = String::new(rt.alloc());
+    if let Some(folder) = into {
+        front.push_str(folder)?;
+        if !folder.ends_with('/') {
+            front.push('/')?;
         }
     }
+    Ok(front)
+}
 
-    fn write(&mut self, path: &str, text: &str) -> Result<(), DiskFault> {
-        match self.put(path, text) {
-            Ok(()) => Ok(()),
-            Err(refused) => {
-                self.reason = Some(refused.kind());
-                Err(DiskFault::Refused)
-            }
-        }
+/// The folder that no page leaves, which is made if need be: as far as the pattern names one before
+/// its first value.
+fn root_of(rt: &HostRuntime, front: &str, pattern: &str) -> Result<String, Stop> {
+    let written = pattern.split('{').next().unwrap_or("");
+    let folder = match written.rfind('/') {
+        Some(at) => written.get(..at).unwrap_or(""),
+        None => "",
+    };
+    let path = match (front.is_empty(), folder.is_empty()) {
+        (true, true) => String::from_str(rt.alloc(), ".")?,
+        _ => format!(in rt.alloc(); "{front}{folder}")?,
+    };
+    let mut system = SystemFiles::new(rt);
+    let found = system.make_folder(path.as_str());
+    match found {
+        Ok(()) => {}
+        Err(refused) => return Err(Stop::unwritten(rt.alloc(), path.as_str(), refused.kind())),
     }
+    match system.real_path(rt.alloc(), path.as_str()) {
+        Ok(root) => Ok(root),
+        Err(refused) => Err(Stop::unwritten(rt.alloc(), path.as_str(), refused.kind())),
+    }
+}
+
+/// Keeps every file that the call reads for a template, as it is.
+fn keep_sources(
+    files: &mut SystemPages<'_>,
+    inputs: &Inputs<'_>,
+    sources: &Sources,
+) -> Result<(), Stop> {
+    files.keep_source(path_of(inputs.template))?;
+    for file in inputs.data.as_slice() {
+        files.keep_source(path_of(file.path))?;
+    }
+    for source in sources.partials() {
+        files.keep_source(source.path.as_str())?;
+    }
+    Ok(())
+}
+
+/// Where a word of the command line leads: `-` is standard input.
+fn path_of(word: &str) -> &str {
+    if word == "-" { "/dev/stdin" } else { word }
 }
 
 /// A disk that takes every file and keeps none.

@@ -1,4 +1,5 @@
 //! The command `merge`.
+use crate::files::record_files;
 use crate::parts::{read_parts, read_pattern};
 use crate::progress::Progress;
 use crate::report::Report;
@@ -16,19 +17,28 @@ use std::{fs, io};
 /// where the disk is full, or where the records or standard output fail.
 pub fn merge(rt: &HostRuntime, call: &MergeCall<'_>) -> Result<(), Stop> {
     let (sources, job) = read_parts(rt, &call.inputs)?.into_job();
-    let mut target = target_of(rt, call, job)?;
+    let mut target = target_of(rt, call, &sources, job)?;
     let run = Run { rt, call, sources };
     run.merge_into(&mut target)
 }
 
 /// Where the pages of a merge go.
-fn target_of<'r>(rt: &'r HostRuntime, call: &MergeCall<'_>, job: Job) -> Result<Target<'r>, Stop> {
-    let Some(pattern) = call.out else {
+fn target_of<'r>(
+    rt: &'r HostRuntime,
+    call: &MergeCall<'_>,
+    sources: &Sources,
+    job: Job,
+) -> Result<Target<'r>, Stop> {
+    let Some(out) = call.out else {
         return Ok(Target::Output(job));
     };
-    let pattern = read_pattern(rt, pattern)?;
-    let merge = Merge::new(rt.alloc(), job, pattern);
-    Ok(Target::files(rt, merge, call.dry_run))
+    let pattern = read_pattern(rt, out)?;
+    let files = if call.dry_run {
+        None
+    } else {
+        Some(record_files(rt, call, out, sources)?)
+    };
+    Ok(Target::files(Merge::new(rt.alloc(), job, pattern), files))
 }
 
 /// A merge of the program: what it is asked for, and the texts that faults are shown in.
@@ -71,6 +81,7 @@ impl Run<'_> {
             }
             self.one(target, records, &mut progress)?;
         }
+        target.finish(self.rt.alloc())?;
         progress.end(self.rt)
     }
 

@@ -1,9 +1,9 @@
 //! The command `render`.
+use crate::files::{SystemPages, page_file, unwritten};
 use crate::filters::page_with;
-use crate::parts::read_parts;
+use crate::parts::{PageParts, read_parts};
 use liquid_command_files::{Sources, Stop, end_line, print_text};
 use liquid_commands::RenderCall;
-use liquid_disk::put_file;
 use liquid_lib::{LimitReached, LimitedPage, Limits, Page};
 
 /// Writes the page of a template. A page that ends by a fault goes to standard output up to there,
@@ -30,7 +30,7 @@ pub fn render(rt: &HostRuntime, call: &RenderCall<'_>) -> Result<(), Stop> {
         return Err(Stop::Faulted);
     }
     match call.out {
-        Some(path) => put_page(rt, path, text.as_str()),
+        Some(path) => put_page(rt, call, &parts, path, text.as_str()),
         None => Ok(()),
     }
 }
@@ -42,8 +42,20 @@ fn limits_of(call: &RenderCall<'_>) -> Limits {
     }
 }
 
-fn put_page(rt: &HostRuntime, path: &str, text: &str) -> Result<(), Stop> {
-    match put_file(rt, path, text) {
+/// Puts a page into the file that the call names.
+fn put_page(
+    rt: &HostRuntime,
+    call: &RenderCall<'_>,
+    parts: &PageParts,
+    path: &str,
+    text: &str,
+) -> Result<(), Stop> {
+    let mut files: SystemPages<'_> = page_file(rt, &call.inputs, &parts.sources)?;
+    match files.write_out(path, text) {
+        Ok(()) => {}
+        Err(fault) => return Err(unwritten(rt, path, fault)),
+    }
+    match files.flush_folders() {
         Ok(()) => Ok(()),
         Err(refused) => Err(Stop::unwritten(rt.alloc(), path, refused.kind())),
     }

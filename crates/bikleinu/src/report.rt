@@ -4,7 +4,7 @@ ghost use Rattle.bikleinu.specs.Reports.{ends_merge};
 
 use liquid_command_files::{Sources, print_excerpt};
 use liquid_core::Error;
-use liquid_disk::is_disk_full;
+use liquid_disk::{DiskFault, is_disk_full};
 use liquid_excerpts::{ShownFault, system_words};
 use liquid_records::{Failure, Why};
 use liquid_row_records::{RecordFault, RowFault};
@@ -18,8 +18,8 @@ pub enum Report {
     NoRow(RowFault),
     /// There is no page.
     NoPage(Why),
-    /// The page is in no file; and why the system last refused a file.
-    NoFile(Failure, Option<io::ErrorKind>),
+    /// The page is in no file.
+    NoFile(Failure),
     /// Memory ran out for it.
     Fault(Error),
 }
@@ -30,7 +30,7 @@ impl Drop for Report {
     fn drop(self) {
         match self {
             Report::NotUtf8 | Report::NoRow(_) | Report::NoPage(_) => {}
-            Report::NoFile(_, _) | Report::Fault(_) => {}
+            Report::NoFile(_) | Report::Fault(_) => {}
         }
     }
 }
@@ -51,7 +51,9 @@ impl Report {
         ensures { result ≡ ends_merge self.now }
     {
         match self {
-            Report::NoFile(Failure::Unwritten(_), Some(kind)) => is_disk_full(*kind),
+            Report::NoFile(Failure::Unwritten(_, DiskFault::Refused(kind))) => {
+                is_disk_full(*kind)
+            }
             _ => false,
         }
     }
@@ -60,7 +62,7 @@ impl Report {
     /// that refuses is lost.
     pub fn print(&self, rt: &HostRuntime, sources: &Sources, number: u64, text: &str) {
         let _ = eprintln!(rt; "error: record {number}: {self}");
-        if let Report::NoPage(why) | Report::NoFile(Failure::NoPage(why), _) = self {
+        if let Report::NoPage(why) | Report::NoFile(Failure::NoPage(why)) = self {
             match why {
                 Why::NoData(fault) => print_excerpt(rt, fault, Some(text)),
                 Why::Faulted(fault) => sources.print_excerpt_of(rt, fault),
@@ -81,9 +83,13 @@ impl fmt::Display for Report {
                 let fault = ShownFault { fault };
                 write!(f, "{fault}")
             }
-            Report::NoFile(failure, reason) => match (failure, reason) {
-                (Failure::Unwritten(_), Some(kind)) => {
+            Report::NoFile(failure) => match failure {
+                Failure::Unwritten(_, DiskFault::Refused(kind)) => {
                     let words = system_words(*kind);
+                    write!(f, "{failure}: {words}")
+                }
+                Failure::Unwritten(_, DiskFault::Memory) => {
+                    let words = system_words(io::ErrorKind::OutOfMemory);
                     write!(f, "{failure}: {words}")
                 }
                 _ => write!(f, "{failure}"),

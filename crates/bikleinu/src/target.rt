@@ -1,7 +1,7 @@
 //! Where the pages of a merge go.
-ghost use Rattle.std.specs.Prelude.{◌≡◌, true};
+ghost use Rattle.std.specs.Prelude.{◌≡◌, None};
 
-use crate::files::{Files, Nowhere};
+use crate::files::{Nowhere, SystemPages};
 use crate::report::Report;
 use liquid_command_files::{Stop, print_text};
 use liquid_core::Result as Answer;
@@ -36,29 +36,40 @@ impl Drop for Target<'_> {
 #[derive(Drop)]
 pub struct FileMerge<'r> {
     merge: Merge,
-    files: Files<'r>,
+    files: SystemPages<'r>,
 }
 
 impl FileMerge<'_> {
     /// Takes one record: whether its file has its page, or why not.
     fn take(&mut self, alloc: Global, number: usize, data: RecordData<'_>) -> RecordOutcome {
-        let fate = merged(alloc, &mut self.merge, number, data, &mut self.files);
-        file_outcome(fate, &self.files)
+        file_outcome(merged(alloc, &mut self.merge, number, data, &mut self.files))
+    }
+
+    /// Makes sure that the names of all files are on the disk.
+    fn finish(&mut self, alloc: Global) -> Result<(), Stop> {
+        match self.files.flush_folders() {
+            Ok(()) => Ok(()),
+            Err(refused) => Err(Stop::unwritten(alloc, "the folder of the pages", refused.kind())),
+        }
     }
 }
 
 impl<'r> Target<'r> {
-    /// The files of a merge, or their names alone: a dry run writes no file.
-    pub fn files(rt: &'r HostRuntime, merge: Merge, dry_run: bool) -> Target<'r>
-        ensures names { dry_run ≡ true → result ≡ Target.Names merge }
+    /// The files of a merge, or, without any, their names alone: a dry run writes no file.
+    pub fn files(merge: Merge, files: Option<SystemPages<'r>>) -> Target<'r>
+        ensures names { files ≡ None → result ≡ Target.Names merge }
     {
-        if dry_run {
-            Target::Names(merge)
-        } else {
-            Target::Files(FileMerge {
-                merge,
-                files: Files::new(rt),
-            })
+        match files {
+            Some(files) => Target::Files(FileMerge { merge, files }),
+            None => Target::Names(merge),
+        }
+    }
+
+    /// Makes sure that what was written is on the disk, after the last record.
+    pub fn finish(&mut self, alloc: Global) -> Result<(), Stop> {
+        match self {
+            Target::Files(file_merge) => file_merge.finish(alloc),
+            Target::Names(_) | Target::Output(_) => Ok(()),
         }
     }
 
@@ -104,10 +115,10 @@ fn made(alloc: Global, job: &mut Job, data: RecordData<'_>) -> Answer<RecordResu
 }
 
 /// A record whose page was to go into a file.
-fn file_outcome(fate: Answer<Fate>, files: &Files<'_>) -> RecordOutcome {
+fn file_outcome(fate: Answer<Fate>) -> RecordOutcome {
     match fate {
         Ok(Ok(_)) => Ok(()),
-        Ok(Err(failure)) => Err(Report::NoFile(failure, files.reason())),
+        Ok(Err(failure)) => Err(Report::NoFile(failure)),
         Err(fault) => Err(Report::Fault(fault)),
     }
 }
@@ -120,7 +131,7 @@ fn print_name(rt: &HostRuntime, fate: Answer<Fate>) -> Result<RecordOutcome, Sto
             print_text(rt, "\n")?;
             Ok(Ok(()))
         }
-        Ok(Err(failure)) => Ok(Err(Report::NoFile(failure, None))),
+        Ok(Err(failure)) => Ok(Err(Report::NoFile(failure))),
         Err(fault) => Ok(Err(Report::Fault(fault))),
     }
 }

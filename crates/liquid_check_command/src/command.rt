@@ -2,7 +2,7 @@
 use crate::files::{File, checked_files, read_files};
 use crate::paths::{Paths, checked_paths};
 use crate::print::{Counts, print_counts, print_file};
-use liquid_command_files::{Stop, read_data};
+use liquid_command_files::{Stop, read_data, with_time};
 use liquid_commands::CheckCall;
 use liquid_language::Language;
 use liquid_model::Object;
@@ -44,7 +44,8 @@ fn warnings_in(
     Ok(warnings_of(alloc, &checked, given)?)
 }
 
-/// What the warnings are made by.
+/// What the warnings are made by: the partials where the call asks for some, also where a folder of
+/// them is empty.
 fn given_by<'c>(
     call: &CheckCall<'_>,
     data: Option<&'c Object>,
@@ -54,14 +55,16 @@ fn given_by<'c>(
     Given {
         data,
         language,
-        partials,
+        partials: (!call.partials.is_empty()).then_some(partials),
         attributes: call.attributes,
     }
 }
 
-/// The data that the templates are for, where a call names some.
+/// The data that the templates are for, where a call names some. A time that is none is refused
+/// without data too.
 fn data_of(rt: &HostRuntime, call: &CheckCall<'_>) -> Result<Option<Object>, Stop> {
     if call.data.is_empty() {
+        drop(with_time(rt.alloc(), Object::new(rt.alloc()), call.forms.now)?);
         return Ok(None);
     }
     Ok(Some(read_data(rt, &call.data, call.forms)?))
@@ -79,7 +82,7 @@ fn print_files(
         match file {
             File::Checked(checked) => print_file(rt, call.format, checked, warnings, counts)?,
             File::Unreadable => counts.unreadable = counts.unreadable.saturating_add(1),
-            File::Binary => {}
+            File::NoText => {}
         }
     }
     Ok(())

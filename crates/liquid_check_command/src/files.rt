@@ -1,8 +1,8 @@
 //! The files that are checked.
 use crate::paths::CheckedPath;
 use liquid_check::{Finding, Findings, findings_of};
-use liquid_command_files::{Stop, bytes_at, called, text_of};
-use liquid_excerpts::Reason;
+use liquid_command_files::{Stop, called, found_text_at, print_left_out, text_at};
+use liquid_excerpts::LeftOut;
 use liquid_language::Language;
 use liquid_model::Result as Answer;
 use liquid_syntax::Template;
@@ -33,8 +33,8 @@ impl Drop for Checked {
 #[derive(Drop)]
 pub(crate) enum File {
     Checked(Checked),
-    /// It was found in a folder, and is no text.
-    Binary,
+    /// It was found in a folder and is no text, which is told.
+    NoText,
     /// It can't be read, and that is reported.
     Unreadable,
 }
@@ -56,7 +56,10 @@ fn read_file(rt: &HostRuntime, language: &Language, file: &CheckedPath) -> Resul
     let path = file.path.as_str();
     match read_text(rt, path, file.is_found) {
         Ok(Some(text)) => Ok(File::Checked(findings_in(rt.alloc(), language, path, text)?)),
-        Ok(None) => Ok(File::Binary),
+        Ok(None) => {
+            print_left_out(rt, path, LeftOut::NoText);
+            Ok(File::NoText)
+        }
         Err(stop) => {
             stop.print_and_skip(rt)?;
             Ok(File::Unreadable)
@@ -66,17 +69,11 @@ fn read_file(rt: &HostRuntime, language: &Language, file: &CheckedPath) -> Resul
 
 /// The text at a path; none where it was found in a folder and is no text.
 fn read_text(rt: &HostRuntime, path: &str, is_found: bool) -> Result<Option<String>, Stop> {
-    let bytes = match bytes_at(rt, path) {
-        Ok(bytes) => bytes,
-        Err(refused) => {
-            let reason = Reason::from(refused.kind());
-            return Err(Stop::unreadable(rt.alloc(), called(path), reason));
-        }
-    };
-    if is_found && bytes.contains(&0) {
-        return Ok(None);
+    if is_found {
+        found_text_at(rt, path)
+    } else {
+        Ok(Some(text_at(rt, path)?))
     }
-    Ok(Some(text_of(rt.alloc(), path, bytes)?))
 }
 
 /// The template of a text, and the faults of it.
@@ -113,7 +110,7 @@ impl File {
                 template: checked.template.as_ref(),
                 is_page,
             },
-            File::Binary | File::Unreadable => CheckedFile {
+            File::NoText | File::Unreadable => CheckedFile {
                 text: None,
                 template: None,
                 is_page,

@@ -2,6 +2,7 @@
 #![tactic(auto)]
 
 mod command;
+mod file_id;
 mod files;
 mod paths;
 mod print;

@@ -1,17 +1,17 @@
 //! The files that a call of `check` names.
-use liquid_command_files::{Stop, files_below};
+use crate::file_id::{FileId, file_id, is_folder, is_inside};
+use liquid_command_files::{Stop, files_below, print_left_out};
 use liquid_commands::CheckCall;
-use liquid_excerpts::ShownPath;
+use liquid_excerpts::{LeftOut, ShownPath};
 use liquid_partial_names::{PartialNames, joined_path, named_file};
-use std::alloc::{AllocError, Global};
+use std::alloc::AllocError;
 use std::collections::BTreeMap;
-use std::fs;
 
 /// A file to check.
 #[derive(Drop)]
 pub(crate) struct CheckedPath {
     pub(crate) path: String,
-    /// Whether it was found in a folder, so that it may be no text.
+    /// Whether it was only found in a folder, so that it may be no text.
     pub(crate) is_found: bool,
     /// Whether it is a template of its own, also where no other runs it.
     pub(crate) is_page: bool,
@@ -24,8 +24,10 @@ pub(crate) struct Paths {
     pub(crate) partials: PartialNames,
     /// How many words name nothing that can be read.
     pub(crate) unreadable: usize,
-    /// The place of each path.
-    places: BTreeMap<String, usize>,
+    /// The place of each file, whatever names it has.
+    places: BTreeMap<FileId, usize>,
+    /// The paths of what is left out of folders, and why.
+    left_out: Vec<(String, LeftOut)>,
 }
 
 impl Drop for Paths {
@@ -35,20 +37,24 @@ impl Drop for Paths {
             partials: _,
             unreadable: _,
             places: _,
+            left_out: _,
         } = self;
     }
 }
 
 /// The files that a call names, and the partials, which are checked too. A word that names nothing
-/// that can be read is reported, and so is an empty folder.
+/// that can be read is reported, and so is an empty folder; and what is left out of a folder is told
+/// once.
 pub(crate) fn checked_paths(rt: &HostRuntime, call: &CheckCall<'_>) -> Result<Paths, Stop> {
     let mut paths = Paths {
         files: Vec::new(rt.alloc()),
         partials: PartialNames::new(rt.alloc()),
         unreadable: 0,
         places: BTreeMap::new(rt.alloc()),
+        left_out: Vec::new(rt.alloc()),
     };
     paths.add_all(rt, call)?;
+    paths.print_left_out(rt);
     Ok(paths)
 }
 
@@ -59,8 +65,8 @@ impl Paths {
         }
         for word in &call.partials {
             match named_file(word) {
-                Some((name, path)) => self.add_partial(rt.alloc(), name, path)?,
-                None => self.add_partials(rt, word, !is_inside(word, &call.paths))?,
+                Some((name, path)) => self.add_partial(rt, name, path)?,
+                None => self.add_partials(rt, word, !is_inside(rt, word, &call.paths)?)?,
             }
         }
         Ok(())
@@ -71,7 +77,7 @@ impl Paths {
         if is_folder(rt, word) {
             return self.add_folder(rt, word);
         }
-        let place = self.add_file(rt.alloc(), word, false)?;
+        let place = self.add_file(rt, word, false)?;
         self.set_page(place, true);
         Ok(())
     }
@@ -87,16 +93,16 @@ impl Paths {
             self.unreadable = self.unreadable.saturating_add(1);
         }
         for file in &files {
-            let place = self.add_found(rt.alloc(), folder, file.as_str())?;
+            let place = self.add_found(rt, folder, file.as_str())?;
             self.set_page(place, true);
         }
         Ok(())
     }
 
     /// Adds the file of a partial.
-    fn add_partial(&mut self, alloc: Global, name: &str, path: &str) -> Result<(), AllocError> {
-        let place = self.add_file(alloc, path, false)?;
-        self.partials.add(alloc, name, place)
+    fn add_partial(&mut self, rt: &HostRuntime, name: &str, path: &str) -> Result<(), AllocError> {
+        let place = self.add_file(rt, path, false)?;
+        self.partials.add(rt.alloc(), name, place)
     }
 
     /// Adds the partials that are the files below a folder. They are no pages, unless they are
@@ -112,7 +118,7 @@ impl Paths {
         };
         let mut places = Vec::new(rt.alloc());
         for file in files {
-            let place = self.add_found(rt.alloc(), folder, file.as_str())?;
+            let place = self.add_found(rt, folder, file.as_str())?;
             if !keeps_pages {
                 self.set_page(place, false);
             }
@@ -121,10 +127,15 @@ impl Paths {
         Ok(self.partials.add_folder(rt.alloc(), places.as_slice())?)
     }
 
-    /// The files below a folder; none where it can't be read, which is reported.
+    /// The files below a folder; none where it can't be read, which is reported. What is left out
+    /// is kept, to be told.
     fn files_of(&mut self, rt: &HostRuntime, folder: &str) -> Result<Option<Vec<String>>, Stop> {
         match files_below(rt, folder) {
-            Ok(files) => Ok(Some(files)),
+            Ok(found) => {
+                let mut left_out = found.left_out;
+                self.left_out.append(&mut left_out)?;
+                Ok(Some(found.files))
+            }
             Err(stop) => {
                 stop.print_and_skip(rt)?;
                 self.unreadable = self.unreadable.saturating_add(1);
@@ -133,25 +144,49 @@ impl Paths {
         }
     }
 
-    /// Adds a file that was found in a folder, and gives its place.
-    fn add_found(&mut self, alloc: Global, folder: &str, file: &str) -> Result<usize, AllocError> {
-        let path = joined_path(alloc, folder, file)?;
-        self.add_file(alloc, path.as_str(), true)
+    /// Tells what is left out of folders, once also where it was met several times.
+    fn print_left_out(&mut self, rt: &HostRuntime) {
+        self.left_out.sort_unstable();
+        self.left_out.dedup();
+        for (path, why) in &self.left_out {
+            print_left_out(rt, path.as_str(), *why);
+        }
     }
 
-    /// Adds a file, unless it is there already, and gives its place.
-    fn add_file(&mut self, alloc: Global, word: &str, is_found: bool) -> Result<usize, AllocError> {
-        let path = plain(word);
-        if let Some(place) = self.places.get(path) {
-            return Ok(*place);
+    /// Adds a file that was found in a folder, and gives its place.
+    fn add_found(
+        &mut self,
+        rt: &HostRuntime,
+        folder: &str,
+        file: &str,
+    ) -> Result<usize, AllocError> {
+        let path = joined_path(rt.alloc(), folder, file)?;
+        self.add_file(rt, path.as_str(), true)
+    }
+
+    /// Adds a file, unless it is there already, and gives its place. One that a word names is to be
+    /// a text, also where it was found in a folder before.
+    fn add_file(
+        &mut self,
+        rt: &HostRuntime,
+        word: &str,
+        is_found: bool,
+    ) -> Result<usize, AllocError> {
+        let id = file_id(rt, word)?;
+        if let Some(place) = self.places.get(&id) {
+            let place = *place;
+            if let Some(file) = self.files.get_mut(place) {
+                file.is_found &= is_found;
+            }
+            return Ok(place);
         }
         let place = self.files.len();
         self.files.push(CheckedPath {
-            path: String::from_str(alloc, word)?,
+            path: String::from_str(rt.alloc(), word)?,
             is_found,
             is_page: false,
         })?;
-        drop(self.places.insert(String::from_str(alloc, path)?, place)?);
+        drop(self.places.insert(id, place)?);
         Ok(place)
     }
 
@@ -159,26 +194,5 @@ impl Paths {
         if let Some(file) = self.files.get_mut(place) {
             file.is_page = is_page;
         }
-    }
-}
-
-/// Whether a folder is inside one of others, and isn't one of them.
-fn is_inside(folder: &str, others: &[&str]) -> bool {
-    others.iter().any(|other| match plain(folder).strip_prefix(plain(other)) {
-        Some(inner) => plain(other).is_empty() || inner.starts_with('/'),
-        None => false,
-    })
-}
-
-/// A path without `./` before it and `/` after it.
-fn plain(path: &str) -> &str {
-    let path = path.trim_start_matches("./").trim_end_matches('/');
-    if path == "." { "" } else { path }
-}
-
-fn is_folder(rt: &HostRuntime, path: &str) -> bool {
-    match fs::metadata(rt, path) {
-        Ok(found) => found.is_dir(),
-        Err(_) => false,
     }
 }

@@ -1,66 +1,141 @@
-//! The files of a folder of partials.
+//! The files of a folder, and what is left out of it.
+ghost use Rattle.std.specs.Prelude.{◌≡◌, ◌++◌, IfOk, string_bytes};
+
 use crate::stop::Stop;
+use liquid_excerpts::{Entry, LeftOut, LeftOutLine, Reason, listed_entry};
 use liquid_partial_names::joined_path;
+use std::alloc::{AllocError, Global};
 use std::fs::DirEntry;
 use std::{fs, io};
 
-/// The paths of the files below a folder, from the folder on, in their order. What has a name that
-/// begins with a dot is passed over, and so is a link to a folder.
-pub fn files_below(rt: &HostRuntime, folder: &str) -> Result<Vec<String>, Stop> {
-    let mut files = Vec::new(rt.alloc());
-    let mut folders = Vec::new(rt.alloc());
-    folders.push(String::new(rt.alloc()))?;
-    for _ in 0..u64::MAX {
-        let Some(inner) = folders.pop() else {
-            break;
-        };
-        let path = joined_path(rt.alloc(), folder, inner.as_str())?;
-        let path = path.as_str().strip_suffix('/').unwrap_or(folder);
-        if let Err(refused) = add_entries(rt, path, inner.as_str(), &mut files, &mut folders) {
-            return Err(Stop::no_folder(rt.alloc(), path, refused.kind()));
+/// What is found below a folder.
+#[derive(Drop)]
+pub struct Found {
+    /// The paths of its files, from the folder on, in their order.
+    pub files: Vec<String>,
+    /// The paths of what is left out, and why, in their order. Of names that aren't UTF-8 the path
+    /// is that of their folder.
+    pub left_out: Vec<(String, LeftOut)>,
+}
+
+impl Found {
+    /// Prints a line for each thing that is left out. What standard error refuses is lost.
+    pub fn print_left_out(&self, rt: &HostRuntime) {
+        for (path, why) in &self.left_out {
+            print_left_out(rt, path.as_str(), *why);
         }
     }
-    files.sort_unstable();
-    Ok(files)
 }
 
-/// Adds the entries of one folder: its files, and the folders in it with a slash after.
-fn add_entries(
-    rt: &HostRuntime,
-    path: &str,
-    inner: &str,
-    files: &mut Vec<String>,
-    folders: &mut Vec<String>,
-) -> io::Result<()> {
-    for entry in fs::read_dir(rt, path)? {
-        add_entry(rt, &entry?, inner, files, folders)?;
-    }
-    Ok(())
+/// Prints the line of what is left out. What standard error refuses is lost.
+pub fn print_left_out(rt: &HostRuntime, path: &str, why: LeftOut) {
+    let line = LeftOutLine { path, why };
+    let _ = eprintln!(rt; "{line}");
 }
 
-/// Adds one entry, unless its name begins with a dot or it is a link to a folder.
-fn add_entry(
-    rt: &HostRuntime,
-    entry: &DirEntry,
-    inner: &str,
-    files: &mut Vec<String>,
-    folders: &mut Vec<String>,
-) -> io::Result<()> {
-    if entry.file_name().starts_with('.') {
-        return Ok(());
+/// What is found below a folder: regular files, itself or by links that stay below it. What has a
+/// name that begins with a dot is passed over, and so is a link to a folder below it. Nothing is
+/// opened but folders.
+pub fn files_below(rt: &HostRuntime, folder: &str) -> Result<Found, Stop> {
+    let mut walk = Walk::new(rt, folder)?;
+    for _ in 0..u64::MAX {
+        let Some(inner) = walk.folders.pop() else {
+            break;
+        };
+        walk.read(inner.as_str())?;
     }
-    let mut name = String::from_str(rt.alloc(), inner)?;
-    name.push_str(entry.file_name())?;
-    if entry.file_type()?.is_dir() {
-        name.push('/')?;
-        folders.push(name)?;
-    } else if !is_folder(rt, entry)? {
-        files.push(name)?;
-    }
-    Ok(())
+    walk.found.files.sort_unstable();
+    walk.found.left_out.sort_unstable();
+    walk.found.left_out.dedup();
+    Ok(walk.found)
 }
 
-/// Whether an entry is a link to a folder.
-fn is_folder(rt: &HostRuntime, entry: &DirEntry) -> io::Result<bool> {
-    Ok(entry.file_type()?.is_symlink() && fs::metadata(rt, entry.path())?.is_dir())
+/// A walk through the folders below one.
+#[derive(Drop)]
+struct Walk<'r, 'f> {
+    rt: &'r HostRuntime,
+    folder: &'f str,
+    found: Found,
+    /// The folders that are still to be read, by their paths from the first one on: each is empty
+    /// or ends in a slash.
+    folders: Vec<String>,
+}
+
+impl<'r, 'f> Walk<'r, 'f> {
+    /// A walk that is to read the folder first.
+    fn new(rt: &'r HostRuntime, folder: &'f str) -> Result<Walk<'r, 'f>, Stop> {
+        let mut folders = Vec::new(rt.alloc());
+        folders.push(String::new(rt.alloc()))?;
+        let found = Found {
+            files: Vec::new(rt.alloc()),
+            left_out: Vec::new(rt.alloc()),
+        };
+        Ok(Walk {
+            rt,
+            folder,
+            found,
+            folders,
+        })
+    }
+
+    /// Adds what stands in one folder.
+    fn read(&mut self, inner: &str) -> Result<(), Stop> {
+        let path = joined_path(self.rt.alloc(), self.folder, inner)?;
+        let path = path.as_str().strip_suffix('/').unwrap_or(self.folder);
+        let entries = match fs::read_dir(self.rt, path) {
+            Ok(entries) => entries,
+            Err(refused) => return Err(Stop::no_folder(self.rt.alloc(), path, refused.kind())),
+        };
+        for entry in entries {
+            self.add(path, inner, entry)?;
+        }
+        Ok(())
+    }
+
+    /// Adds one entry of the folder at a path. A name that isn't UTF-8 is left out.
+    fn add(&mut self, path: &str, inner: &str, entry: io::Result<DirEntry>) -> Result<(), Stop> {
+        match entry {
+            Ok(entry) => self.add_named(inner, &entry),
+            Err(refused) if refused.kind() == io::ErrorKind::InvalidFilename => {
+                self.leave_out(path, LeftOut::Unnamed)
+            }
+            Err(refused) => Err(Stop::no_folder(self.rt.alloc(), path, refused.kind())),
+        }
+    }
+
+    /// Adds an entry by its name, unless that begins with a dot.
+    fn add_named(&mut self, inner: &str, entry: &DirEntry) -> Result<(), Stop> {
+        let path = entry.path().as_str();
+        match listed_entry(self.rt, self.folder, entry) {
+            Ok(Entry::File) => {
+                let file = inner_path(self.rt.alloc(), inner, entry.file_name(), "")?;
+                Ok(self.found.files.push(file)?)
+            }
+            Ok(Entry::Folder) => {
+                let folder = inner_path(self.rt.alloc(), inner, entry.file_name(), "/")?;
+                Ok(self.folders.push(folder)?)
+            }
+            Ok(Entry::Hidden | Entry::LinkToFolder | Entry::Gone) => Ok(()),
+            Ok(Entry::LeftOut(why)) => self.leave_out(path, why),
+            Err(refused) => {
+                let reason = Reason::from(refused.kind());
+                Err(Stop::unreadable(self.rt.alloc(), path, reason))
+            }
+        }
+    }
+
+    fn leave_out(&mut self, path: &str, why: LeftOut) -> Result<(), Stop> {
+        let path = String::from_str(self.rt.alloc(), path)?;
+        Ok(self.found.left_out.push((path, why))?)
+    }
+}
+
+/// The path of an entry from the first folder on, with this after it.
+fn inner_path(alloc: Global, inner: &str, name: &str, end: &str) -> Result<String, AllocError>
+    ensures { IfOk result (λ path. string_bytes path ≡ inner.now ++ (name.now ++ end.now)) }
+{
+    let mut path = String::from_str(alloc, inner)?;
+    path.push_str(name)?;
+    path.push_str(end)?;
+    Ok(path)
 }

@@ -1,11 +1,13 @@
 //! The texts of files.
-ghost use Rattle.std.specs.Prelude.{◌≡◌, IfErr, IfOk, IsOk, string_bytes};
+ghost use Rattle.std.specs.Prelude.{◌≡◌, IfErr, IfOk, IfSome, IsFalse, IsOk, IsSome, IsTrue, None};
+ghost use Rattle.std.specs.Prelude.{Ok, string_bytes};
 ghost use Rattle.std.specs.Str.{IsUtf8};
+ghost use Rattle.liquid_excerpts.specs.Entries.{has_byte_zero};
 ghost use Rattle.liquid_command_files.specs.Inputs.{called};
 ghost use Rattle.liquid_command_files.specs.Stops.{HasNoText};
 
 use crate::stop::Stop;
-use liquid_excerpts::Reason;
+use liquid_excerpts::{Reason, has_byte_zero};
 use std::alloc::Global;
 use std::fs::File;
 use std::io;
@@ -27,6 +29,32 @@ pub fn text_at(rt: &HostRuntime, path: &str) -> Result<String, Stop> {
             Err(Stop::unreadable(rt.alloc(), called(path), reason))
         }
     }
+}
+
+/// The text of a file that was found in a folder; none where it has a byte 0, as images do and texts
+/// don't.
+pub fn found_text_at(rt: &HostRuntime, path: &str) -> Result<Option<String>, Stop> {
+    match bytes_at(rt, path) {
+        Ok(bytes) => found_text_of(rt.alloc(), path, bytes),
+        Err(refused) => {
+            let reason = Reason::from(refused.kind());
+            Err(Stop::unreadable(rt.alloc(), path, reason))
+        }
+    }
+}
+
+/// The bytes that were read from a file in a folder, as a text; none where one of them is 0.
+pub fn found_text_of(alloc: Global, path: &str, bytes: Vec<u8>) -> Result<Option<String>, Stop>
+    ensures binary { IsTrue (has_byte_zero bytes.items) → result ≡ Ok None }
+    ensures text { IfOk result (λ found. IfSome found (λ text. string_bytes text ≡ bytes.items)) }
+    ensures whole { IsFalse (has_byte_zero bytes.items) → IfOk result (λ found. IsSome found) }
+    ensures refused { IfErr result (HasNoText (called path.now)) }
+    ensures utf8 { IsUtf8 bytes.items → IsOk result }
+{
+    if has_byte_zero(&bytes) {
+        return Ok(None);
+    }
+    Ok(Some(text_of(alloc, path, bytes)?))
 }
 
 /// The bytes that were read from a path, as a text.

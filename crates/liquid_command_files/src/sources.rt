@@ -4,12 +4,13 @@ ghost use Rattle.liquid_partial_names.specs.Names.{file_places, names_of};
 ghost use Rattle.liquid_command_files.specs.Sources.{partial_place, source_text_at, text_of_origin};
 
 use crate::faults::print_excerpt;
-use crate::folder::files_below;
-use crate::input::{called, text_at};
+use crate::folder::{files_below, print_left_out};
+use crate::input::{called, found_text_at, text_at};
 use crate::stop::Stop;
-use liquid_excerpts::ShownPath;
+use liquid_excerpts::{LeftOut, ShownPath};
 use liquid_model::{Error, Location, Origin};
 use liquid_partial_names::{PartialNames, joined_path, named_file};
+use std::alloc::Global;
 
 /// A text, and the path that it is from.
 #[derive(Drop)]
@@ -47,7 +48,7 @@ impl Sources {
     }
 
     /// Reads the partials that words name, each NAME=FILE, or the files below a folder. The later
-    /// of one name counts.
+    /// of one name counts. What is left out of a folder is told in a line on standard error.
     pub fn read_partials(&mut self, rt: &HostRuntime, words: &[&str]) -> Result<(), Stop> {
         for word in words {
             match named_file(word) {
@@ -59,24 +60,40 @@ impl Sources {
     }
 
     fn read_named(&mut self, rt: &HostRuntime, name: &str, path: &str) -> Result<(), Stop> {
-        let place = self.add_source(rt, path)?;
+        let text = text_at(rt, path)?;
+        let place = self.add_source(rt.alloc(), called(path), text)?;
         Ok(self.names.add(rt.alloc(), name, place)?)
     }
 
     fn read_folder(&mut self, rt: &HostRuntime, folder: &str) -> Result<(), Stop> {
+        let found = files_below(rt, folder)?;
+        found.print_left_out(rt);
         let mut files = Vec::new(rt.alloc());
-        for file in files_below(rt, folder)? {
+        for file in found.files {
             let path = joined_path(rt.alloc(), folder, file.as_str())?;
-            let place = self.add_source(rt, path.as_str())?;
-            files.push((file, place))?;
+            if let Some(place) = self.read_found(rt, path.as_str())? {
+                files.push((file, place))?;
+            }
         }
         Ok(self.names.add_folder(rt.alloc(), files.as_slice())?)
     }
 
-    /// Reads a text, and gives its place.
-    fn add_source(&mut self, rt: &HostRuntime, path: &str) -> Result<usize, Stop> {
+    /// Reads a file of a folder, and gives its place; none where it is no text, which is told.
+    fn read_found(&mut self, rt: &HostRuntime, path: &str) -> Result<Option<usize>, Stop> {
+        match found_text_at(rt, path)? {
+            Some(text) => Ok(Some(self.add_source(rt.alloc(), path, text)?)),
+            None => {
+                print_left_out(rt, path, LeftOut::NoText);
+                Ok(None)
+            }
+        }
+    }
+
+    /// Adds a text, and gives its place.
+    fn add_source(&mut self, alloc: Global, path: &str, text: String) -> Result<usize, Stop> {
         let place = self.partials.len();
-        self.partials.push(source_at(rt, path)?)?;
+        let path = String::from_str(alloc, path)?;
+        self.partials.push(Source { path, text })?;
         Ok(place)
     }
 
@@ -101,6 +118,13 @@ impl Sources {
         ensures { file_places result.now ≡ names_of self.now.names }
     {
         self.names.as_slice()
+    }
+
+    /// The texts of the partials.
+    pub fn partials(&self) -> &[Source]
+        ensures { result.now ≡ self.now.partials.items }
+    {
+        self.partials.as_slice()
     }
 
     /// The partial at a place.

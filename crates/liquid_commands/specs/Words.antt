@@ -2,14 +2,17 @@
 --     data_file word      a file of data, with its name where the word is NAME=FILE
 --     gap_of word      what such a word lacks, and gap_text what is said of it
 --     filter_set, missing_of, are_in_csv, format_of      what the values of options ask for
+--     leaves_folder pattern      whether a pattern of names begins as none below a folder does
 --     is_yaml path      whether a file is named as YAML
 --     is_template_path word      whether a word is a path rather than a command
 --     is_selected number from count      whether a record is among those that are asked for
-use Rattle.std.specs.Prelude.{ℕ, Bool, false, cond, ◌||◌, ◌&&◌, ◌-◌, ◌==◌, nat_lt, nat_le, length}
+use Rattle.std.specs.Prelude.{ℕ, Bool, false, cond, ◌||◌, ◌&&◌, ◌-◌, ◌==◌, nat_eq, nat_lt, nat_le}
+use Rattle.std.specs.Prelude.{length}
 use Rattle.std.specs.Prelude.{List, [], ◌∷◌, drop, codes, bytes_eq, Option, Some, None, option_map}
 use Rattle.std.specs.Borrow.{Bor}
 use Rattle.std.specs.Int.{is_in_range}
 use Rattle.std.specs.List.{list_all, list_any, after_first, before_first, position_or_len}
+use Rattle.std.specs.List.{starts_with}
 use Rattle.liquid_diagnostics.specs.declared.diagnostic.DiagnosticFormat.{DiagnosticFormat}
 use Rattle.liquid_diagnostics.specs.declared.diagnostic.DiagnosticFormat.TheVariants.{Text, Json}
 use Rattle.liquid_diagnostics.specs.declared.diagnostic.DiagnosticFormat.TheVariants.{Github}
@@ -94,6 +97,11 @@ format_of (Some name) = format_named name
 abbrev pub has_ending : CommandWord → CommandWord → Bool
 has_ending ending path = cond (nat_le (length ending) (length path))
     (bytes_eq (drop (length path - length ending) path) ending) false
+
+-- it begins with `/`, `./` or `../`
+abbrev pub leaves_folder : CommandWord → Bool
+leaves_folder pattern = starts_with nat_eq pattern (codes "/")
+    || (starts_with nat_eq pattern (codes "./") || starts_with nat_eq pattern (codes "../"))
 
 -- as the format says, and where none is given, by the end of the path
 abbrev pub are_in_csv : Option CommandWord → CommandWord → Bool

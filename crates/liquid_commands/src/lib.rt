@@ -24,5 +24,5 @@ pub use render::{RenderCall, render_call};
 pub use tips::{command_fault, is_template_path};
 pub use words::{
     DataFile, FilterSet, Gap, Missing, are_in_csv, data_file, filter_set, gap_of, is_selected,
-    is_toml, is_yaml, missing_of,
+    is_toml, is_yaml, leaves_folder, missing_of,
 };

@@ -88,6 +88,15 @@ pub(crate) fn file_pattern<'a>(alloc: Global) -> Arg<'a> {
     .short('o')
 }
 
+pub(crate) fn into<'a>(alloc: Global) -> Arg<'a> {
+    option(
+        alloc,
+        "into",
+        "DIR",
+        "The folder that the names of files are in, which no name leaves",
+    )
+}
+
 pub(crate) fn missing<'a>(alloc: Global) -> Arg<'a> {
     option(
         alloc,

@@ -125,6 +125,15 @@ pub fn missing_of(word: Option<&str>) -> Missing
     }
 }
 
+/// Whether a pattern of names begins as no name below a folder does: with a slash, `./` or `../`.
+/// It takes no memory.
+pub fn leaves_folder(pattern: &str) -> bool
+    ensures { result ≡ leaves_folder pattern.now }
+{
+    let bytes = pattern.as_bytes();
+    bytes.starts_with(b"/") || bytes.starts_with(b"./") || bytes.starts_with(b"../")
+}
+
 /// Whether records are a table in CSV: as the format says, and where none is given, by the end of
 /// their path. It takes no memory.
 pub fn are_in_csv(format: Option<&str>, path: &str) -> bool

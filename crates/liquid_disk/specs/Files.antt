@@ -4,7 +4,7 @@ use Rattle.std.specs.Prelude.{⊤, String, string_bytes}
 use Rattle.std.specs.declared.alloc.Global.{Global}
 use Rattle.liquid_model.specs.Texts.{Text}
 use Rattle.liquid_disk.specs.declared.disk.DiskFault.{DiskFault}
-use Rattle.liquid_disk.specs.declared.disk.DiskFault.TheVariants.{Memory, Refused}
+use Rattle.liquid_disk.specs.declared.disk.DiskFault.TheVariants.{Memory, Refused, Protected}
 
 -- what stands at a path: no file, a file with a text, or one that can't be read
 pub data File : Type 0 where
@@ -24,17 +24,14 @@ abbrev pub IsFound : File → Result (Option (String Global)) DiskFault → Type
 IsFound file (Ok None) = file ≡ gone
 IsFound file (Ok (Some text)) = file ≡ holds (string_bytes text)
 IsFound file (Err Memory) = ⊤
-IsFound file (Err Refused) = file ≡ unreadable
+IsFound file (Err (Refused kind)) = file ≡ unreadable
+IsFound file (Err (Protected why)) = ⊥
 
--- a file may have changed at this path, and no other
-abbrev pub ChangesAt : Text → Files → Option Files → Type 0
-ChangesAt path old new = (file : File) × (new ≡ Some (with_file old path file))
-
--- what writing a text at a path leaves: the text at that path, or, where it is refused, anything
--- there; and all other files
+-- what writing a text at a path leaves: the text at that path and all other files, or, if it is
+-- refused, all files as they were
 abbrev pub IsPut : Text → Text → Files → Result (Unit {0}) DiskFault → Option Files → Type 0
 IsPut path text old (Ok u) new = new ≡ Some (with_file old path (holds text))
-IsPut path text old (Err e) new = ChangesAt path old new
+IsPut path text old (Err e) new = new ≡ Some old
 
 -- whether a file holds this text
 abbrev pub is_held : File → Text → Bool

@@ -1,34 +1,34 @@
--- A file that is written beside its place before it takes it.
---     part_path path      where that is
---     IsFileWritten path text old result new      what writing a file leaves
---     IsFileRenamed from to old result new      what giving a file another path leaves
---     HasFile path file new      a file stands at a path
---     KeepsAllBut path part old new      no file changed but the one at the path and its part
-use Rattle.std.specs.Prelude.{◌≡◌, ◌++◌, bytes_eq, codes, false, Option, Some, None, Result, Ok}
-use Rattle.std.specs.Prelude.{Err}
-use Rattle.liquid_disk.specs.Files.{ChangesAt, File, Files, gone, holds, with_file}
+-- Pages that are written beside their places before they take them, in files called parts.
+--     is_part_path path      the path is one of a part
+--     files_below front story      the files that are no parts, by their names after a front
+--     IsKept old new      no file but parts changed, at any moment
+--     TakesPlace path text old new      a page is in its file; at each moment the file held it
+--       or what it held before, and no other file but parts changed
+use Rattle.std.specs.Prelude.{◌≡◌, ◌⊎◌, ◌++◌, cond, codes, nat_eq, Bool}
+use Rattle.std.specs.List.{ends_with}
 use Rattle.liquid_model.specs.Texts.{Text}
+use Rattle.liquid_disk.specs.Files.{File, Files, gone, holds, with_file}
+use Rattle.liquid_disk.specs.Stories.{Since, Story}
 
-abbrev pub part_path : Text → Text
-part_path path = path ++ codes ".bikleinu-part"
+abbrev pub is_part_path : Text → Bool
+is_part_path path = ends_with nat_eq path (codes ".bikleinu-part")
 
--- the text is at the path, or, where that failed, anything; and all other files are as they were
-abbrev pub IsFileWritten : {U E : Type 0} → Text → Text → Files → Result U E → Option Files → Type 0
-IsFileWritten path text old (Ok u) new = new ≡ Some (with_file old path (holds text))
-IsFileWritten path text old (Err e) new = ChangesAt path old new
+-- the files without parts
+unfoldable pub without_parts : Files → Files
+without_parts files path = cond (is_part_path path) gone (files path)
 
--- what stood at one path is at the other, and nothing at the one; or, where that failed, nothing
--- changed
-abbrev pub IsFileRenamed : {U E : Type 0} → Text → Text → Files → Result U E → Option Files → Type 0
-IsFileRenamed from to old (Ok u) new =
-    new ≡ Some (with_file (with_file old to (old from)) from gone)
-IsFileRenamed from to old (Err e) new = new ≡ Some old
+abbrev pub files_below : Text → Story → Files
+files_below front story name = without_parts story.now (front ++ name)
 
-abbrev pub HasFile : Text → File → Option Files → Type 0
-HasFile path file None = ⊥
-HasFile path file (Some new) = new path ≡ file
+abbrev pub IsKept : Story → Story → Type 0
+IsKept old new = (without_parts new.now ≡ without_parts old.now)
+    × Since (λ files. without_parts files ≡ without_parts old.now) old new
 
-abbrev pub KeepsAllBut : Text → Text → Files → Option Files → Type 0
-KeepsAllBut path part old None = ⊥
-KeepsAllBut path part old (Some new) = (q : Text) → bytes_eq path q ≡ false →
-    bytes_eq part q ≡ false → new q ≡ old q
+-- the files without parts, with a page in its file
+abbrev pub with_page : Text → Text → Story → Files
+with_page path text story = with_file (without_parts story.now) path (holds text)
+
+abbrev pub TakesPlace : Text → Text → Story → Story → Type 0
+TakesPlace path text old new = (without_parts new.now ≡ with_page path text old)
+    × Since (λ files. (without_parts files ≡ without_parts old.now)
+    ⊎ (without_parts files ≡ with_page path text old)) old new

@@ -2,11 +2,20 @@
 #![tactic(auto)]
 
 mod disk;
+mod folders;
 mod full;
+mod host;
+mod messages;
+mod names;
+mod page_files;
+mod parts;
 mod put;
 mod system;
 
-pub use disk::{Disk, DiskFault};
+pub use disk::{Disk, DiskFault, Protected};
 pub use full::is_disk_full;
-pub use put::{put_file, put_whole, replace_file};
-pub use system::{FileSystem, SystemFiles};
+pub use host::SystemFiles;
+pub use names::hidden_names;
+pub use page_files::{Bounds, PageFiles};
+pub use parts::is_part_path;
+pub use system::{FileId, FileSystem, Occupant, Standing};

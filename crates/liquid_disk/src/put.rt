@@ -1,70 +1,88 @@
-//! A file that is put in its place whole.
-ghost use Rattle.std.specs.Prelude.{◌≡◌, bytes_eq, false, IfOk, IfSome, OnErr, OnOk, string_bytes};
+//! A page that takes its place whole.
+ghost use Rattle.std.specs.Prelude.{◌≡◌, OnErr, OnOk, false, true};
 ghost use Rattle.liquid_disk.specs.Files.{holds};
-ghost use Rattle.liquid_disk.specs.Parts.{HasFile, KeepsAllBut, part_path};
+ghost use Rattle.liquid_disk.specs.Parts.{IsKept, TakesPlace, is_part_path};
+ghost use Rattle.liquid_disk.specs.Stories.{Goes};
 
-use crate::system::{FileSystem, SystemFiles};
+use crate::system::{FileId, FileSystem};
 use std::alloc::Global;
+use std::collections::BTreeMap;
 use std::io;
 
-/// Puts a text into the file at a path of the system, as `put_whole` does.
-pub fn put_file(rt: &HostRuntime, path: &str, text: &str) -> io::Result<()> {
-    put_whole(rt.alloc(), &mut SystemFiles { rt }, path, text)
+/// A page to be written: its path, its text, and who may read and write it, where that isn't as for
+/// any new file.
+#[derive(Clone, Copy)]
+pub(crate) struct Draft<'t> {
+    pub path: &'t str,
+    pub text: &'t str,
+    pub mode: Option<u32>,
 }
 
-/// Puts a text into the file at a path: all of it, or what stood there stays. It is written beside
-/// the file first, and then takes its place. What is no file of its own, as a pipe, a device or a
-/// link, is written as it stands, and may be left with a part.
-pub fn put_whole<S: FileSystem>(
+/// The pages that were written: the path of each, by the file that it is in.
+pub(crate) type WrittenPages = BTreeMap<FileId, String>;
+
+/// Puts a page into its file: all of it, or the file holds what it held, at any moment. It is
+/// written into a part first, which then takes the place of the file. Where that fails, the part is
+/// taken away again; and it is `AlreadyExists`, and nothing else is tried, where something stands
+/// in the place of the part.
+pub(crate) fn put_whole<S: FileSystem>(
     alloc: Global,
     system: &mut S,
-    path: &str,
-    text: &str,
+    pages: &mut WrittenPages,
+    part: &str,
+    draft: Draft<'_>,
 ) -> io::Result<()>
-    ensures whole { IfSome (S.files system.old) (λ f. OnOk result (HasFile path.now (holds text.now)
-        (S.files system.new))) }
-    ensures others { IfSome (S.files system.old) (λ f. KeepsAllBut path.now (part_path path.now) f
-        (S.files system.new)) }
+    requires part { is_part_path part.now ≡ true }
+    requires page { is_part_path draft.path.now ≡ false }
+    ensures placed { OnOk result (Goes (TakesPlace draft.entry.path.now draft.entry.text.now)
+        (S.story system.old) (S.story system.new)) }
+    ensures kept { OnErr result (Goes IsKept (S.story system.old) (S.story system.new)) }
 {
-    if !system.is_replaceable(path) {
-        return system.write(path, text);
+    let path = String::from_str(alloc, draft.path)?;
+    let id = new_part(system, part, draft.text, draft.mode)?;
+    if let Err(refused) = pages.insert(id, path) {
+        system.remove(part);
+        return Err(io::Error::from(refused));
     }
-    let part = part_path(alloc, path)?;
-    replace_file(system, part.as_str(), path, text)
+    match system.rename(part, draft.path) {
+        Ok(()) => Ok(()),
+        Err(refused) => {
+            drop(pages.remove(&id));
+            system.remove(part);
+            Err(refused)
+        }
+    }
 }
 
-/// Where the text of the file at a path is written before it takes its place.
-fn part_path(alloc: Global, path: &str) -> io::Result<String>
-    ensures { IfOk result (λ part. string_bytes part ≡ part_path path.now) }
-{
-    Ok(format!(in alloc; "{path}.bikleinu-part")?)
-}
-
-/// Puts a text in the place of the file at a path, once all of it stands at the path of a part. The
-/// file holds the text, or, where a step fails, what it held.
-pub fn replace_file<S: FileSystem>(
+/// Writes a text into a new part, so that it is on the disk. Where that fails there is no part.
+fn new_part<S: FileSystem>(
     system: &mut S,
     part: &str,
-    path: &str,
     text: &str,
-) -> io::Result<()>
-    requires { bytes_eq part.now path.now ≡ false }
-    ensures whole { IfSome (S.files system.old) (λ f. OnOk result (HasFile path.now (holds text.now)
-        (S.files system.new))) }
-    ensures stays { IfSome (S.files system.old) (λ f. OnErr result (HasFile path.now (f path.now)
-        (S.files system.new))) }
-    ensures others { IfSome (S.files system.old) (λ f. KeepsAllBut path.now part.now f
-        (S.files system.new)) }
+    mode: Option<u32>,
+) -> io::Result<FileId>
+    requires { is_part_path part.now ≡ true }
+    ensures kept { Goes IsKept (S.story system.old) (S.story system.new) }
+    ensures held { OnOk result (Goes (λ _ s. s.now part.now ≡ holds text.now)
+        (S.story system.old) (S.story system.new)) }
 {
-    if let Err(refused) = system.write(part, text) {
-        system.remove(part);
-        return Err(refused);
-    }
-    match system.rename(part, path) {
-        Ok(()) => Ok(()),
+    system.make(part, mode)?;
+    match filled(system, part, text) {
+        Ok(id) => Ok(id),
         Err(refused) => {
             system.remove(part);
             Err(refused)
         }
     }
+}
+
+/// Writes a text into the part that was made last.
+fn filled<S: FileSystem>(system: &mut S, part: &str, text: &str) -> io::Result<FileId>
+    requires { is_part_path part.now ≡ true }
+    ensures kept { Goes IsKept (S.story system.old) (S.story system.new) }
+    ensures held { OnOk result (Goes (λ _ s. s.now part.now ≡ holds text.now)
+        (S.story system.old) (S.story system.new)) }
+{
+    system.fill(part, text)?;
+    system.flush()
 }

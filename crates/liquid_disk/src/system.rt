@@ -1,57 +1,103 @@
-//! The files of the system.
-ghost use Rattle.std.specs.Prelude.{None, Option, IfSome};
-ghost use Rattle.liquid_disk.specs.Files.{ChangesAt, Files};
-ghost use Rattle.liquid_disk.specs.Parts.{IsFileRenamed, IsFileWritten};
+//! What a system does with its files.
+ghost use Rattle.std.specs.Prelude.{◌≡◌, None, Option, IfOk, IfSome, OnErr, OnOk};
+ghost use Rattle.liquid_model.specs.Texts.{Text};
+ghost use Rattle.liquid_disk.specs.Files.{IsFound};
+ghost use Rattle.liquid_disk.specs.Stories.{Changes, Goes, IsFilled, IsMade, IsRenamed, Story};
+ghost use Rattle.liquid_disk.specs.declared.system.Standing.{Standing};
 
-use std::{fs, io};
+use crate::disk::DiskFault;
+use std::alloc::Global;
+use std::io;
 
-/// What a system does with its files.
+/// A file by the device that it is on and its number there. Two paths of one file have one `FileId`.
+#[derive(Clone, Copy, Debug, PartialEq, Eq, PartialOrd, Ord)]
+pub struct FileId {
+    pub device: u64,
+    pub number: u64,
+}
+
+/// What stands at a path. A link there isn't followed.
+#[derive(Clone, Copy, Debug)]
+pub enum Standing {
+    /// Nothing, also where its folder isn't there.
+    Nothing,
+    /// A regular file, and who may read and write it: the last nine bits of its mode.
+    File(FileId, u32),
+    /// What is no file of its own.
+    Other(Occupant),
+}
+
+/// What is no file of its own.
+#[derive(Clone, Copy, Debug)]
+pub enum Occupant {
+    Link,
+    Folder,
+    Pipe,
+    Device,
+}
+
+/// What a system does with its files: one call each.
 pub trait FileSystem {
+    // The files, now and at each moment before, where they are known.
+    ghost story: { Self → Option Story } = { λ _. None };
+
     // What stands at each path, where it is known.
-    ghost files: { Self → Option Files } = { λ _. None };
+    ghost stands: { Self → Option (Text → Standing) } = { λ _. None };
 
-    /// Whether a path has a file of its own, or nothing, so that another file can take its place.
-    fn is_replaceable(&self, path: &str) -> bool;
+    /// What stands at a path.
+    fn standing(&self, path: &str) -> io::Result<Standing>
+        ensures { IfSome (stands self.now) (λ s. IfOk result (λ found. found ≡ s path.now)) };
 
-    /// Writes a text into the file at a path, in place of what it held. Where that fails, the file
-    /// may hold anything. No other file changes.
-    fn write(&mut self, path: &str, text: &str) -> io::Result<()>
-        ensures { IfSome (files self.old) (λ f. IsFileWritten path.now text.now f result
-            (files self.new)) };
+    /// The file that a path leads to, where it leads to one that is there.
+    fn file_at(&self, path: &str) -> io::Result<FileId>;
 
-    /// Gives a file another path, in place of what stood there. Where that fails, nothing changes.
+    /// The text of the file at a path, or none where there is no file.
+    fn read(&self, path: &str) -> Result<Option<String>, DiskFault>
+        ensures { IfSome (story self.now) (λ s. IsFound (s.now path.now) result) };
+
+    /// Makes a file without text at a path where nothing is, not even a link. With a mode, that is
+    /// who may read and write it; else it is as for any new file.
+    fn make(&mut self, path: &str, mode: Option<u32>) -> io::Result<()>
+        ensures made { OnOk result (Goes (IsMade path.now) (story self.old) (story self.new)) }
+        ensures unmade { OnErr result (story self.new ≡ story self.old) };
+
+    /// Writes a text into the file that was made last, which is at this path.
+    fn fill(&mut self, path: &str, text: &str) -> io::Result<()>
+        ensures filled { OnOk result (Goes (IsFilled path.now text.now) (story self.old)
+            (story self.new)) }
+        ensures unfilled { OnErr result (Goes (Changes path.now) (story self.old)
+            (story self.new)) };
+
+    /// Makes sure that what was written into the file that was made last is on the disk, and closes
+    /// the file.
+    fn flush(&mut self) -> io::Result<FileId>
+        ensures { story self.new ≡ story self.old };
+
+    /// Gives a file another path, in place of what stood there.
     fn rename(&mut self, from: &str, to: &str) -> io::Result<()>
-        ensures { IfSome (files self.old) (λ f. IsFileRenamed from.now to.now f result
-            (files self.new)) };
+        ensures renamed { OnOk result (Goes (IsRenamed from.now to.now) (story self.old)
+            (story self.new)) }
+        ensures same { OnErr result (story self.new ≡ story self.old) };
 
-    /// Takes away the file at a path, if it can. No other file changes.
+    /// Takes away the file at a path, if it can.
     fn remove(&mut self, path: &str)
-        ensures { IfSome (files self.old) (λ f. ChangesAt path.now f (files self.new)) };
-}
+        ensures { Goes (Changes path.now) (story self.old) (story self.new) };
 
-/// The files of the system that the program runs on. That they change as it says is trusted.
-#[derive(Drop)]
-pub struct SystemFiles<'r> {
-    pub rt: &'r HostRuntime,
-}
+    /// Makes a folder, and those that it lies in, where they aren't there.
+    fn make_folder(&mut self, folder: &str) -> io::Result<()>
+        ensures { story self.new ≡ story self.old };
 
-impl FileSystem for SystemFiles<'_> {
-    fn is_replaceable(&self, path: &str) -> bool {
-        match fs::symlink_metadata(self.rt, path) {
-            Ok(found) => found.is_file(),
-            Err(refused) => refused.kind() == io::ErrorKind::NotFound,
-        }
-    }
+    /// Makes sure that the names in a folder are on the disk.
+    fn flush_folder(&mut self, folder: &str) -> io::Result<()>
+        ensures { story self.new ≡ story self.old };
 
-    fn write(&mut self, path: &str, text: &str) -> io::Result<()> {
-        fs::write(self.rt, path, text)
-    }
+    /// Where a path leads, from the root of the system and without links.
+    fn real_path(&self, alloc: Global, path: &str) -> io::Result<String>;
 
-    fn rename(&mut self, from: &str, to: &str) -> io::Result<()> {
-        fs::rename(self.rt, from, to)
-    }
+    /// The paths of the parts in a folder that no process is writing.
+    fn left_parts(&self, alloc: Global, folder: &str) -> io::Result<Vec<String>>;
 
-    fn remove(&mut self, path: &str) {
-        let _ = fs::remove_file(self.rt, path);
-    }
+    /// Writes a text into what stands at a path and is no file of its own: a link, a pipe or a
+    /// device. What that changes isn't known.
+    fn write_through(&mut self, path: &str, text: &str) -> io::Result<()>;
 }

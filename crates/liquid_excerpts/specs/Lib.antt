@@ -1,4 +1,5 @@
 -- What the public contracts of this crate cite.
+pub mod Entries
 pub mod Faults
 pub mod Lines
 pub mod Paths

@@ -3,17 +3,20 @@
 --     IsMemoryStop stop      memory ran out
 --     IsMissing path stop, IsInside path stop, IsUnreadable path stop      it is about this path,
 --                                         unless memory ran out
-use Rattle.std.specs.Prelude.{◌≡◌, ℕ, Option, string_bytes, ⊤}
+--     IsBadData path text fault stop      the data at this path, of this text, has this fault, unless
+--                                         memory ran out
+use Rattle.std.specs.Prelude.{◌≡◌, ◌×◌, ℕ, Option, string_bytes, ⊤}
 use Rattle.std.specs.declared.io.ErrorKind.{ErrorKind as IoKind}
 use Rattle.liquid_excerpts.specs.declared.unreadable.Reason.{Reason}
 use Rattle.liquid_model.specs.Texts.{Text}
+use Rattle.liquid_model.specs.declared.error.Error.{Error}
 use Rattle.liquid_model.specs.declared.error.ErrorKind.TheVariants.{Memory}
 use Rattle.liquid_folder.specs.declared.failure.Failure.{Failure}
 use Rattle.liquid_folder.specs.declared.failure.Failure.TheVariants.{Usage, Stopped}
 use Rattle.liquid_folder.specs.declared.stop.FolderStop.{FolderStop}
 use Rattle.liquid_folder.specs.declared.stop.FolderStop.TheVariants.{Missing, Inside}
 use Rattle.liquid_folder.specs.declared.stop.FolderStop.TheVariants.{Unreadable, Fault, Input}
-use Rattle.liquid_folder.specs.declared.stop.FolderStop.TheVariants.{Output}
+use Rattle.liquid_folder.specs.declared.stop.FolderStop.TheVariants.{BadData, Output}
 
 abbrev pub failure_status : Failure → ℕ
 failure_status Usage = 2
@@ -30,6 +33,11 @@ IsMissing path stop = IsMemoryStop stop
 abbrev pub IsInside : Text → FolderStop → Type 0
 IsInside path (Inside p) = string_bytes p ≡ path
 IsInside path stop = IsMemoryStop stop
+
+abbrev pub IsBadData : Text → Text → Error → FolderStop → Type 0
+IsBadData path text fault (BadData p t e) =
+    (string_bytes p ≡ path) × (string_bytes t ≡ text) × (e ≡ fault)
+IsBadData path text fault stop = IsMemoryStop stop
 
 abbrev pub IsUnreadable : Text → FolderStop → Type 0
 IsUnreadable path (Unreadable p reason) = string_bytes p ≡ path

@@ -3,9 +3,10 @@ ghost use Rattle.std.specs.Prelude.{◌≡◌, [], IfOk, string_bytes};
 ghost use Rattle.liquid_folder.specs.Lines.{IsLineOf};
 
 use crate::paths::{file_in, is_left_out, is_same};
+use crate::readable::tell_left_out;
 use crate::stop::FolderStop;
 use crate::words::FolderCall;
-use liquid_excerpts::ShownPath;
+use liquid_excerpts::{Entry, LeftOut, entry_at};
 use liquid_model::Result;
 use liquid_site_files::{Changed, Folder};
 use std::alloc::Global;
@@ -77,8 +78,8 @@ pub struct Listing {
     pub is_whole: bool,
 }
 
-/// All files of the site but the data. What is passed over, and a name that can't be read, is
-/// mentioned on standard error. What that refuses is lost.
+/// All files of the site but the data. A folder among them, and a name that can't be read, is left
+/// out, which is told on standard error. What that refuses is lost.
 pub fn all_files(rt: &HostRuntime, folder: &Folder) -> std::result::Result<Listing, FolderStop> {
     let mut files = Vec::new(rt.alloc());
     let partials = names_in(rt, folder.partials.as_str())?;
@@ -125,7 +126,7 @@ fn names_in(rt: &HostRuntime, path: &str) -> std::result::Result<Names, FolderSt
 }
 
 impl Names {
-    /// Adds the name of a file. One that isn't UTF-8 is mentioned on standard error.
+    /// Adds the name of a file. One that isn't UTF-8 is told on standard error.
     fn add(
         &mut self,
         rt: &HostRuntime,
@@ -133,7 +134,8 @@ impl Names {
         entry: io::Result<DirEntry>,
     ) -> std::result::Result<(), FolderStop> {
         match entry {
-            Ok(entry) => if is_taken(rt, &entry) {
+            Ok(entry) if is_left_out(entry.file_name()) => {}
+            Ok(entry) => if is_taken(rt, path, entry.path().as_str())? {
                 self.names
                     .push(String::from_str(rt.alloc(), entry.file_name())?)?;
             },
@@ -141,8 +143,8 @@ impl Names {
                 if refused.kind() != io::ErrorKind::InvalidFilename {
                     return Err(FolderStop::unreadable_by(rt.alloc(), path, refused.kind()));
                 }
-                let path = ShownPath { path };
-                let _ = eprintln!(rt; "error: Read: {path}: a name in it isn't UTF-8");
+                let folder = path.strip_suffix('/').unwrap_or(path);
+                tell_left_out(rt, folder, LeftOut::Unnamed);
                 self.is_whole = false;
             }
         }
@@ -150,26 +152,15 @@ impl Names {
     }
 }
 
-/// Whether what stands in a folder is a file of the site. A folder, or what is no file, is passed
-/// over, which is mentioned.
-fn is_taken(rt: &HostRuntime, entry: &DirEntry) -> bool {
-    if is_left_out(entry.file_name()) {
-        return false;
+/// Whether what is found in a folder is to be looked at as a file of the site: no folder, which is
+/// told.
+fn is_taken(rt: &HostRuntime, folder: &str, path: &str) -> std::result::Result<bool, FolderStop> {
+    match entry_at(rt, folder, path) {
+        Ok(Entry::Folder | Entry::LinkToFolder) => {
+            tell_left_out(rt, path, LeftOut::Folder);
+            Ok(false)
+        }
+        Ok(_) => Ok(true),
+        Err(refused) => Err(FolderStop::unreadable_by(rt.alloc(), path, refused.kind())),
     }
-    let Ok(found) = fs::metadata(rt, entry.path()) else {
-        return true;
-    };
-    if found.is_file() {
-        return true;
-    }
-    let path = ShownPath {
-        path: entry.path().as_str(),
-    };
-    let what = if found.is_dir() {
-        "a folder"
-    } else {
-        "no file"
-    };
-    let _ = eprintln!(rt; "passed over: {path} is {what}");
-    false
 }

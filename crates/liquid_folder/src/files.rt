@@ -1,33 +1,25 @@
-//! The files of the system.
-use liquid_disk::put_file;
+//! The files of a site, as the system has them.
+use liquid_disk::{Bounds, PageFiles, SystemFiles};
 use liquid_excerpts::Reason;
-use liquid_site_files::{Disk, DiskFault};
-use std::{fs, io};
+use std::{fs, process};
 
-/// The files of the system. That they are what reading them says, and hold what was written to
-/// them, is trusted.
-#[derive(Drop)]
-pub struct SystemFiles<'r> {
-    pub rt: &'r HostRuntime,
-}
+/// The files of the system, into which the pages of a site go.
+pub type SitePages<'r> = PageFiles<SystemFiles<'r>>;
 
-impl<'r> Disk for SystemFiles<'r> {
-    fn read(&self, path: &str) -> Result<Option<String>, DiskFault> {
-        match fs::read_to_string(self.rt, path) {
-            Ok(text) => Ok(Some(text)),
-            Err(refused) => match refused.kind() {
-                io::ErrorKind::NotFound => Ok(None),
-                kind => Err(fault_of(kind)),
-            },
-        }
-    }
-
-    fn write(&mut self, path: &str, text: &str) -> Result<(), DiskFault> {
-        match put_file(self.rt, path, text) {
-            Ok(()) => Ok(()),
-            Err(refused) => Err(fault_of(refused.kind())),
-        }
-    }
+/// The files of a site, in folders that are there.
+pub fn site_pages<'r>(rt: &'r HostRuntime) -> SitePages<'r> {
+    let bounds = Bounds {
+        front: String::new(rt.alloc()),
+        root: None,
+        hidden: usize::MAX,
+        makes_folders: false,
+    };
+    PageFiles::new(
+        rt.alloc(),
+        SystemFiles::new(rt),
+        process::id(rt.process()),
+        bounds,
+    )
 }
 
 /// Why a file has no text, by another look at it, or none where it has one now.
@@ -38,12 +30,5 @@ pub fn reason_of(rt: &HostRuntime, path: &str) -> Option<Reason> {
             Err(refused) => Some(Reason::of_bytes(&refused)),
         },
         Err(refused) => Some(Reason::from(refused.kind())),
-    }
-}
-
-fn fault_of(kind: io::ErrorKind) -> DiskFault {
-    match kind {
-        io::ErrorKind::OutOfMemory => DiskFault::Memory,
-        _ => DiskFault::Refused,
     }
 }

@@ -6,6 +6,7 @@ mod failure;
 mod files;
 mod folders;
 mod paths;
+mod readable;
 mod rounds;
 mod stop;
 mod tell;

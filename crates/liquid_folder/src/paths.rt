@@ -1,9 +1,10 @@
 //! Paths of a site's files.
 ghost use Rattle.std.specs.Prelude.{◌≡◌, ◌↔◌, IsTrue, IfSome, IsNone};
-ghost use Rattle.std.specs.Path.{PathStartsWith, components_remaining};
+ghost use Rattle.std.specs.Path.{components_remaining};
 ghost use Rattle.liquid_model.specs.Texts.{Text};
 ghost use Rattle.liquid_folder.specs.Paths.{IsFileIn, is_no_file_name, is_skipped_file, steps};
 
+pub use liquid_excerpts::lies_in;
 use std::path::{Component, Components, Path};
 
 /// The name of the file that a path leads to, where that is right in the folder. A `.` among the
@@ -46,13 +47,6 @@ fn steps_of(path: &str) -> Components<'_>
         Some(Component::CurDir) => rest,
         _ => whole,
     }
-}
-
-/// Whether a path is that of the folder, or leads into it, step by step.
-pub fn lies_in(path: &str, folder: &str) -> bool
-    ensures { IsTrue result ↔ PathStartsWith path.now folder.now }
-{
-    Path::new(path).starts_with(folder)
 }
 
 /// Whether a file of this name is left out: it begins with a `.` or ends in `~`.

@@ -2,9 +2,11 @@
 ghost use Rattle.std.specs.Prelude.{◌≡◌, [], IfOk, Ok, OnOk, false, true};
 
 use crate::changes::{Line, Listing, all_files, line_of};
-use crate::files::{SystemFiles, reason_of};
+use crate::files::{SitePages, reason_of, site_pages};
+use crate::readable::leave_out;
 use crate::stop::FolderStop;
 use crate::tell::tell_round;
+use liquid_excerpts::system_words;
 use liquid_model::Quoted;
 use liquid_site_files::{Changed, Disk, DiskFault, Folder, Site, round, site_of};
 use std::alloc::AllocError;
@@ -15,7 +17,7 @@ use std::fs;
 pub struct Rounds<'r> {
     rt: &'r HostRuntime,
     folder: &'r Folder,
-    files: SystemFiles<'r>,
+    files: SitePages<'r>,
     site: Site,
     /// The files to look at in the next round: those that were named, and those that were refused.
     changes: Vec<Changed>,
@@ -31,7 +33,7 @@ impl<'r> Rounds<'r> {
     pub fn new(rt: &'r HostRuntime, folder: &'r Folder, out: &str) -> Result<Rounds<'r>, FolderStop>
         ensures named { IfOk result (λ rounds. rounds.is_named ≡ false) }
     {
-        let files = SystemFiles { rt };
+        let files = site_pages(rt);
         let site = first_site(rt, folder, &files)?;
         let Listing {
             files: changes,
@@ -91,13 +93,16 @@ impl<'r> Rounds<'r> {
     }
 
     /// Runs one round and reports it. Whether no file was refused, no page ended by a fault, and
-    /// each page's file was written. A file that is refused is looked at again in the next round.
+    /// each page's file was written. A file that is refused is looked at again in the next round;
+    /// what may not be read, as a pipe, is left out, and changes nothing.
     pub fn one_round(&mut self) -> Result<bool, FolderStop>
         ensures named { OnOk result (self.new.is_named ≡ false) }
         ensures whole { self.new.is_whole ≡ self.old.is_whole }
     {
         self.changes.sort_unstable();
         self.changes.dedup();
+        leave_out(self.rt, self.folder, &mut self.changes)?;
+        self.files.keep_source(self.folder.data.as_str())?;
         let before = self.site.rendered();
         let done = round(
             self.rt.alloc(),
@@ -115,7 +120,28 @@ impl<'r> Rounds<'r> {
             }
         }
         let rendered = self.site.rendered().saturating_sub(before);
-        tell_round(self.rt, &self.site, self.folder, done, rendered)
+        let is_kept = self.flush(done.written.as_ref().is_ok_and(|written| *written > 0));
+        let is_clean = tell_round(self.rt, &self.site, self.folder, done, rendered)?;
+        Ok(is_clean && is_kept)
+    }
+
+    /// Makes sure that the names of pages that were written are on the disk, and tells it if they
+    /// may not be.
+    fn flush(&mut self, is_written: bool) -> bool
+        ensures named { self.new.is_named ≡ self.old.is_named }
+        ensures whole { self.new.is_whole ≡ self.old.is_whole }
+    {
+        if !is_written {
+            return true;
+        }
+        match self.files.flush_folders() {
+            Ok(()) => true,
+            Err(refused) => {
+                let words = system_words(refused.kind());
+                let _ = eprintln!(self.rt; "error: Write: the folder of the pages: {words}");
+                false
+            }
+        }
     }
 }
 
@@ -131,12 +157,15 @@ fn changes_at_first(rt: &HostRuntime, folder: &Folder, out: &str) -> Result<List
 fn first_site(
     rt: &HostRuntime,
     folder: &Folder,
-    files: &SystemFiles<'_>,
+    files: &SitePages<'_>,
 ) -> Result<Site, FolderStop> {
-    match files.read(folder.data.as_str()) {
-        Ok(Some(text)) => Ok(site_of(rt.alloc(), text.as_str())?),
-        Ok(None) | Err(DiskFault::Refused) => {
-            let path = folder.data.as_str();
+    let path = folder.data.as_str();
+    match files.read(path) {
+        Ok(Some(text)) => match site_of(rt.alloc(), text.as_str()) {
+            Ok(site) => Ok(site),
+            Err(fault) => Err(FolderStop::bad_data(rt.alloc(), path, text, fault)),
+        },
+        Ok(None) | Err(DiskFault::Refused(_) | DiskFault::Protected(_)) => {
             Err(FolderStop::unreadable(rt.alloc(), path, reason_of(rt, path)))
         }
         Err(DiskFault::Memory) => Err(FolderStop::from(AllocError)),

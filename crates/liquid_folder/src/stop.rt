@@ -1,11 +1,11 @@
 //! Why the program ends before its input does.
-ghost use Rattle.std.specs.Prelude.{◌≡◌};
+ghost use Rattle.std.specs.Prelude.{◌≡◌, string_bytes};
 ghost use Rattle.std.specs.declared.io.ErrorKind.TheVariants.{OutOfMemory};
 ghost use Rattle.liquid_folder.specs.Stops.{HasReason, IsInput, IsInside, IsMissing, IsUnreadable};
-ghost use Rattle.liquid_folder.specs.Stops.{IsMemoryStop};
+ghost use Rattle.liquid_folder.specs.Stops.{IsBadData, IsMemoryStop};
 
-use liquid_excerpts::{Reason, ShownFault, ShownPath, system_words};
-use liquid_model::Error;
+use liquid_excerpts::{Excerpt, Reason, ShownFault, ShownPath, system_words};
+use liquid_model::{Error, ErrorKind};
 use std::alloc::{AllocError, AllocFailed, Global};
 use std::{fmt, io};
 
@@ -18,7 +18,9 @@ pub enum FolderStop {
     Unreadable(String, Option<Reason>),
     /// The pages would be written into the folder of this path, where templates are.
     Inside(String),
-    /// The data has a fault, or memory ran out.
+    /// The data at this path, of this text, has a fault.
+    BadData(String, String, Error),
+    /// A fault that belongs to no text: memory ran out.
     Fault(Error),
     /// Standard input can't be read.
     Input(io::ErrorKind),
@@ -70,6 +72,19 @@ impl FolderStop {
         }
     }
 
+    /// Data of this text that has a fault.
+    pub fn bad_data(alloc: Global, path: &str, text: String, fault: Error) -> FolderStop
+        ensures { IsBadData path.now (string_bytes text) fault result }
+    {
+        if let ErrorKind::Memory = fault.kind {
+            return FolderStop::from(AllocError);
+        }
+        match String::from_str(alloc, path) {
+            Ok(path) => FolderStop::BadData(path, text, fault),
+            Err(refused) => FolderStop::from(refused),
+        }
+    }
+
     /// Pages that would be written into this folder of templates.
     pub fn inside(alloc: Global, path: &str) -> FolderStop
         ensures { IsInside path.now result }
@@ -94,6 +109,7 @@ impl fmt::Display for FolderStop {
             FolderStop::Missing(path) => write_missing(f, path),
             FolderStop::Unreadable(path, reason) => write_unreadable(f, path, *reason),
             FolderStop::Inside(path) => write_inside(f, path),
+            FolderStop::BadData(path, text, fault) => write_bad_data(f, path, text, fault),
             FolderStop::Fault(fault) => write!(f, "error: {}", ShownFault { fault }),
             FolderStop::Input(kind) => write_stream(f, "standard input", *kind),
             FolderStop::Output(kind) => write_stream(f, "standard output", *kind),
@@ -117,6 +133,22 @@ fn write_unreadable<W: fmt::Write>(
         Some(reason) => write!(f, "\n  {reason}"),
         None => Ok(()),
     }
+}
+
+fn write_bad_data<W: fmt::Write>(
+    f: &mut fmt::Formatter<W>,
+    path: &String,
+    text: &String,
+    fault: &Error,
+) -> fmt::Result {
+    let path = shown(path);
+    write!(f, "error: {path}: {fault}")?;
+    if let Some(location) = &fault.location {
+        if let Some(excerpt) = Excerpt::new(text.as_str(), location) {
+            write!(f, "\n{excerpt}")?;
+        }
+    }
+    Ok(())
 }
 
 fn write_inside<W: fmt::Write>(f: &mut fmt::Formatter<W>, path: &String) -> fmt::Result {

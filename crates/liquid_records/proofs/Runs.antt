@@ -9,10 +9,10 @@ use Rattle.liquid_model.specs.Data.{Pairs}
 use Rattle.liquid_model.specs.Maps.{insert}
 use Rattle.liquid_model.specs.Texts.{Text}
 use Rattle.liquid_model.specs.declared.error.ErrorKind.{ErrorKind}
-use Rattle.liquid_disk.specs.Files.{File, Files, ChangesAt, holds, with_file}
+use Rattle.liquid_disk.specs.Files.{File, Files, holds, with_file}
 use Rattle.liquid_records.specs.Records.{Made, Reason}
 use Rattle.liquid_records.specs.Steps.{EarlierNames, Fate, no_page, again, unwritten, IsNamed, IsTried, Leaves}
-use Rattle.liquid_records.specs.Runs.{Records, Stand, IsTaken, AreRecordsTaken, tried, written_names, AreApart, HasPage, HavePages}
+use Rattle.liquid_records.specs.Runs.{Records, Stand, IsTaken, AreRecordsTaken, tried, written_names, page_name, page_names, AreApart, HasPage, HavePages}
 
 -- ---- files and names
 
@@ -88,9 +88,7 @@ does (Ok made) n old f new t = by_name (old.names made.name) refl t.step
     written e q d = ap (λ fs. fs q) (same_files new.files (with_file old.files made.name (holds made.text)) (left_by (Ok made.name) e)) ∙ other_file old.files made.name (holds made.text) q d
 
     refused : f ≡ Err (unwritten made.name) → (q : Text) → bytes_eq made.name q ≡ false → new.files q ≡ old.files q
-    refused e q d =
-        let c : ChangesAt made.name old.files (Some new.files) = left_by (Err (unwritten made.name)) e in
-        ap (λ fs. fs q) (same_files new.files (with_file old.files made.name c.0) c.1) ∙ other_file old.files made.name c.0 q d
+    refused e q d = ap (λ fs. fs q) (same_files new.files old.files (left_by (Err (unwritten made.name)) e))
 
     tries : old.names made.name ≡ None → new.names ≡ insert old.names made.name n → IsTried made.name f → Does n old f new
     tries none set (inl e) = subst (λ g. Does n old g new) (sym e) (a_file made.name refl none set (written e))
@@ -122,17 +120,21 @@ module _ {n : ℕ} {old : Stand} {f : Fate} {new : Stand} where
   joined (a_file name e none set left) q names h k =
       ap (λ l. list_any (bytes_eq q) (l ++ names)) e ∙ or_both (bytes_eq q name) (list_any (bytes_eq q) names) (sym (ap (list_any (bytes_eq q)) e) ∙ h) k
 
-  split : Does n old f new → (q : Text) (names : List Text) → list_any (bytes_eq q) (tried f ++ names) ≡ false → (list_any (bytes_eq q) (tried f) ≡ false) × (list_any (bytes_eq q) names ≡ false)
-  split (nothing e same left) q names h = (ap (list_any (bytes_eq q)) e, sym (ap (λ l. list_any (bytes_eq q) (l ++ names)) e) ∙ h)
-  split (a_file name e none set left) q names h =
-      let both = or_split (bytes_eq q name) (list_any (bytes_eq q) names) (sym (ap (λ l. list_any (bytes_eq q) (l ++ names)) e) ∙ h) in
-      (ap (list_any (bytes_eq q)) e ∙ both.0, both.1)
-
   -- its name is apart from those that come later, which are apart
   set_apart : Does n old f new → (names : List Text) → ((q : Text) → IsSome (new.names q) → list_any (bytes_eq q) names ≡ false) → AreApart names → AreApart (tried f ++ names)
   set_apart (nothing e same left) names later are = subst (λ l. AreApart (l ++ names)) (sym e) are
   set_apart (a_file name e none set left) names later are =
       subst (λ l. AreApart (l ++ names)) (sym e) (later name (subst (λ m. IsSome (m name)) (sym set) (own_name old.names name n)), are)
+
+-- a file that no page was written into
+page_stays : (made : Result Made Reason) (n : ℕ) (old : Stand) (f : Fate) (new : Stand) → IsTaken made n old f new → (q : Text) → list_any (bytes_eq q) (page_name f) ≡ false → new.files q ≡ old.files q
+page_stays made n old (Ok name) new t q h = file_stays (does made n old (Ok name) new t) q h
+page_stays (Err why) n old (Err e) new t q h = ap (λ fs. fs q) (same_files new.files old.files t.left)
+page_stays (Ok made) n old (Err e) new t q h = ap (λ fs. fs q) (same_files new.files old.files t.left)
+
+split_page : (q : Text) (f : Fate) (names : List Text) → list_any (bytes_eq q) (page_name f ++ names) ≡ false → (list_any (bytes_eq q) (page_name f) ≡ false) × (list_any (bytes_eq q) names ≡ false)
+split_page q (Ok name) names h = or_split (bytes_eq q name) (list_any (bytes_eq q) names) h
+split_page q (Err e) names h = (refl, h)
 
 -- the page that is in its file after one record, where the file stays as it is
 has_page : (made : Result Made Reason) (n : ℕ) (old : Stand) (f : Fate) (new : Stand) (files : Files) → IsTaken made n old f new → ((q : Text) → IsSome (new.names q) → files q ≡ new.files q) → HasPage made f files
@@ -182,11 +184,10 @@ module _ (comes : Result Pairs ErrorKind → Result Made Reason) where
   pages_stand (r ∷ rs) old (f ∷ fs) new t =
       (has_page (comes r.1) r.0 old f t.0 new.files t.1 (λ q s. (later rs t.0 fs new t.2 q s).1), pages_stand rs t.0 fs new t.2)
 
-  pub others_stay : (records : Records) (old : Stand) (fates : List Fate) (new : Stand) → AreRecordsTaken comes records old fates new → (q : Text) → list_any (bytes_eq q) (written_names fates) ≡ false → new.files q ≡ old.files q
+  pub others_stay : (records : Records) (old : Stand) (fates : List Fate) (new : Stand) → AreRecordsTaken comes records old fates new → (q : Text) → list_any (bytes_eq q) (page_names fates) ≡ false → new.files q ≡ old.files q
   others_stay [] old [] new t q h = ap (λ x. x.files q) t
   others_stay [] old (f ∷ fs) new t q h = absurd t
   others_stay (r ∷ rs) old [] new t q h = absurd t
   others_stay (r ∷ rs) old (f ∷ fs) new t q h =
-      let d = does (comes r.1) r.0 old f t.0 t.1 in
-      let both = split d q (written_names fs) h in
-      others_stay rs t.0 fs new t.2 q both.1 ∙ file_stays d q both.0
+      let both = split_page q f (page_names fs) h in
+      others_stay rs t.0 fs new t.2 q both.1 ∙ page_stays (comes r.1) r.0 old f t.0 t.1 q both.0

@@ -4,6 +4,8 @@ use Rattle.std.specs.Fmt.{decimal}
 use Rattle.liquid_model.specs.Errors.{error_text}
 use Rattle.liquid_model.specs.Quotes.{quotation}
 use Rattle.liquid_model.specs.Texts.{Text}
+use Rattle.liquid_disk.specs.Words.{protected_text}
+use Rattle.liquid_disk.specs.declared.disk.DiskFault.TheVariants.{Protected}
 use Rattle.liquid_records.specs.declared.job.Why.{Why}
 use Rattle.liquid_records.specs.declared.job.Why.TheVariants.{NoData, Unnamed, BadName, Faulted}
 use Rattle.liquid_records.specs.declared.merge.Failure.{Failure}
@@ -21,5 +23,7 @@ failure_text (NoPage why) = why_text why
 failure_text (Again name before) = codes "the file `" ++ (quotation (string_bytes name)
     ++ (codes "` is that of record " ++ (decimal before
     ++ codes ": give each record another name")))
-failure_text (Unwritten name) = codes "the file `" ++ (quotation (string_bytes name)
+failure_text (Unwritten name (Protected why)) = codes "the file `"
+    ++ (quotation (string_bytes name) ++ (codes "` can't be written: " ++ protected_text why))
+failure_text (Unwritten name fault) = codes "the file `" ++ (quotation (string_bytes name)
     ++ codes "` can't be written")

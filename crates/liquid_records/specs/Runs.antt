@@ -2,6 +2,7 @@
 --     AreRecordsTaken comes records old fates new      the records were taken one after another;
 --       comes says what each comes to
 --     written_names fates      the names of the files that were written, or refused by the disk
+--     page_names fates      the names of those that were written
 use Rattle.std.specs.Prelude.{◌≡◌, ℕ, false, List, [], ◌∷◌, ◌++◌, bytes_eq, ⊤, Some, Result, Ok}
 use Rattle.std.specs.Prelude.{Err}
 use Rattle.std.specs.List.{list_any}
@@ -47,6 +48,15 @@ abbrev pub written_names : List Fate → List Text
 written_names [] = []
 written_names (f ∷ fs) = tried f ++ written_names fs
 
+-- the name of a file that a record wrote
+abbrev pub page_name : Fate → List Text
+page_name (Ok name) = name ∷ []
+page_name (Err failed) = []
+
+abbrev pub page_names : List Fate → List Text
+page_names [] = []
+page_names (f ∷ fs) = page_name f ++ page_names fs
+
 -- no two of the names are the same
 abbrev pub AreApart : List Text → Type 0
 AreApart [] = ⊤
@@ -81,8 +91,8 @@ PagesStand = (job : Job) (pattern : Nodes) (records : Records) (files : Files) (
     (new : Stand) → IsMerge job pattern records files fates new
     → HavePages (record_outcome job (Some pattern)) records fates new.files
 
--- no other file changes
+-- no other file changes: one that is refused holds what it held
 abbrev pub OthersStay : Type 0
 OthersStay = (job : Job) (pattern : Nodes) (records : Records) (files : Files) (fates : List Fate)
     (new : Stand) → IsMerge job pattern records files fates new
-    → (q : Text) → list_any (bytes_eq q) (written_names fates) ≡ false → new.files q ≡ files q
+    → (q : Text) → list_any (bytes_eq q) (page_names fates) ≡ false → new.files q ≡ files q

@@ -5,7 +5,7 @@
 use Rattle.std.specs.Prelude.{◌≡◌, ◌⊎◌, ℕ, Option, Some, None, Result, Ok, Err}
 use Rattle.liquid_model.specs.Maps.{Map, insert}
 use Rattle.liquid_model.specs.Texts.{Text}
-use Rattle.liquid_disk.specs.Files.{Files, ChangesAt, holds, with_file}
+use Rattle.liquid_disk.specs.Files.{Files, holds, with_file}
 use Rattle.liquid_records.specs.Records.{Made, Reason}
 
 -- the names that came before, each with the number of its record
@@ -38,9 +38,7 @@ abbrev pub IsRecordStep : ℕ → Result Made Reason → EarlierNames → Fate �
 IsRecordStep n (Err why) names fate after = (fate ≡ Err (no_page why)) × (after ≡ names)
 IsRecordStep n (Ok made) names fate after = IsNamed n made.name (names made.name) names fate after
 
--- the file of a page holds the page, one that was refused may hold anything, and no other file
--- changes
+-- the file of a page that was written holds the page, and no other file changes
 abbrev pub Leaves : Result Made Reason → Fate → Files → Option Files → Type 0
 Leaves (Ok made) (Ok name) old new = new ≡ Some (with_file old made.name (holds made.text))
-Leaves (Ok made) (Err (unwritten name)) old new = ChangesAt made.name old new
 Leaves made fate old new = new ≡ Some old

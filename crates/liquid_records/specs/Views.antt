@@ -45,7 +45,7 @@ outcome_view view (Err why) = Err (why_view why)
 abbrev pub failure_view : Failure → Failed
 failure_view (NoPage why) = no_page (why_view why)
 failure_view (Again name number) = again (string_bytes name) number
-failure_view (Unwritten name) = unwritten (string_bytes name)
+failure_view (Unwritten name fault) = unwritten (string_bytes name)
 
 abbrev pub fate_view : Result (String Global) Failure → Fate
 fate_view (Ok name) = Ok (string_bytes name)

@@ -12,7 +12,7 @@ ghost use Rattle.liquid_records.specs.inside.Puts.{map_names};
 
 use crate::job::{Job, Made, RecordResult, Why};
 use liquid_core::{ErrorKind, Object, Result};
-use liquid_disk::Disk;
+use liquid_disk::{Disk, DiskFault};
 use liquid_json::data_from_json;
 use liquid_syntax::Template;
 use std::alloc::Global;
@@ -25,8 +25,8 @@ pub enum Failure {
     NoPage(Why),
     /// The name is that of the page of an earlier record, which has this number.
     Again(String, usize),
-    /// The file of this name can't be written.
-    Unwritten(String),
+    /// The file of this name isn't written, for this reason, and holds what it held.
+    Unwritten(String, DiskFault),
 }
 
 /// What becomes of a record: the name of its page's file, or why its page is in none.
@@ -55,7 +55,7 @@ impl Merge {
     }
 
     /// Writes the page of a record with these members into its file. The answer is the file's name,
-    /// or why the record has no page there: then no file changed but one that can't be written.
+    /// or why the record has no page there: then no file changed.
     ///
     /// It is `Memory` where a growth was refused, and no other kind; then no file changed, and the
     /// merge is as it was, so that the next record can be taken.
@@ -165,6 +165,6 @@ fn put<D: Disk>(
     drop(names.insert(String::from_str(alloc, name.as_str())?, number)?);
     match disk.write(name.as_str(), text.as_str()) {
         Ok(()) => Ok(Ok(name)),
-        Err(_) => Ok(Err(Failure::Unwritten(name))),
+        Err(fault) => Ok(Err(Failure::Unwritten(name, fault))),
     }
 }

@@ -5,6 +5,7 @@ ghost use Rattle.liquid_records.specs.Messages.{failure_text, why_text};
 use crate::job::Why;
 use crate::merge::Failure;
 use liquid_core::Quoted;
+use liquid_disk::DiskFault;
 use std::fmt;
 
 /// What follows the number of the record.
@@ -45,7 +46,13 @@ impl fmt::Display for Failure {
                     "the file `{name}` is that of record {before}: give each record another name"
                 )
             }
-            Failure::Unwritten(name) => {
+            Failure::Unwritten(name, DiskFault::Protected(why)) => {
+                let name = Quoted {
+                    text: name.as_str(),
+                };
+                write!(f, "the file `{name}` can't be written: {why}")
+            }
+            Failure::Unwritten(name, _) => {
                 let name = Quoted {
                     text: name.as_str(),
                 };

@@ -1,20 +1,19 @@
 -- What putting a file leaves of a disk, and what no file that is written leaves.
-use Rattle.std.specs.Prelude.{◌≡◌, ℕ, [], ◌∷◌, ◌++◌, not, Bool, true, false, cond, bytes_eq, Option, Some, None, Result, Ok, Err, IfOk, OnOk, IfSome, ⊤, MatchBool, option_map, string_bytes}
+use Rattle.std.specs.Prelude.{◌≡◌, ℕ, [], ◌∷◌, ◌++◌, not, Bool, true, false, cond, bytes_eq, Option, Some, None, Result, Ok, Err, IfOk, OnErr, OnOk, IfSome, ⊤, MatchBool, option_map, string_bytes}
 use Rattle.std.proofs.Common.{append_assoc}
 use Rattle.std.proofs.lemmas.Slice.Eq.{bytes_eq-Decides}
 use mathlib.Core.Path.{refl, sym, ap, subst, fun_ext, ◌∙◌}
 use Rattle.std.proofs.lemmas.Bool.{or_parts}
 use Rattle.liquid_model.specs.ErrorKinds.{is_memory}
-use Rattle.liquid_model.specs.Errors.{HasMessageUnlessMemory}
 use Rattle.liquid_model.specs.Texts.{Text}
 use Rattle.liquid_model.specs.declared.error.Error.{Error}
 use Rattle.liquid_engine.specs.Pages.{Shown}
 use Rattle.liquid_site.specs.Contents.{Pages}
 use Rattle.liquid_site.specs.Steps.{saturated_sum}
 use Rattle.liquid_site_files.specs.Written.{all_written, count_from, is_page_path, KeepsOtherFiles, unwritten_message, IsUnwritten, TellsUnwritten}
-use Rattle.liquid_disk.specs.Files.{File, Files, gone, holds, unreadable, with_file, is_held, ChangesAt, IsPut}
+use Rattle.liquid_disk.specs.Files.{File, Files, gone, holds, unreadable, with_file, is_held, IsPut}
 use Rattle.liquid_disk.specs.declared.disk.DiskFault.{DiskFault}
-use Rattle.liquid_site_files.specs.inside.Needed.{NeededUnlessMemory}
+use Rattle.liquid_site_files.specs.inside.Needed.{NeededUnlessMemory, TellsWhyUnlessMemory}
 
 pub file_there : (files : Files) (path : Text) (file : File) → files path ≡ file → with_file files path file ≡ files
 unfolding with_file
@@ -29,9 +28,16 @@ holding (holds held) text k = ap holds ((bytes_eq-Decides held text).0 k)
 holding gone text k = absurd cc
 holding unreadable text k = absurd cc
 
-pub unchanged_at : (o : Option Files) (path : Text) → IfSome o (λ f. ChangesAt path f o)
-unchanged_at None path = tt
-unchanged_at (Some f) path = (f path, ap Some (sym (file_there f path (f path) refl)))
+-- nothing changed, whatever is answered
+pub stays : {X : Type 0} (o : Option Files) (r : Result X Error) → IfSome o (λ f. OnErr r (o ≡ Some f))
+stays None r = tt
+stays (Some f) (Ok x) = tt
+stays (Some f) (Err e) = refl
+
+-- a fault that isn't told says nothing
+pub no_fault : {X : Type 0} (o v : Option Files) (r : Result X Error) (x : X) → r ≡ Ok x → IfSome o (λ f. OnErr r (v ≡ Some f))
+no_fault None v r x is = tt
+no_fault (Some f) v r x is = subst (λ s. OnErr s (v ≡ Some f)) (sym is) tt
 
 pub already : (o : Option Files) (path given text : Text) (b : Bool) → given ≡ path → IfSome o (λ f. b ≡ is_held (f given) text) → b ≡ true → IfSome o (λ f. o ≡ Some (with_file f path (holds text)))
 already None path given text b is h k = tt
@@ -48,11 +54,11 @@ none_if_err (Some f) r e P failed = subst (λ x. IfOk x (P f)) (sym failed) tt
 
 -- ---- a file that is written
 
--- it changes alone, whatever the disk answers
-pub put_alone : (o v : Option Files) (path given text : Text) (r : Result (Unit {0}) DiskFault) → given ≡ path → IfSome o (λ f. IsPut given text f r v) → IfSome o (λ f. ChangesAt path f v)
-put_alone None v path given text r is put = tt
-put_alone (Some f) v path given text (Ok u) is put = (holds text, put ∙ (λ i. Some (with_file f (is i) (holds text))))
-put_alone (Some f) v path given text (Err e) is put = (put.0, put.1 ∙ (λ i. Some (with_file f (is i) put.0)))
+-- nothing changed where the disk refuses it
+pub put_kept : {X : Type 0} (o v : Option Files) (path text : Text) (r : Result (Unit {0}) DiskFault) (why : DiskFault) (s : Result X Error) → r ≡ Err why → IfSome o (λ f. IsPut path text f r v) → IfSome o (λ f. OnErr s (v ≡ Some f))
+put_kept None v path text r why s is put = tt
+put_kept (Some f) v path text r why (Ok x) is put = tt
+put_kept (Some f) v path text r why (Err e) is put = subst (λ a. IsPut path text f a v) is put
 
 -- it holds the text where the disk takes it
 pub put_there : (o v : Option Files) (path given text : Text) (r : Result (Unit {0}) DiskFault) (u : Unit {0}) → given ≡ path → r ≡ Ok u → IfSome o (λ f. IsPut given text f r v) → IfSome o (λ f. v ≡ Some (with_file f path (holds text)))
@@ -148,29 +154,25 @@ moved_on (Some f) (Some g) v out all left rest p name text n m b is named text_i
     subst (λ x. Progress out all rest m f x) (sym there) (step out all rest p n m f g on_it (count ∙ turned b (is_held (g (out ++ p.0)) p.1.text) (saturated_sum n 1) n here))
 
 -- the writing ended at a page
-pub ended_at : (o w v : Option Files) (out : Text) (all left rest : Pages) (p : Text × Shown) (name : Text) (n : ℕ) → left ≡ p ∷ rest → name ≡ p.0 → IfSome o (λ f. Progress out all left n f w) → IfSome w (λ f. ChangesAt (out ++ name) f v)
+pub ended_at : (o w v : Option Files) (out : Text) (all left rest : Pages) (p : Text × Shown) (n : ℕ) → left ≡ p ∷ rest → IfSome o (λ f. Progress out all left n f w) → IfSome w (λ f. v ≡ Some f)
     → IfSome o (λ f. KeepsOtherFiles out all f v)
-ended_at None w v out all left rest p name n is named on changed = tt
-ended_at (Some f) None v out all left rest p name n is named on changed = absurd on
-ended_at (Some f) (Some g) v out all left rest p name n is named on changed =
+ended_at None w v out all left rest p n is on kept = tt
+ended_at (Some f) None v out all left rest p n is on kept = absurd on
+ended_at (Some f) (Some g) v out all left rest p n is on kept =
     let on_it : IsOn out all (p ∷ rest) n f g = subst (λ l. IsOn out all l n f g) is on in
-    let there : v ≡ Some (with_file g (out ++ p.0) changed.0) = changed.1 ∙ (λ i. Some (with_file g (out ++ named i) changed.0)) in
-    subst (λ x. KeepsOtherFiles out all f x) (sym there) (others_kept out all rest p n f g changed.0 on_it)
+    subst (λ x. KeepsOtherFiles out all f x) (sym kept) on_it.others
 
 -- the page that it ended at, unless memory ran out
 pub stopped_at : (o w v : Option Files) (out : Text) (all left rest : Pages) (p : Text × Shown) (name text : Text) (n : ℕ) (e : Error) → left ≡ p ∷ rest → name ≡ p.0 → text ≡ p.1.text → IfSome o (λ f. Progress out all left n f w)
-    → IfSome w (λ f. ChangesAt (out ++ name) f v) → IfSome w (λ f. NeededUnlessMemory (f (out ++ name)) text e) → HasMessageUnlessMemory (unwritten_message (out ++ name)) e → IfSome o (λ f. TellsUnwritten out all f v e)
-stopped_at None w v out all left rest p name text n e is named same on changed needed message = tt
-stopped_at (Some f) None v out all left rest p name text n e is named same on changed needed message = absurd on
-stopped_at (Some f) (Some g) v out all left rest p name text n e is named same on changed needed message = at (is_memory e.kind) needed message
+    → IfSome w (λ f. v ≡ Some f) → IfSome w (λ f. NeededUnlessMemory (f (out ++ name)) text e) → TellsWhyUnlessMemory (out ++ name) e → IfSome o (λ f. TellsUnwritten out all f v e)
+stopped_at None w v out all left rest p name text n e is named same on kept needed message = tt
+stopped_at (Some f) None v out all left rest p name text n e is named same on kept needed message = absurd on
+stopped_at (Some f) (Some g) v out all left rest p name text n e is named same on kept needed message = at (is_memory e.kind) needed message
   where
     on_it : IsOn out all (p ∷ rest) n f g
     on_it = subst (λ l. IsOn out all l n f g) is on
 
-    changed_there : ChangesAt (out ++ p.0) (all_written out on_it.done f) v
-    changed_there = subst (λ h. ChangesAt (out ++ p.0) h v) on_it.so_far (subst (λ m. ChangesAt (out ++ m) g v) named changed)
-
-    at : (b : Bool) → MatchBool b ⊤ (is_held (g (out ++ name)) text ≡ false) → MatchBool b ⊤ (option_map string_bytes e.message ≡ Some (unwritten_message (out ++ name))) → MatchBool b ⊤ (IsUnwritten out all f v e)
+    at : (b : Bool) → MatchBool b ⊤ (is_held (g (out ++ name)) text ≡ false) → MatchBool b ⊤ ((why : DiskFault) × (option_map string_bytes e.message ≡ Some (unwritten_message (out ++ name) why))) → MatchBool b ⊤ (IsUnwritten out all f v e)
     at true h k = tt
     at false h k = record {
       front = on_it.done;
@@ -178,6 +180,7 @@ stopped_at (Some f) (Some g) v out all left rest p name text n e is named same o
       back = rest;
       all = on_it.split;
       needed = sym (λ i. is_held (on_it.so_far i (out ++ named i)) (same i)) ∙ h;
-      left = changed_there;
-      message = k ∙ (λ i. Some (unwritten_message (out ++ named i)));
+      left = kept ∙ ap Some on_it.so_far;
+      why = k.0;
+      message = k.1 ∙ (λ i. Some (unwritten_message (out ++ named i) k.0));
     }

@@ -11,7 +11,10 @@ use Rattle.liquid_model.specs.declared.error.ErrorKind.TheVariants.{Memory, Writ
 use Rattle.liquid_engine.specs.Pages.{Shown}
 use Rattle.liquid_site.specs.Contents.{Pages}
 use Rattle.liquid_site.specs.Steps.{saturated_sum}
-use Rattle.liquid_disk.specs.Files.{Files, ChangesAt, holds, with_file, is_held}
+use Rattle.liquid_disk.specs.Files.{Files, holds, with_file, is_held}
+use Rattle.liquid_disk.specs.Words.{protected_text}
+use Rattle.liquid_disk.specs.declared.disk.DiskFault.{DiskFault}
+use Rattle.liquid_disk.specs.declared.disk.DiskFault.TheVariants.{Protected}
 
 -- why a page's file isn't written: memory ran out, or the disk refused it
 abbrev pub IsStop : ErrorKind → Type 0
@@ -39,12 +42,14 @@ KeepsOtherFiles out ps old None = ⊥
 KeepsOtherFiles out ps old (Some new) = (q : Text) → is_page_path out ps q ≡ false → new q ≡ old q
 
 -- what a message says of a file that isn't written
-abbrev pub unwritten_message : Text → Text
-unwritten_message path = codes "the file `" ++ path ++ codes "` can't be written"
+abbrev pub unwritten_message : Text → DiskFault → Text
+unwritten_message path (Protected why) =
+    codes "the file `" ++ path ++ codes "` can't be written: " ++ protected_text why
+unwritten_message path fault = codes "the file `" ++ path ++ codes "` can't be written"
 
--- the writing ended at a page whose file was refused, and the message has its path: this file held
--- another text and may hold anything, those of the pages in front hold their texts, and all others
--- are as they were
+-- the writing ended at a page whose file was refused, and the message has its path and why, if it
+-- is one that is never written: this file held another text, those of the pages in front hold
+-- their texts, and all others are as they were
 pub record IsUnwritten (out : Text) (ps : Pages) (old : Files) (new : Option Files)
     (e : Error) : Type 0 where
   pub front : Pages
@@ -52,8 +57,9 @@ pub record IsUnwritten (out : Text) (ps : Pages) (old : Files) (new : Option Fil
   pub back : Pages
   pub all : ps ≡ front ++ page ∷ back
   pub needed : is_held (all_written out front old (out ++ page.0)) page.1.text ≡ false
-  pub left : ChangesAt (out ++ page.0) (all_written out front old) new
-  pub message : option_map string_bytes e.message ≡ Some (unwritten_message (out ++ page.0))
+  pub left : new ≡ Some (all_written out front old)
+  pub why : DiskFault
+  pub message : option_map string_bytes e.message ≡ Some (unwritten_message (out ++ page.0) why)
 
 -- the page that isn't written, where that is the fault that is reported
 abbrev pub TellsUnwritten : Text → Pages → Files → Option Files → Error → Type 0

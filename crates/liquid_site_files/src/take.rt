@@ -86,8 +86,8 @@ fn found_at<D: Disk>(disk: &D, path: &str) -> Result<FileState>
     match disk.read(path) {
         Ok(Some(text)) => Ok(FileState::Text(text)),
         Ok(None) => Ok(FileState::Gone),
-        Err(DiskFault::Refused) => Ok(FileState::Unreadable),
         Err(DiskFault::Memory) => Err(Error::from(AllocError)),
+        Err(DiskFault::Refused(_) | DiskFault::Protected(_)) => Ok(FileState::Unreadable),
     }
 }
 

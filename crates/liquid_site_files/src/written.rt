@@ -1,13 +1,12 @@
 //! The files of pages.
-ghost use Rattle.std.specs.Prelude.{◌≡◌, ◌++◌, not, Some, IfSome, IfOk, IfErr, OnOk, option_map};
-ghost use Rattle.std.specs.Prelude.{string_bytes};
+ghost use Rattle.std.specs.Prelude.{◌≡◌, ◌++◌, not, Some, IfSome, IfOk, IfErr, OnErr, OnOk};
+ghost use Rattle.std.specs.Prelude.{option_map, string_bytes};
 ghost use Rattle.liquid_model.specs.Answer.{IsValueOrMemory};
-ghost use Rattle.liquid_model.specs.Errors.{HasMessageUnlessMemory};
 ghost use Rattle.liquid_site.specs.Parts.{pages_in};
-ghost use Rattle.liquid_disk.specs.Files.{ChangesAt, is_held, holds, with_file};
+ghost use Rattle.liquid_disk.specs.Files.{is_held, holds, with_file};
 ghost use Rattle.liquid_site_files.specs.Written.{IsStop, all_written, count_from, KeepsOtherFiles};
 ghost use Rattle.liquid_site_files.specs.Written.{unwritten_message, TellsUnwritten};
-ghost use Rattle.liquid_site_files.specs.inside.Needed.{NeededUnlessMemory};
+ghost use Rattle.liquid_site_files.specs.inside.Needed.{NeededUnlessMemory, TellsWhyUnlessMemory};
 
 use crate::folder::joined;
 use liquid_core::{Error, ErrorKind, Result};
@@ -58,12 +57,10 @@ fn write_page<D: Disk>(
         Some (with_file f (out.now ++ name.now) (holds text.now)))) }
     ensures needed { IfSome (D.files disk.old)
         (λ f. IfOk result (λ b. b ≡ not (is_held (f (out.now ++ name.now)) text.now))) }
-    ensures others { IfSome (D.files disk.old) (λ f. ChangesAt (out.now ++ name.now) f
-        (D.files disk.new)) }
+    ensures kept { IfSome (D.files disk.old) (λ f. OnErr result (D.files disk.new ≡ Some f)) }
     ensures unwritten { IfSome (D.files disk.old)
         (λ f. IfErr result (NeededUnlessMemory (f (out.now ++ name.now)) text.now)) }
-    ensures message { IfErr result
-        (HasMessageUnlessMemory (unwritten_message (out.now ++ name.now))) }
+    ensures message { IfErr result (TellsWhyUnlessMemory (out.now ++ name.now)) }
     ensures stop { IfErr result (λ e. IsStop e.kind) }
 {
     let path = joined(alloc, out, name)?;
@@ -73,7 +70,7 @@ fn write_page<D: Disk>(
     match disk.write(path.as_str(), text) {
         Ok(()) => Ok(true),
         Err(DiskFault::Memory) => Err(Error::from(AllocError)),
-        Err(DiskFault::Refused) => Err(unwritten(alloc, path.as_str())?),
+        Err(fault) => Err(unwritten(alloc, path.as_str(), &fault)?),
     }
 }
 
@@ -85,17 +82,22 @@ fn holds<D: Disk>(disk: &D, path: &str, text: &str) -> Result<bool>
 {
     match disk.read(path) {
         Ok(Some(held)) => Ok(held.as_str() == text),
-        Ok(None) | Err(DiskFault::Refused) => Ok(false),
         Err(DiskFault::Memory) => Err(Error::from(AllocError)),
+        Ok(None) | Err(DiskFault::Refused(_) | DiskFault::Protected(_)) => Ok(false),
     }
 }
 
 /// The fault of a file that isn't written. Without memory there is none.
-fn unwritten(alloc: Global, path: &str) -> Result<Error>
+fn unwritten(alloc: Global, path: &str, fault: &DiskFault) -> Result<Error>
     ensures kind { IsValueOrMemory (λ fault. fault.kind) result ErrorKind.Write }
-    ensures message { IfOk result (λ fault. option_map string_bytes fault.message ≡
-        Some (unwritten_message path.now)) }
+    ensures message { IfOk result (λ e. option_map string_bytes e.message ≡
+        Some (unwritten_message path.now fault.now)) }
 {
-    let message = format!(in alloc; "the file `{path}` can't be written")?;
+    let message = match fault {
+        DiskFault::Protected(why) => {
+            format!(in alloc; "the file `{path}` can't be written: {why}")?
+        }
+        _ => format!(in alloc; "the file `{path}` can't be written")?,
+    };
     Ok(Error::with_message(ErrorKind::Write, message))
 }

@@ -6,9 +6,8 @@
 --     AreOfSource is_html warnings      those of what stands in a source, in their order
 --     template_said template      those of single tags and outputs, in the order of the source
 --     AreOfWhole given warnings      those that need all files, in their order
-use Rattle.std.specs.Prelude.{◌≡◌, ◌+◌, ℕ, Bool, true, false, List, [], ◌∷◌, ◌++◌, All, map}
+use Rattle.std.specs.Prelude.{◌≡◌, ◌+◌, ℕ, Bool, List, [], ◌∷◌, ◌++◌, All, map}
 use Rattle.std.specs.Prelude.{Option, Some, None, is_some, option_map, slice_get, take, Vec, ⊤}
-use Rattle.std.specs.Prelude.{String}
 use Rattle.std.specs.declared.alloc.Global.{Global}
 use Rattle.liquid_syntax.specs.Templates.{template_nodes, positions_of}
 use Rattle.liquid_syntax.specs.declared.node.Node.{Node}
@@ -68,14 +67,12 @@ abbrev pub AreOfPartials : List Said → Type 0
 AreOfPartials = InOrder (All IsMissingPartial)
     (InOrder (All IsUnusedPartial) (All IsRecursive))
 
-abbrev pub has_partials : List (String Global × ℕ) → Bool
-has_partials [] = false
-has_partials (p ∷ ps) = true
-
+-- what stands in the data is known only where data is given, and partials only where they are asked
+-- for, also where there are none
 abbrev pub AreOfWhole : Given → List Said → Type 0
 AreOfWhole given = InOrder (AreOfNames (is_some given.«data»))
     (InOrder (OnlyWhere (is_some given.«data») (All IsDoubt))
-    (OnlyWhere (has_partials given.partials.now) AreOfPartials))
+    (OnlyWhere (is_some given.partials) AreOfPartials))
 
 -- ---- the files
 

@@ -39,9 +39,9 @@ pub struct Given<'c> {
     /// The data that the templates are for, where there is some.
     pub data: Option<&'c Object>,
     pub language: &'c Language,
-    /// The names of the partials, each with the place of its file. Of two with one name the later
-    /// counts.
-    pub partials: &'c [(String, usize)],
+    /// The names of the partials, each with the place of its file, where partials are asked for;
+    /// there may be none. Of two with one name the later counts.
+    pub partials: Option<&'c [(String, usize)]>,
     /// Whether outputs in attributes are looked at.
     pub attributes: bool,
 }
@@ -49,14 +49,14 @@ pub struct Given<'c> {
 /// The warnings of all files: a list for each, in their order. It has the first hundred of these:
 /// what stands in the source, each single tag and output that has a warning in the order of the
 /// source, and what is known by all files together. Those about partials come only where partials
-/// are given, and those about what the data lacks, or has otherwise, only where data is.
+/// are asked for, and those about what the data lacks, or has otherwise, only where data is.
 ///
 /// The answer is `Memory` where a growth was refused, and no other kind.
 pub fn warnings_of(alloc: Global, files: &[CheckedFile<'_>], given: Given<'_>) -> Result<Warnings>
     ensures warned { IfOk result (λ ws. AreWarned given.entry files.now (lists_of ws.items)) }
     ensures memory { IfErr result (λ e. e.kind ≡ ErrorKind.Memory) }
 {
-    let whole = Whole::of(alloc, given.partials, files)?;
+    let whole = Whole::of(alloc, given.partials.unwrap_or(&[]), files)?;
     let mut warnings = Vec::new(alloc);
     for file in files {
         let remarks = file_warnings(alloc, &whole, warnings.len(), file, given)?;

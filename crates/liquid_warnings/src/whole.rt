@@ -5,7 +5,6 @@ ghost use Rattle.liquid_warnings.specs.Sorts.{IsDoubt, IsMissingPartial, IsRecur
 ghost use Rattle.liquid_warnings.specs.Sorts.{IsUnknownName, IsUnusedName, IsUnusedPartial};
 ghost use Rattle.liquid_warnings.specs.Sorts.{OnlyWhere};
 ghost use Rattle.liquid_warnings.specs.Warnings.{AreOfNames, AreOfPartials, AreOfWhole};
-ghost use Rattle.liquid_warnings.specs.Warnings.{has_partials};
 ghost use Rattle.liquid_warnings.specs.inside.Added.{AddsRemarks};
 
 use crate::calls::{Call, PartialFiles, calls_of};
@@ -243,7 +242,7 @@ impl<'t> Whole<'t> {
     }
 
     /// Adds the warnings about the partials that a file runs, and about the file as a partial,
-    /// where there are partials.
+    /// where partials are asked for.
     fn add_partial_warnings(
         &self,
         alloc: Global,
@@ -253,10 +252,10 @@ impl<'t> Whole<'t> {
         remarks: &mut Vec<Remark>,
     ) -> Result<(), AllocError>
         ensures { OnOk result (AddsRemarks
-            (OnlyWhere (has_partials given.entry.partials.now) AreOfPartials)
+            (OnlyWhere (is_some given.entry.partials) AreOfPartials)
             remarks.old.items remarks.new.items) }
     {
-        if has_partials(given.partials) {
+        if given.partials.is_some() {
             self.add_all_partial_warnings(alloc, place, file, remarks)
         } else {
             Ok(())
@@ -347,16 +346,6 @@ impl<'t> Whole<'t> {
             )?;
         }
         Ok(())
-    }
-}
-
-/// Whether there are partials.
-fn has_partials(partials: &[(String, usize)]) -> bool
-    ensures { result ≡ has_partials partials.now }
-{
-    match partials {
-        [_, ..] => true,
-        [] => false,
     }
 }
 

@@ -1,25 +1,22 @@
-use Rattle.std.proofs.Common.{bytes_eq, IfSome, ap, subst, ◌∙◌}
-use Rattle.liquid_disk.specs.Parts.{KeepsAllBut}
-use Rattle.liquid_disk.proofs.Placing.{part_is_apart, written_keeps, written_whole}
+use Rattle.liquid_disk.proofs.Told.{kept_both, kept_same, part_changed, placed}
 use Rattle.liquid_disk.proofs.put.put_whole.Goals as goal
 
-pub returns-then-not-is_replaceable-clause-whole :
-    goal.returns-then-not-is_replaceable-clause-whole
-returns-then-not-is_replaceable-clause-whole g c =
-    let files = g.S.FileSystem.files in
-    written_whole (files c.args.system.now) (files c.write.new.self) c.args.path.now c.args.text.now c.write.result c.write.ensures
+pub returns-in-Err-clause-kept : goal.returns-in-Err-clause-kept
+returns-in-Err-clause-kept g c =
+    let story = g.S.FileSystem.story in
+    kept_both (story c.args.system.now) (story c.new_part.new.system) (story c.remove.new.self) c.new_part.ensures.kept
+    (part_changed (story c.new_part.new.system) (story c.remove.new.self) c.args.part.now c.requires.part c.remove.ensures)
 
-pub returns-then-not-is_replaceable-clause-others :
-    goal.returns-then-not-is_replaceable-clause-others
-returns-then-not-is_replaceable-clause-others g c =
-    let files = g.S.FileSystem.files in
-    written_keeps (files c.args.system.now) (files c.write.new.self) c.args.path.now _ c.args.text.now c.write.result c.write.ensures
+pub returns-in-Ok-clause-placed : goal.returns-in-Ok-clause-placed
+returns-in-Ok-clause-placed g c =
+    let story = g.S.FileSystem.story in
+    placed (story c.args.system.now) (story c.new_part.new.system) (story c.rename.new.self) c.args.part.now c.args.draft.path.now c.args.draft.text.now
+    c.requires.part c.requires.page c.new_part.ensures.kept c.in_ok-id.ensures.held c.in-Ok.ensures.renamed
 
-pub replace_file-requires : goal.replace_file-requires
-replace_file-requires g c = ap (λ t. bytes_eq t c.args.path.now) (c.as_str.ensures.value ∙ c.in_ok-part.ensures) ∙ part_is_apart c.args.path.now
-
-pub returns-clause-others : goal.returns-clause-others
-returns-clause-others g c =
-    let files = g.S.FileSystem.files in
-    subst (λ t. IfSome (files c.args.system.now) (λ f. KeepsAllBut c.args.path.now t f (files c.replace_file.new.system))) (c.as_str.ensures.value ∙ c.in_ok-part.ensures)
-    c.replace_file.ensures.others
+pub returns-in-Err-rename-clause-kept : goal.returns-in-Err-rename-clause-kept
+returns-in-Err-rename-clause-kept g c =
+    let story = g.S.FileSystem.story in
+    kept_both (story c.args.system.now) (story c.rename.new.self) (story c.remove-in-Err-rename-2.new.self)
+    (kept_both (story c.args.system.now) (story c.new_part.new.system) (story c.rename.new.self) c.new_part.ensures.kept
+    (kept_same (story c.new_part.new.system) (story c.rename.new.self) c.in-Err-rename.ensures.same))
+    (part_changed (story c.rename.new.self) (story c.remove-in-Err-rename-2.new.self) c.args.part.now c.requires.part c.remove-in-Err-rename-2.ensures)

@@ -19,13 +19,13 @@ returns-in_err-write_page-clause-unwritten g c =
     let rest = seen page_view c.next.new.self in
     let e = err_from_is_err_and c.from_residual.result c.from_residual.ensures.1 in
     rw (e.1, e.2) (stopped_at _ _ _ c.args.out.now (pages_in c.args.pages.now) _ rest p c.as_str.result.now c.as_str-in-loop-name.result.now c.loop-name.written c.in_err-write_page.field-0.0 (ap (seen page_view) c.in-Some.ensures.steps) c.as_str.ensures.value
-    c.as_str-in-loop-name.ensures.value c.loop-name.invariant c.write_page.ensures.others c.in_err-write_page.ensures.unwritten c.in_err-write_page.ensures.message)
+    c.as_str-in-loop-name.ensures.value c.loop-name.invariant c.in_err-write_page.ensures.kept c.in_err-write_page.ensures.unwritten c.in_err-write_page.ensures.message)
 
 pub returns-in_err-write_page-clause-others : goal.returns-in_err-write_page-clause-others
 returns-in_err-write_page-clause-others g c =
     let p : Text × Shown = (string_bytes c.in-Some.name.now, page_view c.in-Some.page.now) in
     let rest = seen page_view c.next.new.self in
-    ended_at _ _ _ c.args.out.now (pages_in c.args.pages.now) _ rest p c.as_str.result.now c.loop-name.written (ap (seen page_view) c.in-Some.ensures.steps) c.as_str.ensures.value c.loop-name.invariant c.write_page.ensures.others
+    ended_at _ _ _ c.args.out.now (pages_in c.args.pages.now) _ rest p c.loop-name.written (ap (seen page_view) c.in-Some.ensures.steps) c.loop-name.invariant c.in_err-write_page.ensures.kept
 
 pub loop-name-preserved-then-branch : goal.loop-name-preserved-then-branch
 loop-name-preserved-then-branch g c =
