@@ -65,7 +65,9 @@ def file_calls(given, path, call, room):
         if not wrong:
             room.given.seek(0)
             faulty(given.faults, words, room.at, room.given)
-            wrong = [f"called again it leaves {unlike}" for unlike in room.unlike_files(plain)]
+            # where every page is there, a site has nothing to write, and looks for no part
+            unlike = [it for it in room.unlike_files(plain) if ended.status or it not in call.dead]
+            wrong = [f"called again it leaves {it}" for it in unlike]
         if wrong:
             yield f"{shown(fault)}: {wrong[0]}"
     yield from (f"no {name} that fails is told" for name in NEEDED if not told[name])
