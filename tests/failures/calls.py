@@ -86,6 +86,17 @@ IN_FILES = [
     Call("a site", "liquid_folder site site/data out", SMALL_SITE, prints=False, within="out"),
 ]
 
+# calls whose page would come into a file that they read
+READ = {"t": "{{ name }}{% include 'foot' %}", "d": DATA, "parts/foot": "yours, {{ name | upcase }}"}
+OVER_READ = [
+    Call("a page over its template", "bikleinu render t d -p parts -o t", READ, prints=False),
+    Call("a page over its data", "bikleinu render t d -p parts -o d", READ, prints=False),
+    Call("a page over a partial", "bikleinu render t d -p parts -o parts/foot", READ, prints=False),
+    Call("a page over the template of a merge", "bikleinu merge t r -d d -p parts -o '{{ id }}'", {**READ, "r": '{"id": "t"}\n'}, prints=False),
+    Call("a page over the records", "bikleinu merge t r -d d -p parts -o '{{ id }}'", {**READ, "r": '{"id": "r"}\n'}, prints=False),
+    Call("a page over the data of a site", "liquid_folder site site/d site", {"site/d": DATA, "site/pages/d": "{{ name }}"}, prints=False),
+]
+
 # calls that write the same files as another one at the same time: of each file one is longer than the other
 BESIDE = {"t": LINES, "u": "{{ name }} is alone", "d": DATA, "r": "".join(f'{{"id": {n}}}\n' for n in range(4))}
 TWO = [

@@ -73,6 +73,17 @@ def file_calls(given, path, call, room):
     yield from (f"no {name} that fails is told" for name in NEEDED if not told[name])
 
 
+def kept(given, path, call, room):
+    """What is wrong where a call in files fails, of a program whose page would come into a file that it reads: that holds what it held."""
+    words = [path, *call.arguments]
+    noted = faulty(given.faults, words, room.at, room.given, notes=notes_of(room)).noted
+    for fault in [{"call": "none", "at": 1}, *faults_of(noted, "", every=True)]:
+        room.reset()
+        ended = faulty(given.faults, words, room.at, room.given, **fault)
+        if files_in(room.at) != call.files or ended.status not in (1, 2):
+            yield f"{shown(fault)}: status {ended.status}, it prints {ended.printed[-2:]} and leaves {files_in(room.at)}"
+
+
 def ended_at(given, path, call, room):
     """What is wrong where the call is killed at one of its calls in files, each in turn, and in the middle of what it writes: a file is as it
     was or whole, and the same call made again removes the part."""
