@@ -1,9 +1,12 @@
 """Merges where files can't grow, onto a disk that is full, and onto one that can only be read: a page that doesn't fit leaves no part. Each
 record whose file would be too large is reported, a full disk and a read-only one end the merge by one line, and `--from` goes on."""
+import errno
 import os
 import resource
 import subprocess
 import tempfile
+
+from faulty import asked_of
 
 MERGE = ("merge", "t", "r", "-o", "mails/{{ id }}")
 RECORDS, FIT = 6, 3
@@ -28,23 +31,30 @@ def filled_up(program):
         return None if status == 0 and pages_in(room) == wanted else f"gone on with: status {status}, and it prints {printed}"
 
 
-def filled(program):
-    """What went wrong of a merge onto a disk that is full at its second page, and of the merge that goes on from there, or None."""
+def filled(program, library):
+    """What went wrong of a merge onto a disk that is full at its second page, or within it, and of the merge that goes on, or None."""
+    for how in ({"at": 2, "stays": 1}, {"at": 2, "most": 1}):
+        if wrong := filled_within(program, asked_of(library, {"call": "write", "path": "mails", "error": errno.ENOSPC, **how})):
+            return f"{how}: {wrong}"
+    return None
+
+
+def filled_within(program, faults):
     with tempfile.TemporaryDirectory() as room:
         with open(f"{room}/t", "w", encoding="utf-8") as file:
-            file.write("{{ id }}")
+            file.write("page {{ id }}")
         with open(f"{room}/r", "w", encoding="utf-8") as file:
             file.writelines(f'{{"id": {n}}}\n' for n in range(1, 5))
         os.mkdir(f"{room}/mails")
-        os.symlink("/dev/full", f"{room}/mails/2")
-        printed, status = merged(program, room)
+        with open(f"{room}/mails/2", "w", encoding="utf-8") as file:
+            file.write("old")
+        printed, status = merged(program, room, env=faults)
         if (printed, status) != (["error: record 2: the file `mails/2` can't be written: No space left on device"], 1):
             return f"status {status}, and it prints {printed}"
-        os.remove(f"{room}/mails/2")
-        if (left := pages_in(room)) != {"1": "1"}:
-            return f"it leaves {sorted(left)}"
+        if (left := pages_in(room)) != {"1": "page 1", "2": "old"}:
+            return f"it leaves {left}"
         printed, status = merged(program, room, "--from", "2")
-        wanted = {str(n): str(n) for n in range(1, 5)}
+        wanted = {str(n): f"page {n}" for n in range(1, 5)}
         return None if status == 0 and pages_in(room) == wanted else f"gone on with: status {status}, and it prints {printed}"
 
 

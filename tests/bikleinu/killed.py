@@ -1,14 +1,20 @@
-"""Kills `bikleinu merge` at random moments: under a final name stands a whole page, and `--from` goes on with the first that isn't there.
+"""Ends `bikleinu merge` by signals at random moments: under a final name stands a whole page, and `--from` goes on with the first that isn't
+there.
 
-A page is written beside its final name and then renamed, so what is killed leaves at most one part of a page, which the next call replaces."""
+A page is written beside its final name and then renamed, so what is killed leaves at most one part of a page: a hidden file of the folder,
+which the next call removes."""
 import os
 import random
 import shutil
+import signal
 import subprocess
 import tempfile
 import time
 
+from faulty import PART
+
 RECORDS, LINES, KILLS = 40, 2500, 200
+SIGNALS = (signal.SIGKILL, signal.SIGTERM, signal.SIGINT, signal.SIGHUP)
 TEMPLATE = "{% for line in lines %}{{ name }}, {{ line }}\n{% endfor %}"
 MERGE = ("merge", "t", "r", "-d", "d", "-o", "mails/{{ id }}.eml")
 
@@ -27,25 +33,31 @@ def killed(program):
         if pages_in(room) != wanted:
             return "a merge that isn't killed writes other pages"
         moments = random.Random(56)
-        return next(filter(None, (once(program, room, moments.uniform(0, 1.2 * whole), wanted) for _ in range(KILLS))), None)
+        return next(filter(None, (once(program, room, moments.uniform(0, 1.2 * whole), moments.choice(SIGNALS), wanted) for _ in range(KILLS))), None)
 
 
-def once(program, room, moment, wanted):
-    """What went wrong where a merge was killed after so many seconds, or None."""
+def once(program, room, moment, sent, wanted):
+    """What went wrong where a merge was sent a signal after so many seconds, or None."""
     shutil.rmtree(f"{room}/mails", ignore_errors=True)
     with subprocess.Popen([program, *MERGE], cwd=room, stdin=subprocess.DEVNULL, stderr=subprocess.DEVNULL) as running:
         time.sleep(moment)
-        running.kill()
-    left = pages_in(room)
-    there = {name: text for name, text in left.items() if not name.endswith(".bikleinu-part")}
+        running.send_signal(sent)
+    left, when = pages_in(room), f"{sent.name} after {moment:.4f} seconds"
+    parts = [name for name in left if PART.fullmatch(name)]
+    there = {name: text for name, text in left.items() if name not in parts}
     first = len(there) + 1
     if there != {name: wanted[name] for name in (f"{n}.eml" for n in range(1, first))}:
-        return f"killed after {moment:.4f} seconds: {len(there)} pages, of which one is no whole page or comes before its time"
-    if len(left) > len(there) + 1:
-        return f"killed after {moment:.4f} seconds: {len(left) - len(there)} parts of pages"
+        return f"{when}: {len(there)} pages, of which one is no whole page or comes before its time"
+    if len(parts) > 1 or any(not beginnings(left[part], wanted) for part in parts):
+        return f"{when}: {parts}, more than one part of a page, or none of one"
     if first <= RECORDS and (status := subprocess.run([program, *MERGE, "--from", str(first)], cwd=room, stderr=subprocess.DEVNULL).returncode):
         return f"from record {first} on: status {status}"
-    return None if pages_in(room) == wanted else f"killed after {moment:.4f} seconds, and from record {first} on: other pages"
+    return None if pages_in(room) == wanted else f"{when}, and from record {first} on: other pages, or a part"
+
+
+def beginnings(text, pages):
+    """The pages of which this is a beginning."""
+    return [name for name, page in pages.items() if page.startswith(text)]
 
 
 def seconds_of(program, room):

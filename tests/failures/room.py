@@ -2,8 +2,7 @@
 import os
 from dataclasses import dataclass
 
-# the file beside a page's in which it is written before it takes its place, which a killed program may leave
-PART = ".bikleinu-part"
+from faulty import PART
 
 
 @dataclass
@@ -50,12 +49,15 @@ class Room:
             if self.call.files.get(path) != text:
                 os.remove(f"{self.at}/{path}")
         put(self.at, {path: text for path, text in self.call.files.items() if not os.path.exists(f"{self.at}/{path}")})
+        for at, _, _ in os.walk(self.at, topdown=False):
+            if not os.listdir(at):
+                os.rmdir(at)
 
     def strange_files(self, plain, parts=0):
         """The files that are neither as they were before the call nor as it makes them, but for so many parts."""
         left, before = files_in(self.at), self.call.files
         strange = [path for path in {*left, *before} if left.get(path) not in (before.get(path), plain.left.get(path))]
-        of_parts = [path for path in strange if path.endswith(PART)]
+        of_parts = [path for path in strange if PART.fullmatch(os.path.basename(path))]
         return strange if len(of_parts) > parts else [path for path in strange if path not in of_parts]
 
     def unlike_files(self, plain):
