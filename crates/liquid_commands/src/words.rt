@@ -1,5 +1,5 @@
 //! What single words mean.
-ghost use Rattle.std.specs.Prelude.{◌≡◌, Some, codes, option_map};
+ghost use Rattle.std.specs.Prelude.{◌≡◌, Some, codes, option_map, true};
 ghost use Rattle.liquid_commands.specs.Words.{are_in_csv, data_file, file_view, filter_set};
 ghost use Rattle.liquid_commands.specs.Words.{has_ending, is_selected, is_yaml, leaves_folder};
 ghost use Rattle.liquid_commands.specs.Words.{missing_of};

@@ -35,8 +35,27 @@ pub(crate) fn is_inside<S: FileSystem>(
     Ok(Path::new(system.real_path(alloc, shown("", folder))?.as_str()).starts_with(root.as_str()))
 }
 
+/// Notes the folders around those that aren't there yet, so that their names are flushed.
+pub(crate) fn note_new_folders<S: FileSystem>(
+    alloc: Global,
+    system: &S,
+    around: &mut BTreeSet<String>,
+    folder: &str,
+) -> Result<(), DiskFault> {
+    let mut path = folder.trim_end_matches('/');
+    for _ in 0..folder.len() {
+        if path.is_empty() || !is_missing(system, path) {
+            break;
+        }
+        let outer = folder_of(path);
+        around.insert(String::from_str(alloc, outer)?)?;
+        path = outer.trim_end_matches('/');
+    }
+    Ok(())
+}
+
 /// Whether nothing is at a path, as far as the system tells.
-pub(crate) fn is_missing<S: FileSystem>(system: &S, path: &str) -> bool {
+fn is_missing<S: FileSystem>(system: &S, path: &str) -> bool {
     matches!(system.standing(path), Ok(Standing::Nothing))
 }
 

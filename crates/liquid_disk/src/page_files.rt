@@ -8,7 +8,7 @@ ghost use Rattle.liquid_disk.specs.Standings.{is_own};
 ghost use Rattle.liquid_disk.specs.Stories.{Goes};
 
 use crate::disk::{Disk, DiskFault, Protected};
-use crate::folders::{flush_folders, is_inside, is_missing, make_ready};
+use crate::folders::{flush_folders, is_inside, make_ready, note_new_folders};
 use crate::names::hidden_names;
 use crate::parts::{folder_of, is_part_path, part_path};
 use crate::put::{Draft, WrittenPages, put_whole};
@@ -95,26 +95,9 @@ impl<S: FileSystem> PageFiles<S> {
         ensures story { S.story self.new.system ≡ S.story self.old.system }
         ensures bounds { self.new.bounds ≡ self.old.bounds }
     {
-        self.note_new_folders(folder)?;
+        note_new_folders(self.alloc, &self.system, &mut self.around, folder)?;
         self.system.make_folder(folder)?;
         self.root = Some(self.system.real_path(self.alloc, folder)?);
-        Ok(())
-    }
-
-    /// Notes the folders around those that aren't there yet, so that their names are flushed.
-    fn note_new_folders(&mut self, folder: &str) -> Result<(), DiskFault>
-        ensures system { self.new.system ≡ self.old.system }
-        ensures bounds { self.new.bounds ≡ self.old.bounds }
-    {
-        let mut path = folder.trim_end_matches('/');
-        for _ in 0..folder.len() {
-            if path.is_empty() || !is_missing(&self.system, path) {
-                break;
-            }
-            let around = folder_of(path);
-            self.around.insert(String::from_str(self.alloc, around)?)?;
-            path = around.trim_end_matches('/');
-        }
         Ok(())
     }
 

@@ -2,6 +2,7 @@ use Rattle.std.proofs.Common.{◌∙◌, ap, string_bytes, sym}
 use Rattle.liquid_disk.specs.Parts.{is_part_path}
 use Rattle.std.proofs.lemmas.Result.{err_from_is_err_and}
 use Rattle.std.proofs.Common.{Err}
+use Rattle.std.specs.declared.io.ErrorKind.TheVariants.{InvalidFilename}
 use Rattle.liquid_disk.proofs.Below.{no_memory, part_is_unreadable, read_below}
 use Rattle.liquid_disk.proofs.page_files.PageFilesDisk.read.Goals as goal
 
@@ -12,7 +13,7 @@ returns-in_err-path g c =
 
 pub returns-then-is_part_path : goal.returns-then-is_part_path
 returns-then-is_part_path g c =
-    part_is_unreadable (g.S.FileSystem.story c.args.self.now.system) (string_bytes c.args.self.now.bounds.front) c.args.name.now c.as_str.result.now _
+    part_is_unreadable (g.S.FileSystem.story c.args.self.now.system) (string_bytes c.args.self.now.bounds.front) c.args.name.now c.as_str.result.now InvalidFilename
     (c.as_str.ensures.value ∙ c.in_ok-path.ensures) (sym c.is_part_path.ensures ∙ c.if-is_part_path.true)
 
 pub returns : goal.returns
