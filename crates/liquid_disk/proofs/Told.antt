@@ -7,7 +7,7 @@ use mathlib.Core.Path.{refl, sym, ap, subst, fun_ext, ◌∙◌}
 use Rattle.liquid_model.specs.Texts.{Text}
 use Rattle.liquid_disk.specs.Files.{File, Files, gone, holds, unreadable, with_file, IsPut}
 use Rattle.liquid_disk.specs.Parts.{is_part_path, without_parts, files_below, IsKept, with_page, TakesPlace}
-use Rattle.liquid_disk.specs.Stories.{Changes, DifferAt, Each, Goes, IsFilled, IsMade, IsRenamed, Since, Story}
+use Rattle.liquid_disk.specs.Stories.{OnlyChanges, DifferAt, Each, Between, IsFilled, IsMade, IsRenamed, Since, Story}
 use Rattle.liquid_disk.specs.declared.disk.DiskFault.{DiskFault}
 
 -- ---- moments
@@ -51,11 +51,11 @@ differ_kept part old new is d = ap without_parts d.1 ∙ part_gone old part d.0 
 
 -- ---- what isn't changed
 
-pub kept_same : (o n : Option Story) → n ≡ o → Goes IsKept o n
+pub kept_same : (o n : Option Story) → n ≡ o → Between IsKept o n
 kept_same None n e = tt
-kept_same (Some a) n e = subst (λ m. Goes IsKept (Some a) m) (sym e) (refl, ([], refl, tt))
+kept_same (Some a) n e = subst (λ m. Between IsKept (Some a) m) (sym e) (refl, ([], refl, tt))
 
-pub kept_both : (a b c : Option Story) → Goes IsKept a b → Goes IsKept b c → Goes IsKept a c
+pub kept_both : (a b c : Option Story) → Between IsKept a b → Between IsKept b c → Between IsKept a c
 kept_both None b c s t = tt
 kept_both (Some a) None c s t = absurd s
 kept_both (Some a) (Some b) None s t = t
@@ -66,19 +66,19 @@ kept_both (Some a) (Some b) (Some c) s t = (
 )
 
 -- a part that changed, or was made, or got its text
-pub part_changed : (a b : Option Story) (part : Text) → is_part_path part ≡ true → Goes (Changes part) a b → Goes IsKept a b
+pub part_changed : (a b : Option Story) (part : Text) → is_part_path part ≡ true → Between (OnlyChanges part) a b → Between IsKept a b
 part_changed None b part is s = tt
 part_changed (Some a) None part is s = s
 part_changed (Some a) (Some b) part is s =
     (differ_kept part a.now b.now is s.0, since_so (DifferAt part a.now) (λ f. without_parts f ≡ without_parts a.now) a b (λ f d. differ_kept part a.now f is d) s.1)
 
-pub part_made : (a b : Option Story) (part : Text) → is_part_path part ≡ true → Goes (IsMade part) a b → Goes IsKept a b
+pub part_made : (a b : Option Story) (part : Text) → is_part_path part ≡ true → Between (IsMade part) a b → Between IsKept a b
 part_made None b part is s = tt
 part_made (Some a) None part is s = s
 part_made (Some a) (Some b) part is s =
     (differ_kept part a.now b.now is (holds [], s.1), since_so (DifferAt part a.now) (λ f. without_parts f ≡ without_parts a.now) a b (λ f d. differ_kept part a.now f is d) s.2)
 
-pub part_filled : (a b : Option Story) (part text : Text) → is_part_path part ≡ true → Goes (IsFilled part text) a b → Goes IsKept a b
+pub part_filled : (a b : Option Story) (part text : Text) → is_part_path part ≡ true → Between (IsFilled part text) a b → Between IsKept a b
 part_filled None b part text is s = tt
 part_filled (Some a) None part text is s = s
 part_filled (Some a) (Some b) part text is s =
@@ -91,13 +91,13 @@ own_file files path file = ap (λ b. cond b file (files path)) ((bytes_eq-Decide
 abbrev pub Held : Text → Text → Story → Story → Type 0
 Held part text a b = b.now part ≡ holds text
 
-pub filled_holds : (a b : Option Story) (part text : Text) → Goes (IsFilled part text) a b → Goes (Held part text) a b
+pub filled_holds : (a b : Option Story) (part text : Text) → Between (IsFilled part text) a b → Between (Held part text) a b
 filled_holds None b part text s = tt
 filled_holds (Some a) None part text s = s
 filled_holds (Some a) (Some b) part text s = ap (λ f. f part) s.0 ∙ own_file a.now part (holds text)
 
 -- what holds at the end, from an earlier beginning on
-pub held_since : (a b c : Option Story) (part text : Text) → Goes IsKept a b → Goes (Held part text) b c → Goes (Held part text) a c
+pub held_since : (a b c : Option Story) (part text : Text) → Between IsKept a b → Between (Held part text) b c → Between (Held part text) a c
 held_since None b c part text s t = tt
 held_since (Some a) None c part text s t = absurd s
 held_since (Some a) (Some b) None part text s t = t
@@ -105,7 +105,7 @@ held_since (Some a) (Some b) (Some c) part text s t = t
 
 -- ---- the part takes its place
 
-pub placed : (a b c : Option Story) (part path text : Text) → is_part_path part ≡ true → is_part_path path ≡ false → Goes IsKept a b → Goes (Held part text) a b → Goes (IsRenamed part path) b c → Goes (TakesPlace path text) a c
+pub placed : (a b c : Option Story) (part path text : Text) → is_part_path part ≡ true → is_part_path path ≡ false → Between IsKept a b → Between (Held part text) a b → Between (IsRenamed part path) b c → Between (TakesPlace path text) a c
 placed None b c part path text is isnt s h r = tt
 placed (Some a) None c part path text is isnt s h r = absurd s
 placed (Some a) (Some b) None part path text is isnt s h r = r
@@ -120,7 +120,7 @@ placed (Some a) (Some b) (Some c) part path text is isnt s h r =
           (since_both same a b c s.1 (since_so (λ f. f ≡ b.now) same b c (λ f e. ap without_parts e ∙ s.0) r.1)),
     )
 
-pub placed_since : (a b c : Option Story) (path text : Text) → Goes IsKept a b → Goes (TakesPlace path text) b c → Goes (TakesPlace path text) a c
+pub placed_since : (a b c : Option Story) (path text : Text) → Between IsKept a b → Between (TakesPlace path text) b c → Between (TakesPlace path text) a c
 placed_since None b c path text s t = tt
 placed_since (Some a) None c path text s t = absurd s
 placed_since (Some a) (Some b) None path text s t = t
@@ -151,7 +151,7 @@ below : (front name text : Text) (a b : Story) → TakesPlace (front ++ name) te
 unfolding with_file
 below front name text a b t = fun_ext (λ q. ap (λ f. f (front ++ q)) t.0 ∙ ap (λ c. cond c (holds text) (without_parts a.now (front ++ q))) (same_name front name q))
 
-pub is_put : (o n : Option Story) (front name text : Text) (r : Result (Unit {0}) DiskFault) → OnOk r (Goes (TakesPlace (front ++ name) text) o n) → OnErr r (Goes IsKept o n)
+pub is_put : (o n : Option Story) (front name text : Text) (r : Result (Unit {0}) DiskFault) → OnOk r (Between (TakesPlace (front ++ name) text) o n) → OnErr r (Between IsKept o n)
     → IfSome (option_map (files_below front) o) (λ f. IsPut name text f r (option_map (files_below front) n))
 is_put None n front name text r t k = tt
 is_put (Some a) None front name text (Ok u) t k = absurd t

@@ -1,7 +1,7 @@
 -- The files of a system as they are, and as they were at each moment before.
---     Goes R old new      R holds of what is known of the files before a call and after it
+--     Between R old new      R holds of what is known of the files before a call and after it
 --     Since P old new      P held of the files at each moment of a call
---     Changes path old new      no file changed at any moment but the one at a path
+--     OnlyChanges path old new      no file changed at any moment but the one at a path
 use Rattle.std.specs.Prelude.{◌≡◌, List, [], ◌∷◌, ◌++◌, Option, Some, None, ⊤}
 use Rattle.liquid_model.specs.Texts.{Text}
 use Rattle.liquid_disk.specs.Files.{File, Files, gone, holds, with_file}
@@ -12,10 +12,10 @@ pub record Story : Type 0 where
   pub before : List Files
 
 -- where nothing is known of the files before a call, nothing is said of them after it
-abbrev pub Goes : (Story → Story → Type 0) → Option Story → Option Story → Type 0
-Goes R None new = ⊤
-Goes R (Some old) None = ⊥
-Goes R (Some old) (Some new) = R old new
+abbrev pub Between : (Story → Story → Type 0) → Option Story → Option Story → Type 0
+Between R None new = ⊤
+Between R (Some old) None = ⊥
+Between R (Some old) (Some new) = R old new
 
 -- each of these files is so
 abbrev pub Each : (Files → Type 0) → List Files → Type 0
@@ -29,8 +29,8 @@ Since P old new = (moments : List Files) × (new.before ≡ moments ++ old.befor
 abbrev pub DifferAt : Text → Files → Files → Type 0
 DifferAt path old new = (file : File) × (new ≡ with_file old path file)
 
-abbrev pub Changes : Text → Story → Story → Type 0
-Changes path old new = DifferAt path old.now new.now × Since (DifferAt path old.now) old new
+abbrev pub OnlyChanges : Text → Story → Story → Type 0
+OnlyChanges path old new = DifferAt path old.now new.now × Since (DifferAt path old.now) old new
 
 -- a file without text is at a path where nothing was
 abbrev pub IsMade : Text → Story → Story → Type 0

@@ -1,7 +1,7 @@
 //! The folders that pages go into.
 ghost use Rattle.std.specs.Prelude.{◌≡◌};
 ghost use Rattle.liquid_disk.specs.Parts.{IsKept};
-ghost use Rattle.liquid_disk.specs.Stories.{Goes};
+ghost use Rattle.liquid_disk.specs.Stories.{Between};
 
 use crate::disk::DiskFault;
 use crate::parts::{folder_of, is_part_path};
@@ -79,7 +79,7 @@ pub(crate) fn make_ready<S: FileSystem>(
     folder: &str,
     is_made: bool,
 ) -> Result<(), DiskFault>
-    ensures { Goes IsKept (S.story system.old) (S.story system.new) }
+    ensures { Between IsKept (S.story system.old) (S.story system.new) }
 {
     let path = shown(folder.trim_end_matches('/'), folder);
     if is_made {
@@ -98,7 +98,7 @@ pub(crate) fn make_ready<S: FileSystem>(
 
 /// Takes away parts.
 fn remove_parts<S: FileSystem>(system: &mut S, parts: &[String])
-    ensures { Goes IsKept (S.story system.old) (S.story system.new) }
+    ensures { Between IsKept (S.story system.old) (S.story system.new) }
 {
     for part in parts {
         remove_part(system, part.as_str());
@@ -108,7 +108,7 @@ fn remove_parts<S: FileSystem>(system: &mut S, parts: &[String])
 /// Takes away a file, if it is a part.
 #[tactic(auto, using(crate::proofs::Told::part_changed))]
 fn remove_part<S: FileSystem>(system: &mut S, path: &str)
-    ensures { Goes IsKept (S.story system.old) (S.story system.new) }
+    ensures { Between IsKept (S.story system.old) (S.story system.new) }
 {
     if is_part_path(path) {
         system.remove(path);

@@ -5,7 +5,7 @@ ghost use Rattle.liquid_disk.specs.Files.{IsPut};
 ghost use Rattle.liquid_disk.specs.Names.{hidden_names};
 ghost use Rattle.liquid_disk.specs.Parts.{IsKept, TakesPlace, files_below, is_part_path};
 ghost use Rattle.liquid_disk.specs.Standings.{is_own};
-ghost use Rattle.liquid_disk.specs.Stories.{Goes};
+ghost use Rattle.liquid_disk.specs.Stories.{Between};
 
 use crate::disk::{Disk, DiskFault, Protected};
 use crate::folders::{flush_folders, is_inside, make_ready, note_new_folders};
@@ -121,7 +121,7 @@ impl<S: FileSystem> PageFiles<S> {
     /// written as it stands. All else is as of `write`.
     pub fn write_out(&mut self, path: &str, text: &str) -> Result<(), DiskFault>
         ensures page { OnOk result (IfSome (S.stands self.old.system) (λ s. is_own (s path.now)
-            ≡ true → Goes (TakesPlace path.now text.now) (S.story self.old.system)
+            ≡ true → Between (TakesPlace path.now text.now) (S.story self.old.system)
             (S.story self.new.system))) }
     {
         match self.system.standing(path) {
@@ -145,9 +145,9 @@ impl<S: FileSystem> PageFiles<S> {
 
     /// Puts a page into the file at a path: all of it, or the file holds what it held.
     fn put(&mut self, path: &str, text: &str) -> Result<(), DiskFault>
-        ensures placed { OnOk result (Goes (TakesPlace path.now text.now)
+        ensures placed { OnOk result (Between (TakesPlace path.now text.now)
             (S.story self.old.system) (S.story self.new.system)) }
-        ensures kept { OnErr result (Goes IsKept (S.story self.old.system)
+        ensures kept { OnErr result (Between IsKept (S.story self.old.system)
             (S.story self.new.system)) }
         ensures own { OnOk result (IfSome (S.stands self.old.system)
             (λ s. is_own (s path.now) ≡ true)) }
@@ -216,7 +216,7 @@ impl<S: FileSystem> PageFiles<S> {
     /// Makes the folder of a page ready for it, once: it is there, within bounds, and without the
     /// parts of runs that ended before their time.
     fn make_folder_ready(&mut self, path: &str) -> Result<(), DiskFault>
-        ensures kept { Goes IsKept (S.story self.old.system) (S.story self.new.system) }
+        ensures kept { Between IsKept (S.story self.old.system) (S.story self.new.system) }
         ensures bounds { self.new.bounds ≡ self.old.bounds }
     {
         let folder = folder_of(path);
@@ -240,9 +240,9 @@ impl<S: FileSystem> PageFiles<S> {
     /// Puts a page into its file by way of a part with a name that nobody else has.
     fn put_in_part(&mut self, draft: Draft<'_>) -> Result<(), DiskFault>
         requires { is_part_path draft.path.now ≡ false }
-        ensures placed { OnOk result (Goes (TakesPlace draft.entry.path.now draft.entry.text.now)
+        ensures placed { OnOk result (Between (TakesPlace draft.entry.path.now draft.entry.text.now)
             (S.story self.old.system) (S.story self.new.system)) }
-        ensures kept { OnErr result (Goes IsKept (S.story self.old.system)
+        ensures kept { OnErr result (Between IsKept (S.story self.old.system)
             (S.story self.new.system)) }
         ensures bounds { self.new.bounds ≡ self.old.bounds }
     {
@@ -265,9 +265,9 @@ impl<S: FileSystem> PageFiles<S> {
     /// has the part's name, and `NotFound` if somebody took the part away.
     fn put_in_new_part(&mut self, draft: Draft<'_>) -> io::Result<()>
         requires { is_part_path draft.path.now ≡ false }
-        ensures placed { OnOk result (Goes (TakesPlace draft.entry.path.now draft.entry.text.now)
+        ensures placed { OnOk result (Between (TakesPlace draft.entry.path.now draft.entry.text.now)
             (S.story self.old.system) (S.story self.new.system)) }
-        ensures kept { OnErr result (Goes IsKept (S.story self.old.system)
+        ensures kept { OnErr result (Between IsKept (S.story self.old.system)
             (S.story self.new.system)) }
         ensures bounds { self.new.bounds ≡ self.old.bounds }
     {
@@ -318,9 +318,9 @@ impl<S: FileSystem> Disk for PageFiles<S> {
             (option_map (files_below (string_bytes self.new.bounds.front))
             (S.story self.new.system))) }
         ensures placed { OnOk result
-            (Goes (TakesPlace (string_bytes self.old.bounds.front ++ name.now) text.now)
+            (Between (TakesPlace (string_bytes self.old.bounds.front ++ name.now) text.now)
             (S.story self.old.system) (S.story self.new.system)) }
-        ensures kept { OnErr result (Goes IsKept (S.story self.old.system)
+        ensures kept { OnErr result (Between IsKept (S.story self.old.system)
             (S.story self.new.system)) }
         ensures own { OnOk result (IfSome (S.stands self.old.system)
             (λ s. is_own (s (string_bytes self.old.bounds.front ++ name.now)) ≡ true)) }

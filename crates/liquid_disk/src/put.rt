@@ -2,7 +2,7 @@
 ghost use Rattle.std.specs.Prelude.{◌≡◌, OnErr, OnOk, false, true};
 ghost use Rattle.liquid_disk.specs.Files.{holds};
 ghost use Rattle.liquid_disk.specs.Parts.{IsKept, TakesPlace, is_part_path};
-ghost use Rattle.liquid_disk.specs.Stories.{Goes};
+ghost use Rattle.liquid_disk.specs.Stories.{Between};
 
 use crate::system::{FileId, FileSystem};
 use std::alloc::Global;
@@ -34,9 +34,9 @@ pub(crate) fn put_whole<S: FileSystem>(
 ) -> io::Result<()>
     requires part { is_part_path part.now ≡ true }
     requires page { is_part_path draft.path.now ≡ false }
-    ensures placed { OnOk result (Goes (TakesPlace draft.entry.path.now draft.entry.text.now)
+    ensures placed { OnOk result (Between (TakesPlace draft.entry.path.now draft.entry.text.now)
         (S.story system.old) (S.story system.new)) }
-    ensures kept { OnErr result (Goes IsKept (S.story system.old) (S.story system.new)) }
+    ensures kept { OnErr result (Between IsKept (S.story system.old) (S.story system.new)) }
 {
     let path = String::from_str(alloc, draft.path)?;
     let id = new_part(system, part, draft.text, draft.mode)?;
@@ -62,8 +62,8 @@ fn new_part<S: FileSystem>(
     mode: Option<u32>,
 ) -> io::Result<FileId>
     requires { is_part_path part.now ≡ true }
-    ensures kept { Goes IsKept (S.story system.old) (S.story system.new) }
-    ensures held { OnOk result (Goes (λ _ s. s.now part.now ≡ holds text.now)
+    ensures kept { Between IsKept (S.story system.old) (S.story system.new) }
+    ensures held { OnOk result (Between (λ _ s. s.now part.now ≡ holds text.now)
         (S.story system.old) (S.story system.new)) }
 {
     system.make(part, mode)?;
@@ -79,8 +79,8 @@ fn new_part<S: FileSystem>(
 /// Writes a text into the part that was made last.
 fn filled<S: FileSystem>(system: &mut S, part: &str, text: &str) -> io::Result<FileId>
     requires { is_part_path part.now ≡ true }
-    ensures kept { Goes IsKept (S.story system.old) (S.story system.new) }
-    ensures held { OnOk result (Goes (λ _ s. s.now part.now ≡ holds text.now)
+    ensures kept { Between IsKept (S.story system.old) (S.story system.new) }
+    ensures held { OnOk result (Between (λ _ s. s.now part.now ≡ holds text.now)
         (S.story system.old) (S.story system.new)) }
 {
     system.fill(part, text)?;

@@ -2,14 +2,15 @@
 ghost use Rattle.std.specs.Prelude.{◌≡◌, None, Option, IfOk, IfSome, OnErr, OnOk};
 ghost use Rattle.liquid_model.specs.Texts.{Text};
 ghost use Rattle.liquid_disk.specs.Files.{IsFound};
-ghost use Rattle.liquid_disk.specs.Stories.{Changes, Goes, IsFilled, IsMade, IsRenamed, Story};
+ghost use Rattle.liquid_disk.specs.Stories.{Between, IsFilled, IsMade, IsRenamed, OnlyChanges};
+ghost use Rattle.liquid_disk.specs.Stories.{Story};
 ghost use Rattle.liquid_disk.specs.declared.system.Standing.{Standing};
 
 use crate::disk::DiskFault;
 use std::alloc::Global;
 use std::io;
 
-/// A file by the device that it is on and its number there. Two paths of one file have one `FileId`.
+/// A file by the device that it is on and its number there: two paths of one file have one.
 #[derive(Clone, Copy, Debug, PartialEq, Eq, PartialOrd, Ord)]
 pub struct FileId {
     pub device: u64,
@@ -58,14 +59,14 @@ pub trait FileSystem {
     /// Makes a file without text at a path where nothing is, not even a link. With a mode, that is
     /// who may read and write it; else it is as for any new file.
     fn make(&mut self, path: &str, mode: Option<u32>) -> io::Result<()>
-        ensures made { OnOk result (Goes (IsMade path.now) (story self.old) (story self.new)) }
+        ensures made { OnOk result (Between (IsMade path.now) (story self.old) (story self.new)) }
         ensures unmade { OnErr result (story self.new ≡ story self.old) };
 
     /// Writes a text into the file that was made last, which is at this path.
     fn fill(&mut self, path: &str, text: &str) -> io::Result<()>
-        ensures filled { OnOk result (Goes (IsFilled path.now text.now) (story self.old)
+        ensures filled { OnOk result (Between (IsFilled path.now text.now) (story self.old)
             (story self.new)) }
-        ensures unfilled { OnErr result (Goes (Changes path.now) (story self.old)
+        ensures unfilled { OnErr result (Between (OnlyChanges path.now) (story self.old)
             (story self.new)) };
 
     /// Makes sure that what was written into the file that was made last is on the disk, and closes
@@ -75,13 +76,13 @@ pub trait FileSystem {
 
     /// Gives a file another path, in place of what stood there.
     fn rename(&mut self, from: &str, to: &str) -> io::Result<()>
-        ensures renamed { OnOk result (Goes (IsRenamed from.now to.now) (story self.old)
+        ensures renamed { OnOk result (Between (IsRenamed from.now to.now) (story self.old)
             (story self.new)) }
         ensures same { OnErr result (story self.new ≡ story self.old) };
 
     /// Takes away the file at a path, if it can.
     fn remove(&mut self, path: &str)
-        ensures { Goes (Changes path.now) (story self.old) (story self.new) };
+        ensures { Between (OnlyChanges path.now) (story self.old) (story self.new) };
 
     /// Makes a folder, and those that it lies in, where they aren't there.
     fn make_folder(&mut self, folder: &str) -> io::Result<()>
