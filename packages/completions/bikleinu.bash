@@ -13,7 +13,7 @@ _bikleinu() {
       local words= values=
       case ${COMP_WORDS[1]} in
         render) words='--data --partials --filters --out --missing --max-bytes --max-turns --decimals --dates --now --help' ;;
-        merge) words='--out --data --partials --records-format --separator --from --count --dry-run --progress --decimals --dates --now --help' ;;
+        merge) words='--out --into --data --partials --records-format --separator --from --count --dry-run --no-flush --progress --decimals --dates --now --help' ;;
         check) words='--data --partials --filters --format --warn --decimals --dates --now --help' ;;
         paths) words='--partials --filters --format --help' ;;
       esac
