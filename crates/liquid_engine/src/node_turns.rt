@@ -1,5 +1,5 @@
 //! The turns of a node, which a run asks for before the node runs.
-ghost use Rattle.std.specs.Prelude.{◌≡◌, ℕ, ◌+◌, [], length, map, OnOk, OnErr};
+ghost use Rattle.std.specs.Prelude.{◌≡◌, ℕ, ◌+◌, [], OnOk, OnErr};
 ghost use Rattle.liquid_evaluation.specs.ConditionView.{condition_view};
 ghost use Rattle.liquid_evaluation.specs.Tree as tree;
 ghost use Rattle.liquid_syntax.specs.Flats.{Maker, IsForestAt, IsNode, IsNodeRange, NodeAt};
