@@ -11,7 +11,8 @@ ghost use Rattle.liquid_engine.specs.Performs.{Cut, WritesText};
 ghost use Rattle.liquid_engine.specs.Silent.{IsDoneOrStopped};
 ghost use Rattle.liquid_engine.specs.Sinks.{sink_of};
 ghost use Rattle.liquid_engine.specs.inside.NodeTurns.{comparisons, counted_turns};
-ghost use Rattle.liquid_engine.specs.inside.NodeTurns.{elsif_comparisons, listed_values, node_turns};
+ghost use Rattle.liquid_engine.specs.inside.NodeTurns.{elsif_comparisons, listed_values};
+ghost use Rattle.liquid_engine.specs.inside.NodeTurns.{node_turns};
 
 use crate::counted::CountedWrite;
 use crate::output::{Output, Turns};
