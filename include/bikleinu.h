@@ -147,11 +147,15 @@ enum { BIKLEINU_LEVELS = 400, BIKLEINU_LEVEL_STACK = 3008, BIKLEINU_REST_STACK =
  * bikleinu_parse, bikleinu_data, bikleinu_complete and the others less). That is more than a thread of 128 KiB has. */
 enum { BIKLEINU_CALL_STACK = 196608 };
 
-/* What a caller allows a run. A number that is 0 stands for what is usual: so many levels, and any number of bytes and turns. */
+/* What stands for any number of bytes, or of turns. */
+#define BIKLEINU_ANY UINT64_MAX
+
+/* What a caller allows a run. */
 typedef struct {
-    uint32_t levels; /* how many levels it may reach: fewer on a smaller stack, and more on a larger one */
-    uint64_t bytes;  /* how many bytes it may write, to the page and into the bodies of capture and ifchanged */
-    uint64_t turns;  /* how many lists of nodes it may run: the template's, and each body and each partial each time that it runs */
+    uint32_t levels; /* how many levels it may reach: fewer on a smaller stack, and more on a larger one; 0 for BIKLEINU_LEVELS */
+    uint64_t bytes;  /* how many bytes it may write, to the page and into the bodies of capture and ifchanged, or BIKLEINU_ANY */
+    uint64_t turns;  /* how many turns it may take, or BIKLEINU_ANY: a node takes one each time that it runs, and one more for each filter,
+                      * comparison, value of a when and pair of a partial in it; a body without nodes takes one */
 } bikleinu_limits;
 
 /* The same within limits of the caller's. A text that is longer than the bytes left isn't written, and no part of it. */

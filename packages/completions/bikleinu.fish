@@ -9,7 +9,7 @@ complete -c bikleinu -n '__fish_seen_subcommand_from render' -l filters -x -a 'j
 complete -c bikleinu -n '__fish_seen_subcommand_from render' -s o -l out -r -F -d 'Writes the page to this file, once all of it is there, in place of standard output'
 complete -c bikleinu -n '__fish_seen_subcommand_from render' -l missing -x -a 'fault nil' -d 'What the template asks for and the data lack: a fault, or nil, which writes nothing'
 complete -c bikleinu -n '__fish_seen_subcommand_from render' -l max-bytes -r -F -d 'Ends a page that would write more bytes of text'
-complete -c bikleinu -n '__fish_seen_subcommand_from render' -l max-turns -r -F -d 'Ends a page that would run more bodies of tags'
+complete -c bikleinu -n '__fish_seen_subcommand_from render' -l max-turns -r -F -d 'Ends a page that would take more turns: one for each node that runs'
 complete -c bikleinu -n '__fish_seen_subcommand_from render' -l decimals -x -a 'fault text' -d 'What a number that isn\'t whole is: a fault of the data, or the text of its spelling'
 complete -c bikleinu -n '__fish_seen_subcommand_from render' -l dates -d 'Gives dates of ISO 8601 in the data the spelling that the filter date reads'
 complete -c bikleinu -n '__fish_seen_subcommand_from render' -l now -r -F -d 'Gives the name now to an instant of ISO 8601, such as 2026-11-27T04:34:00Z'

@@ -223,7 +223,7 @@ def environment():
                 "LiquidError: UnknownFilter: line 1, column 8: no filter is named `pope`; did you mean `pop`?",
             ),
             raises(lambda: Environment(depth=-1), ValueError),
-            raises(lambda: Environment(max_turns=0), ValueError),
+            raises(lambda: Environment(max_turns=-1), ValueError),
             raises(lambda: Environment(partials=["p"]), TypeError),
             same(lambda: made.partials.insert("deep", "?") or made.get_template("deep").render(), "?"),
         ]

@@ -167,16 +167,21 @@ def deep_threads():
     return first(report) if len(report) == 3 else f"{len(report)} calls, and 3 are wanted"
 
 
-# A template, its limits, the text up to where it ends, and the number that it ends by, 0 where it is whole. A list of nodes is a turn.
+# A template, its limits, the text up to where it ends, and the number that it ends by, 0 where it is whole. A text, an output and a loop
+# take a turn each, an `if` two, and an empty body one.
 FOREVER = "(1..9223372036854775807)"
 LIMITS = [
     ("{{ 'abc' }}{{ 'def' }}", {"max_bytes": 6}, "abcdef", 0),
     ("{{ 'abc' }}{{ 'def' }}", {"max_bytes": 5}, "abc", bikleinu.BYTES_REACHED),
     ("{% for i in " + FOREVER + " %}x{% endfor %}", {"max_bytes": 4}, "xxxx", bikleinu.BYTES_REACHED),
     ("{% capture c %}abcd{% endcapture %}x", {"max_bytes": 4}, "", bikleinu.BYTES_REACHED),
+    ("x", {"max_bytes": 0}, "", bikleinu.BYTES_REACHED),
+    ("", {"max_bytes": 0}, "", 0),
+    ("x", {"max_turns": 0}, "", bikleinu.TURNS_REACHED),
     ("x", {"max_turns": 1}, "x", 0),
-    ("a{% if true %}b{% endif %}", {"max_turns": 1}, "a", bikleinu.TURNS_REACHED),
-    ("a{% if true %}b{% endif %}", {"max_turns": 2}, "ab", 0),
+    ("a{% if true %}b{% endif %}", {"max_turns": 2}, "a", bikleinu.TURNS_REACHED),
+    ("a{% if true %}b{% endif %}", {"max_turns": 3}, "a", bikleinu.TURNS_REACHED),
+    ("a{% if true %}b{% endif %}", {"max_turns": 4}, "ab", 0),
     ("{% for i in " + FOREVER + " %}{{ i }}{% endfor %}", {"max_turns": 4}, "123", bikleinu.TURNS_REACHED),
     ("{% for i in " + FOREVER + " %}{% endfor %}", {"max_turns": 100000}, "", bikleinu.TURNS_REACHED),
     ("{{ nothing }}", {"max_turns": 100, "max_bytes": 100}, "", 1),
@@ -221,8 +226,8 @@ def numbers():
             *(raises(lambda: template.page({}, None, depth), ValueError) for depth in (-1, 2**32, 2**70)),
             *(raises(lambda: template.page({}, None, depth), TypeError) for depth in (1.5, "3")),
             *(raises(lambda: template.page(levels=levels), ValueError) for levels in (0, -1, 2**32)),
-            *(raises(lambda: template.page(max_turns=turns), ValueError) for turns in (0, -1, 2**64)),
-            *(raises(lambda: template.page(max_bytes=count), ValueError) for count in (0, -1, 2**64)),
+            *(raises(lambda: template.page(max_turns=turns), ValueError) for turns in (-1, 2**64)),
+            *(raises(lambda: template.page(max_bytes=count), ValueError) for count in (-1, 2**64)),
             raises(lambda: template.page(levels="4"), TypeError),
         ]
     )

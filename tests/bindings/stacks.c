@@ -75,7 +75,7 @@ static void *render(void *given) {
     need(bikleinu_partials(&partials));
     need(bikleinu_insert(&partials, bytes("p"), 1, &partial));
     need(bikleinu_data(bytes(json), strlen(json), &data));
-    bikleinu_limits limits = {.levels = it->levels};
+    bikleinu_limits limits = {.levels = it->levels, .bytes = BIKLEINU_ANY, .turns = BIKLEINU_ANY};
     it->answer = it->levels ? bikleinu_render_within(&template_, &data, &partials, it->depth, &limits, &page)
                             : bikleinu_render(&template_, &data, &partials, it->depth, &page);
     bikleinu_free(&page), bikleinu_free(&data), bikleinu_free(&partials), bikleinu_free(&template_), bikleinu_free(&language);

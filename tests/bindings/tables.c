@@ -79,7 +79,7 @@ static void end(void) {
     bikleinu_free(&answers), bikleinu_free(&page), bikleinu_free(&answer);
 }
 
-static bikleinu_limits limits;
+static bikleinu_limits limits = {.bytes = BIKLEINU_ANY, .turns = BIKLEINU_ANY};
 
 static uint32_t render(void) {
     return bikleinu_render_with(&template_, &data, &partials, 32, &limits, &answers, &page);
@@ -241,11 +241,16 @@ static void of_limits(void) {
     begin("{% for i in (1..5) %}{{ 'a' | shout }}{% endfor %}", "{}");
     is("lacking", render(), BIKLEINU_LACKING);
     answers_by(0, "{\"answer\":\"A\"}");
-    limits = (bikleinu_limits){.turns = 4};
+    /* the loop takes a turn, and an output with a filter two */
+    limits = (bikleinu_limits){.bytes = BIKLEINU_ANY, .turns = 8};
     renders(BIKLEINU_TURNS_REACHED, BIKLEINU_TEXT, "AAA");
-    limits = (bikleinu_limits){.bytes = 2};
+    limits = (bikleinu_limits){.bytes = 2, .turns = BIKLEINU_ANY};
     renders(BIKLEINU_BYTES_REACHED, BIKLEINU_TEXT, "AA");
-    limits = (bikleinu_limits){0};
+    limits = (bikleinu_limits){.bytes = BIKLEINU_ANY};
+    renders(BIKLEINU_TURNS_REACHED, BIKLEINU_TEXT, "");
+    limits = (bikleinu_limits){.turns = BIKLEINU_ANY};
+    renders(BIKLEINU_BYTES_REACHED, BIKLEINU_TEXT, "");
+    limits = (bikleinu_limits){.bytes = BIKLEINU_ANY, .turns = BIKLEINU_ANY};
     end();
 }
 

@@ -67,7 +67,7 @@ NAMES = {
 }
 LIMITS = {
     BYTES_REACHED: ("BytesReached", "the page is longer than max_bytes"),
-    TURNS_REACHED: ("TurnsReached", "the page ran more lists of nodes than max_turns"),
+    TURNS_REACHED: ("TurnsReached", "the page takes more turns than max_turns"),
 }
 # those of calls that made nothing, which the library has no words for
 MESSAGES = {

@@ -15,6 +15,9 @@ from .errors import MESSAGES, LiquidError
 from .language import Language, parse
 from .partials import Others, Partials, partials_of
 
+# what stands for no limit on bytes, or on turns
+ANY_NUMBER = 2**64 - 1
+
 
 @dataclass(frozen=True)
 class Page:
@@ -80,9 +83,9 @@ class Template(Shared):
         that can't be read, for refused memory, and where the run could reach more levels than are allowed: 400, or as many as
         levels says.
 
-        With max_bytes the page may write so many bytes of UTF-8, captured texts too; with max_turns it may run so many lists of
-        nodes: the template's, and each body and each partial each time that it runs. The fault of a page that one of them ended
-        is a LimitError.
+        With max_bytes the page may write so many bytes of UTF-8, captured texts too; with max_turns it may take so many turns: one
+        each time that a text, an output or a tag runs, one more for each filter, comparison, value of a when and pair of a partial
+        in it, and one for an empty body. The fault of a page that one of them ended is a LimitError.
 
         What the data lack is a fault of a page that comes to it. With missing="nil" it is nil, wherever the template or a partial asks for
         it (see paths); nil is put below no nil and no scalar, and into no map that a loop goes over or that is measured. A function as
@@ -213,8 +216,8 @@ def _shown(answer: int, page: Owner) -> Page:
 def _limits(levels: int | None, max_bytes: int | None, max_turns: int | None) -> Limits:
     return Limits(
         0 if levels is None else whole("levels", levels, 1),
-        0 if max_bytes is None else whole("max_bytes", max_bytes, 1, 2**64 - 1),
-        0 if max_turns is None else whole("max_turns", max_turns, 1, 2**64 - 1),
+        ANY_NUMBER if max_bytes is None else whole("max_bytes", max_bytes, 0, ANY_NUMBER),
+        ANY_NUMBER if max_turns is None else whole("max_turns", max_turns, 0, ANY_NUMBER),
     )
 
 

@@ -11,13 +11,19 @@ pub(crate) struct Handle {
     at: *mut c_void,
 }
 
-/// What a run is allowed. A 0 stands for what is usual.
+/// What a run is allowed: 0 levels for as many as are usual, and the greatest number for any number of bytes or turns.
 #[repr(C)]
-#[derive(Clone, Copy, Debug, Default, PartialEq, Eq)]
+#[derive(Clone, Copy, Debug, PartialEq, Eq)]
 pub(crate) struct RawLimits {
     pub(crate) levels: u32,
     pub(crate) bytes: u64,
     pub(crate) turns: u64,
+}
+
+impl Default for RawLimits {
+    fn default() -> RawLimits {
+        RawLimits { levels: 0, bytes: u64::MAX, turns: u64::MAX }
+    }
 }
 
 extern "C" {

@@ -25,13 +25,14 @@ impl Limits {
         Limits(RawLimits { levels, ..self.0 })
     }
 
-    /// At most so many bytes, to the page and into the bodies of `capture` and `ifchanged`; 0 for any number.
+    /// At most so many bytes, to the page and into the bodies of `capture` and `ifchanged`.
     #[must_use]
     pub fn max_bytes(self, bytes: u64) -> Limits {
         Limits(RawLimits { bytes, ..self.0 })
     }
 
-    /// At most so many lists of nodes: the template's, and each body and each partial each time that it runs; 0 for any number.
+    /// At most so many turns: one each time that a text, an output or a tag runs, one more for each filter, comparison, value of a
+    /// `when` and pair of a partial in it, and one for an empty body.
     #[must_use]
     pub fn max_turns(self, turns: u64) -> Limits {
         Limits(RawLimits { turns, ..self.0 })

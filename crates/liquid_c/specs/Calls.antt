@@ -1,5 +1,5 @@
 -- What calls make of what their handles hold.
-use Rattle.std.specs.Prelude.{◌≡◌, ◌⊎◌, ℕ, List, [], Option, Some, None, Result, Ok, Err}
+use Rattle.std.specs.Prelude.{◌≡◌, ◌⊎◌, ℕ, ◌-◌, ◌^◌, List, [], Option, Some, None, Result, Ok, Err}
 use Rattle.std.specs.Prelude.{Bool, not, ◌&&◌, MatchBool, ⊤, if◌then◌else◌, nat_eq, nat_lt}
 use Rattle.std.specs.Str.{IsUtf8}
 use Rattle.liquid_model.specs.Answer.{Faulted}
@@ -121,9 +121,13 @@ ShowsUnless is_deep is_limited nodes depth «data» partials answer =
     (ShowsWithin nodes depth «data» partials answer)
     (ShowsNodes nodes depth «data» partials answer))
 
--- a number other than 0 is a limit
+-- what stands for no limit on bytes, or on turns: the greatest number of 64 bits
+abbrev pub any_number : ℕ
+any_number = 2 ^ 64 - 1
+
+-- any other is a limit
 abbrev pub has_limit : ℕ → ℕ → Bool
-has_limit bytes turns = not (nat_eq bytes 0 && nat_eq turns 0)
+has_limit bytes turns = not (nat_eq bytes any_number && nat_eq turns any_number)
 
 abbrev pub IsRendering : ℕ → Bool → Option Content → Option Content → Option Content → ℕ
     → Result Content Refusal → Type 0

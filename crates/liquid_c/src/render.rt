@@ -25,16 +25,18 @@ use std::collections::BTreeMap;
 /// MiB, with partials of up to a depth of 200.
 const USUAL_LEVELS: u32 = 400;
 
-/// What a caller allows a run. A number that is 0 stands for what is usual: `USUAL_LEVELS` levels,
-/// and any number of bytes and turns.
+/// What stands for no limit on bytes, or on turns.
+const ANY_NUMBER: u64 = u64::MAX;
+
+/// What a caller allows a run.
 #[repr(C)]
 #[derive(Clone, Copy, Drop)]
 pub struct RenderLimits {
-    /// How many levels it may reach.
+    /// How many levels it may reach; 0 for `USUAL_LEVELS`.
     levels: u32,
-    /// How many bytes it may write.
+    /// How many bytes it may write; `ANY_NUMBER` for any number.
     bytes: u64,
-    /// How many lists of nodes it may run.
+    /// How many turns it may take; `ANY_NUMBER` for any number.
     turns: u64,
 }
 
@@ -45,9 +47,9 @@ pub(crate) struct Allowed {
     pub(crate) depth: u32,
     /// How many levels it may reach.
     pub(crate) levels: u32,
-    /// How many bytes it may write; 0 for any number.
+    /// How many bytes it may write; `ANY_NUMBER` for any number.
     bytes: u64,
-    /// How many lists of nodes it may run; 0 for any number.
+    /// How many turns it may take; `ANY_NUMBER` for any number.
     turns: u64,
 }
 
@@ -78,8 +80,8 @@ pub extern "C" fn bikleinu_render(
     let allowed = Allowed {
         depth,
         levels: USUAL_LEVELS,
-        bytes: 0,
-        turns: 0,
+        bytes: ANY_NUMBER,
+        turns: ANY_NUMBER,
     };
     let answer = render_handles(alloc, template, data, partials, allowed);
     store_result(alloc, answer, made)
@@ -218,7 +220,7 @@ fn page_within_levels(
     if is_deep {
         return Err(Refusal::TooManyLevels);
     }
-    if allowed.bytes == 0 && allowed.turns == 0 {
+    if allowed.bytes == ANY_NUMBER && allowed.turns == ANY_NUMBER {
         return Ok(unlimited_page(alloc, template, partials, allowed.depth, data));
     }
     Ok(limited(alloc, template, partials, allowed, data))
@@ -282,7 +284,11 @@ pub(crate) fn limits_of(allowed: Allowed) -> liquid_engine::Limits
 fn limit_of(asked: u64) -> Option<u64>
     ensures { result ≡ asked_limit asked }
 {
-    if asked == 0 { None } else { Some(asked) }
+    if asked == ANY_NUMBER {
+        None
+    } else {
+        Some(asked)
+    }
 }
 
 pub(crate) fn empty_data(alloc: Global) -> Object

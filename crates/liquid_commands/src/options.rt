@@ -120,7 +120,7 @@ pub(crate) fn max_turns<'a>(alloc: Global) -> Arg<'a> {
     number(
         alloc,
         "max-turns",
-        "Ends a page that would run more bodies of tags",
+        "Ends a page that would take more turns: one for each node that runs",
     )
 }
 

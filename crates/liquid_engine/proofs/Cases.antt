@@ -36,7 +36,7 @@ case_bodies ns from (arm ∷ arms) last (body f bs) (e, rest, eq, here, more) =
 
 module _ (ns : List Node) (at : ℕ) (target : Expression) (arms : List Arm) (last to : ℕ) (r m : Node) (req : IsNode ns at to) (read : r ≡ get_or ns at r) (same : r ≡ m)
     (form : flat_of m ≡ case_flat target (arm_values arms) (arm_ends arms) last) where
-  known_case : (n : tree.Node) (next : ℕ) → NodeAt ns at n next → (ws : Whens) × (o : Nodes) × CaseStands ns (at + 1) arms last ws o × (n ≡ case_of target ws o) × (next ≡ last)
+  pub known_case : (n : tree.Node) (next : ℕ) → NodeAt ns at n next → (ws : Whens) × (o : Nodes) × CaseStands ns (at + 1) arms last ws o × (n ≡ case_of target ws o) × (next ≡ last)
   known_case n next there =
       let (bs, inner, made, ends) = subst (Known ns at n next) form (known ns at r m n next there (node_within ns at to req) read same) in
       let (ws, o, stands, is, over) = case_bodies ns (at + 1) arms last bs inner in

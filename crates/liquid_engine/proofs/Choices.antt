@@ -168,7 +168,7 @@ LoneIf ns at t e c f = (b d : Forest Maker) × IsForestAt ns (at + 1) b t × IsF
 pub range_within : (ns : List Node) (at to : ℕ) (f : Forest Maker) → IsForestAt ns at f to → at < to → at < length ns
 range_within ns at to f stands lt = subst (λ k. at < k) (length-map ns flat_of) (first-within (flats ns) at f to stands lt)
 
-lone_if : (ns : List Node) (at t e : ℕ) (c : tree.Condition) (f : Forest Maker) (r m : Node) → IsForestAt ns at f e → at < e → r ≡ get_or ns at r → r ≡ m → flat_of m ≡ record { head = with_two (tree.if_true c); ends = t ∷ e ∷ [] }
+pub lone_if : (ns : List Node) (at t e : ℕ) (c : tree.Condition) (f : Forest Maker) (r m : Node) → IsForestAt ns at f e → at < e → r ≡ get_or ns at r → r ≡ m → flat_of m ≡ record { head = with_two (tree.if_true c); ends = t ∷ e ∷ [] }
     → LoneIf ns at t e c f
 lone_if ns at t e c f r m stands lt read same form =
     let (n, next, rest, there, is, after, le, past) = first ns at f e stands lt in

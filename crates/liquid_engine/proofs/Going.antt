@@ -5,7 +5,7 @@ use Rattle.std.proofs.lemmas.List.{length-map}
 use Rattle.std.proofs.lemmas.Option.{slice_get_read, slice_get-map, slice_get_within}
 use Rattle.std.specs.Option.{option_map}
 use Rattle.liquid_model.specs.Texts.{Text}
-use Rattle.liquid_core.specs.Environment.{Names}
+use Rattle.liquid_core.specs.Environment.{Environment, Names}
 use Rattle.liquid_model.specs.declared.error.Error.{Error}
 use Rattle.liquid_core.specs.declared.interrupt.Interrupt.{Interrupt}
 use Rattle.liquid_core.specs.declared.state.State.{State}
@@ -20,10 +20,12 @@ use Rattle.liquid_meaning.specs.Within.{Within}
 use Rattle.liquid_core.specs.States.{layers_of}
 use Rattle.liquid_engine.specs.StateKept.{Keeps, IsRenderNode, AreRenderNodes}
 use Rattle.liquid_engine.specs.Performs.{Configuration, Performs}
+use Rattle.liquid_engine.specs.Sinks.{Sink}
 use Rattle.liquid_engine.specs.inside.Engine.{node_meant, nodes_meant}
 use Rattle.liquid_meaning.specs.Meaning.{Setting, deeper_meaning}
 use Rattle.liquid_meaning.proofs.Within.{left, right}
 use Rattle.liquid_engine.proofs.Joined.{list_on, list_halt, list_fault, list_end}
+use Rattle.liquid_engine.proofs.Turns.{done_unfailed}
 
 -- ---- the node at a place
 
@@ -83,6 +85,15 @@ going_node setting depth ns from at to start here (f, s) going lt =
 
 abbrev pub NodePerforms : Setting → ℕ → List Node → ℕ → Result (Unit {0}) Error → Configuration → Configuration → Type 0
 NodePerforms setting depth ns at r here after = (n : tree.Node) (next : ℕ) → NodeAt ns at n next → Performs r (node_meant setting depth n) here after
+
+-- the same from where the node's turns were asked
+pub node_from : (setting : Setting) (depth : ℕ) (ns : List Node) (at : ℕ) (r : Result (Unit {0}) Error) (s u : Sink) (e : Environment) (after : Configuration) → u ≡ s → NodePerforms setting depth ns at r (record { sink = u; environment = e }) after
+    → NodePerforms setting depth ns at r (record { sink = s; environment = e }) after
+node_from setting depth ns at r s u e after same h n next there = subst (λ z. Performs r (node_meant setting depth n) (record { sink = z; environment = e }) after) same (h n next there)
+
+-- no write failed in a node that was done
+pub node_unfailed : (setting : Setting) (depth : ℕ) (ns : List Node) (at to : ℕ) (value : Unit {0}) (here after : Configuration) → IsNode ns at to → NodePerforms setting depth ns at (Ok value) here after → after.sink.failures ≡ here.sink.failures
+node_unfailed setting depth ns at to value here after (n, next, there, le) h = done_unfailed value (node_meant setting depth n) here after (h n next there)
 
 abbrev pub NodeKeeps : Setting → List Node → ℕ → State → State → Type 0
 NodeKeeps setting ns at old new = (n : tree.Node) (next : ℕ) → NodeAt ns at n next → Keeps (node_names n) setting old new

@@ -15,6 +15,7 @@ pub mod Joined
 pub mod LimitedPages
 pub mod LoopItems
 pub mod LoopMeanings
+pub mod NodeTurns
 pub mod Pages
 pub mod PartialRuns
 pub mod Pieces

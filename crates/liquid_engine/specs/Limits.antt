@@ -17,9 +17,9 @@ abbrev pub Takes : ℕ → Option ℕ → Option ℕ → Type 0
 Takes n None new = new ≡ None
 Takes n (Some left) new = (n ≤ left) × (new ≡ Some (left - n))
 
--- one turn was taken, and no byte
-abbrev pub TakesTurn : Limits → Limits → Type 0
-TakesTurn old new = Takes 1 old.turns new.turns × (new.bytes ≡ old.bytes)
+-- n turns were taken, and no byte
+abbrev pub TakesTurns : ℕ → Limits → Limits → Type 0
+TakesTurns n old new = Takes n old.turns new.turns × (new.bytes ≡ old.bytes)
 
 -- n bytes were taken, and no turn
 abbrev pub TakesBytes : ℕ → Limits → Limits → Type 0

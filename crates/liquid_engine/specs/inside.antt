@@ -5,6 +5,7 @@ pub mod Engine
 pub mod Given
 pub mod LoopRuns
 pub mod LoopTurns
+pub mod NodeTurns
 pub mod Partials
 pub mod Puts
 pub mod SameKindOrMemory

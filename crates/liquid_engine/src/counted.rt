@@ -3,7 +3,7 @@ ghost use Rattle.std.specs.Prelude.{◌≡◌, ℕ, List, Option, None, true, fa
 ghost use Rattle.std.specs.Io.{WritesAtMost};
 ghost use Rattle.std.specs.Io.KnownBytes.{WriteAppends};
 ghost use Rattle.liquid_engine.specs.Failures.{failures_after, OneFailed};
-ghost use Rattle.liquid_engine.specs.Limits.{TakesBytes, TakesTurn, WriteTakes, unlimited};
+ghost use Rattle.liquid_engine.specs.Limits.{TakesBytes, TakesTurns, WriteTakes, unlimited};
 ghost use Rattle.liquid_engine.specs.declared.limits.Limits.{Limits};
 
 use std::io;
@@ -37,12 +37,18 @@ pub trait CountedWrite {
     fn failures(&self) -> u64
         ensures { result ≡ failure_count self.now };
 
-    /// Whether a run may go on, which it asks before each list of nodes: the template's own, and
-    /// each body, cell, branch, capture and partial each time that it runs.
-    fn turn(&mut self) -> bool
+    /// Whether a run has to ask for its turns. Where it needn't, there is no limit on them, and a
+    /// run may ask for fewer than it takes.
+    fn counts_turns(&self) -> bool
+        ensures free { result ≡ false → (left self.now).turns ≡ None };
+
+    /// Whether a run may go on for this many turns, which it asks before each node: one for the
+    /// node, and one for each filter, comparison, value of a `when` and pair of a partial that is
+    /// written in it. A list without nodes asks for one.
+    fn turns(&mut self, count: u64) -> bool
         ensures same { contents self.new ≡ contents self.old }
         ensures goes_on { result ≡ true → failure_count self.new ≡ failure_count self.old }
-        ensures takes { result ≡ true → TakesTurn (left self.old) (left self.new) }
+        ensures takes { result ≡ true → TakesTurns count (left self.old) (left self.new) }
         ensures refused { result ≡ false →
             OneFailed (failure_count self.old) (failure_count self.new) }
         ensures kept { result ≡ false → left self.new ≡ left self.old };
@@ -115,11 +121,24 @@ impl<W: Write> CountedWrite for Counted<W> {
         self.failures
     }
 
-    fn turn(&mut self) -> bool {
+    fn counts_turns(&self) -> bool {
+        false
+    }
+
+    fn turns(&mut self, _: u64) -> bool
+        // it grants each, so that nothing ends a run but a write that fails, and want of memory
+        ensures granted { result ≡ true }
+        ensures same { self.new ≡ self.old }
+    {
+        // it sets no limit on turns
         true
     }
 
-    fn room(&mut self, _: usize) -> bool {
+    fn room(&mut self, _: usize) -> bool
+        ensures granted { result ≡ true }
+        ensures same { self.new ≡ self.old }
+    {
+        // it sets no limit on bytes
         true
     }
 }
@@ -141,11 +160,22 @@ impl CountedWrite for NoWriter {
         0
     }
 
-    fn turn(&mut self) -> bool {
+    fn counts_turns(&self) -> bool {
+        false
+    }
+
+    fn turns(&mut self, _: u64) -> bool
+        // it grants each, so that nothing ends a run but a write that fails, and want of memory
+        ensures granted { result ≡ true }
+        ensures same { self.new ≡ self.old }
+    {
         true
     }
 
-    fn room(&mut self, _: usize) -> bool {
+    fn room(&mut self, _: usize) -> bool
+        ensures granted { result ≡ true }
+        ensures same { self.new ≡ self.old }
+    {
         true
     }
 }

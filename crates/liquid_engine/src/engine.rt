@@ -29,7 +29,8 @@ use crate::cycle::run_cycle;
 use crate::fault_location::{in_partial, located};
 use crate::ifchanged::show_if_changed;
 use crate::node_ends::next_after;
-use crate::output::{Output, Turn};
+use crate::node_turns::{run_no_nodes, turns_of_node};
+use crate::output::{Output, Turns};
 use crate::output_and_assign::{run_assign, run_output, run_raw, run_text};
 use crate::partial::{enter_include, enter_jekyll_include};
 use liquid_core::{Expression, Interrupt, NamedFilters, Result, State, Value};
@@ -67,7 +68,9 @@ pub(crate) fn run_range<'d, W: CountedWrite, H: NamedFilters>(
         (sink_of W.contents W.failure_count out.new).failures }
     ensures loops { loops_of state.new ≡ loops_of state.old }
 {
-    let turn = out.turn(alloc)?;
+    if from == to {
+        return run_no_nodes(alloc, out);
+    }
     let mut at = from;
     while at < to {
         if let Node::Text(text) = &nodes[at] {
@@ -79,7 +82,8 @@ pub(crate) fn run_range<'d, W: CountedWrite, H: NamedFilters>(
             at += 1;
             continue;
         }
-        if let Err(fault) = run_node(alloc, context, nodes, at, to, turn, out, state) {
+        let turns = turns_of_node(alloc, nodes, at, to, out)?;
+        if let Err(fault) = run_node(alloc, context, nodes, at, to, turns, out, state) {
             return Err(located(alloc, context, nodes, at, state, fault));
         }
         if state.interrupt.is_some() {
@@ -90,7 +94,7 @@ pub(crate) fn run_range<'d, W: CountedWrite, H: NamedFilters>(
     Ok(())
 }
 
-/// Runs one node, in the turn that was granted to its list.
+/// Runs one node, in the turns that were granted to it.
 #[cycle(run)]
 fn run_node<'d, W: CountedWrite, H: NamedFilters>(
     alloc: Global,
@@ -98,7 +102,7 @@ fn run_node<'d, W: CountedWrite, H: NamedFilters>(
     nodes: &'d [Node],
     at: usize,
     to: usize,
-    _: Turn,
+    _: Turns,
     out: &mut Output<'_, W>,
     state: &mut State<'d>,
 ) -> Result<()>

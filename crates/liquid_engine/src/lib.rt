@@ -18,6 +18,7 @@ mod isolated_scope;
 mod limits;
 mod loop_setup;
 mod node_ends;
+mod node_turns;
 mod output;
 mod output_and_assign;
 mod partial;

@@ -1,11 +1,11 @@
-//! Limits on a run: how many bytes of text it may write, and how many lists of nodes it may run.
-ghost use Rattle.std.specs.Prelude.{◌≡◌, length, IsErr, true, false};
+//! Limits on a run: how many bytes of text it may write, and how many turns it may take.
+ghost use Rattle.std.specs.Prelude.{◌≡◌, length, IsErr, None, true, false};
 ghost use Rattle.std.specs.Io.{WritesAtMost};
 ghost use Rattle.std.specs.Io.KnownBytes.{WriteAppends};
 ghost use Rattle.liquid_engine.specs.Failures.{failures_after, OneFailed};
 ghost use Rattle.liquid_engine.specs.LimitedParts.{limited_inner, limited_left, refusals};
 ghost use Rattle.liquid_engine.specs.LimitedParts.{failures_of, reached, Refuses};
-ghost use Rattle.liquid_engine.specs.Limits.{is_within_limit, Takes, TakesBytes, TakesTurn};
+ghost use Rattle.liquid_engine.specs.Limits.{is_within_limit, Takes, TakesBytes, TakesTurns};
 ghost use Rattle.liquid_engine.specs.Limits.{WriteTakes};
 ghost use Rattle.liquid_engine.specs.declared.limits.LimitReached.TheVariants.{Bytes, Turns};
 
@@ -18,8 +18,9 @@ pub struct Limits {
     /// How many bytes of text it may write: to its writer or its page, and into the bodies of
     /// `capture` and `ifchanged`. So a captured text that is written later counts twice.
     pub bytes: Option<u64>,
-    /// How many lists of nodes it may run: the template's own, and each body, cell, branch, capture
-    /// and partial each time that it runs.
+    /// How many turns it may take. Each node takes one when it runs, and one more for each filter,
+    /// each comparison of a condition, each value of a `when` and each pair of a partial that is
+    /// written in it. A list without nodes takes one.
     pub turns: Option<u64>,
 }
 
@@ -28,7 +29,7 @@ pub struct Limits {
 pub enum LimitReached {
     /// A text was longer than the bytes that were left. Nothing of that text was written.
     Bytes,
-    /// No turn was left.
+    /// The turns that were left were fewer than a node takes. It didn't run.
     Turns,
 }
 
@@ -137,29 +138,40 @@ impl<W: CountedWrite> CountedWrite for Limited<W> {
         self.writer.failures().saturating_add(self.refusals)
     }
 
-    fn turn(&mut self) -> bool
+    fn counts_turns(&self) -> bool
+        ensures free { result ≡ false → (limited_left self.now).turns ≡ None }
+    {
+        match self.left.turns {
+            Some(_) => true,
+            None => self.writer.counts_turns(),
+        }
+    }
+
+    fn turns(&mut self, count: u64) -> bool
         ensures same { W.contents (limited_inner self.new) ≡ W.contents (limited_inner self.old) }
         ensures goes_on { result ≡ true → failures_of W.failure_count self.new
             ≡ failures_of W.failure_count self.old }
-        ensures takes { result ≡ true → TakesTurn (limited_left self.old) (limited_left self.new) }
+        ensures takes { result ≡ true →
+            TakesTurns count (limited_left self.old) (limited_left self.new) }
         ensures refused { result ≡ false → OneFailed (failures_of W.failure_count self.old)
             (failures_of W.failure_count self.new) }
         ensures kept { result ≡ false → limited_left self.new ≡ limited_left self.old }
-        // where no turn is left it is refused, and else it is the writer's to grant
-        ensures spent { is_within_limit 1 (limited_left self.old).turns ≡ false → result ≡ false }
-        ensures reached { is_within_limit 1 (limited_left self.old).turns ≡ false →
+        // where fewer are left they are refused, and else they are the writer's to grant
+        ensures spent { is_within_limit count (limited_left self.old).turns ≡ false →
+            result ≡ false }
+        ensures reached { is_within_limit count (limited_left self.old).turns ≡ false →
             Refuses Turns self.old self.new }
-        ensures passed { is_within_limit 1 (limited_left self.old).turns ≡ true →
+        ensures passed { is_within_limit count (limited_left self.old).turns ≡ true →
             refusals self.new ≡ refusals self.old }
     {
-        if !is_left(self.left.turns, 1) {
+        if !is_left(self.left.turns, count) {
             self.refuse(LimitReached::Turns);
             return false;
         }
-        if !self.writer.turn() {
+        if !self.writer.turns(count) {
             return false;
         }
-        self.left.turns = less(self.left.turns, 1);
+        self.left.turns = less(self.left.turns, count);
         true
     }
 

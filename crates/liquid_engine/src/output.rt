@@ -1,10 +1,10 @@
 //! The caller's writer, and the buffers that are open over it.
-ghost use Rattle.std.specs.Prelude.{◌≡◌, [], length, Some, IsSome, OnOk, OnErr};
+ghost use Rattle.std.specs.Prelude.{◌≡◌, [], length, Some, None, IsSome, OnOk, OnErr, false};
 ghost use Rattle.std.specs.Option.{option_map};
 ghost use Rattle.std.specs.String.{string_bytes};
 ghost use Rattle.liquid_engine.specs.Failures.{OneFailed};
 ghost use Rattle.liquid_engine.specs.Performs.{Cut, WritesText};
-ghost use Rattle.liquid_engine.specs.Limits.{TakesBytes, TakesTurn};
+ghost use Rattle.liquid_engine.specs.Limits.{TakesBytes, TakesTurns};
 ghost use Rattle.liquid_engine.specs.inside.Puts.{Puts};
 ghost use Rattle.liquid_engine.specs.Sinks.{sink_of};
 ghost use Rattle.liquid_engine.specs.declared.output.Put.TheVariants.{All};
@@ -25,10 +25,9 @@ pub struct Output<'w, W> {
     pub buffer: Option<String>,
 }
 
-/// A turn that the writer granted, in which the nodes of one list run. Only [Output::turn] makes
-/// one.
-#[derive(Clone, Copy, Drop)]
-pub struct Turn {
+/// The turns that the writer granted, in which one node runs. Only [Output::turns] makes them.
+#[derive(Drop)]
+pub struct Turns {
     granted: (),
 }
 
@@ -45,6 +44,9 @@ impl<'w, W: CountedWrite> Output<'w, W> {
     /// Adds a text: `Memory` where the buffer can't grow, `Write` where the writer fails. Then a
     /// beginning of it was added.
     pub fn push_text(&mut self, alloc: Global, text: &str) -> Result<()>
+        // of a writer with a limit it takes what it adds
+        ensures takes { OnOk result (TakesBytes (length text.now)
+            (W.left self.old.writer.now) (W.left self.new.writer.now)) }
         ensures writes { WritesText result text.now
             (sink_of W.contents W.failure_count self.old)
             (sink_of W.contents W.failure_count self.new) }
@@ -85,13 +87,20 @@ impl<'w, W: CountedWrite> Output<'w, W> {
         }
     }
 
-    /// Asks the writer whether the run may go on: `Write` where it refuses.
-    pub fn turn(&mut self, alloc: Global) -> Result<Turn>
+    /// Whether the writer has to be asked for turns. Else there is no limit on them.
+    pub fn counts_turns(&self) -> bool
+        ensures { result ≡ false → (W.left self.now.writer.now).turns ≡ None }
+    {
+        self.writer.counts_turns()
+    }
+
+    /// Asks the writer whether the run may go on for this many turns: `Write` where it refuses.
+    pub fn turns(&mut self, alloc: Global, count: u64) -> Result<Turns>
         ensures goes_on { OnOk result (sink_of W.contents W.failure_count self.new ≡
             sink_of W.contents W.failure_count self.old) }
-        // of a writer with a limit it takes one of the turns that are left
+        // of a writer with a limit it takes them of the turns that are left
         ensures takes { OnOk result
-            (TakesTurn (W.left self.old.writer.now) (W.left self.new.writer.now)) }
+            (TakesTurns count (W.left self.old.writer.now) (W.left self.new.writer.now)) }
         ensures refused { OnErr result (Cut result []
             (sink_of W.contents W.failure_count self.old)
             (sink_of W.contents W.failure_count self.new)) }
@@ -100,10 +109,10 @@ impl<'w, W: CountedWrite> Output<'w, W> {
             (sink_of W.contents W.failure_count self.new).failures) }
         ensures same_writer { self.new.writer.ghost_name ≡ self.old.writer.ghost_name }
     {
-        if self.writer.turn() {
-            return Ok(Turn { granted: () });
+        if self.writer.turns(count) {
+            return Ok(Turns { granted: () });
         }
-        Err(refused_turn(alloc))
+        Err(refused_turns(alloc))
     }
 
     /// Opens a buffer, and gives the one that was innermost, for `close`. It takes no memory.
@@ -139,9 +148,9 @@ fn not_written(alloc: Global) -> Error
     )
 }
 
-/// The fault of a writer that grants no turn.
+/// The fault of a writer that doesn't grant the turns of a node.
 #[inline(never)]
-fn refused_turn(alloc: Global) -> Error
+fn refused_turns(alloc: Global) -> Error
     ensures { IsKindOrMemory Write result.kind }
 {
     Error::new(

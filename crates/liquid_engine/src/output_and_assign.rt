@@ -1,10 +1,11 @@
 //! Runs of text, outputs and `assign`.
-ghost use Rattle.std.specs.Prelude.{◌≡◌};
+ghost use Rattle.std.specs.Prelude.{◌≡◌, OnOk};
 ghost use Rattle.liquid_core.specs.States.{loops_of};
 ghost use Rattle.liquid_evaluation.specs.ChainView.{chain_view};
 ghost use Rattle.liquid_evaluation.specs.Names.{node_names};
 ghost use Rattle.liquid_evaluation.specs.Tree as tree;
 ghost use Rattle.liquid_engine.specs.inside.Engine.{setting_of, node_in};
+ghost use Rattle.liquid_engine.specs.Limits.{Takes};
 ghost use Rattle.liquid_engine.specs.StateKept.{Keeps};
 ghost use Rattle.liquid_engine.specs.Performs.{Performs, configuration_of};
 
@@ -16,7 +17,7 @@ use liquid_core::{DirectValue, NamedFilters, Result, State};
 use liquid_syntax::FilterChain;
 use std::alloc::Global;
 
-/// Writes a text.
+/// Writes a text, in a turn of its own.
 pub(crate) fn run_text<W: CountedWrite, H: NamedFilters>(
     alloc: Global,
     context: &RunContext<'_, H>,
@@ -27,12 +28,16 @@ pub(crate) fn run_text<W: CountedWrite, H: NamedFilters>(
     ensures performs { Performs result (node_in H.named context.now (tree.plain text.now))
         (configuration_of W.contents W.failure_count out.old state.old)
         (configuration_of W.contents W.failure_count out.new state.new) }
+    // of a writer with a limit it takes one of the turns that are left
+    ensures takes { OnOk result (Takes 1 (W.left out.old.writer.now).turns
+        (W.left out.new.writer.now).turns) }
     ensures same_writer { out.new.writer.ghost_name ≡ out.old.writer.ghost_name }
     ensures kept { Keeps (node_names (tree.plain text.now)) (setting_of H.named context.now)
         state.old
         state.new }
     ensures loops { loops_of state.new ≡ loops_of state.old }
 {
+    out.turns(alloc, 1)?;
     out.push_text(alloc, text)
 }
 

@@ -99,8 +99,8 @@ pub(super) fn run_render_each<'d, W: CountedWrite, H: NamedFilters>(
     Ok(())
 }
 
-/// Runs a partial for one item, apart: it sees the pairs, and the loop over them. The answer is the
-/// interrupt that it leaves.
+/// Runs a partial for one item, apart: it sees the pairs, which take a turn each, and the loop over
+/// them. The answer is the interrupt that it leaves.
 #[cycle(run)]
 #[inline(never)]
 fn run_item<'d, W: CountedWrite, H: NamedFilters>(
@@ -121,6 +121,7 @@ fn run_item<'d, W: CountedWrite, H: NamedFilters>(
         (configuration_of W.contents W.failure_count out.new state.now) }
     ensures same_writer { out.new.writer.ghost_name ≡ out.old.writer.ghost_name }
 {
+    out.turns(alloc, bindings.len() as u64)?;
     let apart = enter_render_item(alloc, context, name, bindings, item, state)?;
     let inner = apart.inner;
     let mut own = apart.own;

@@ -24,7 +24,7 @@ use Rattle.liquid_evaluation.specs.Tree as tree
 use Rattle.liquid_syntax.specs.Flats.{Maker, IsForestAt, IsNodeRange, bindings_view, each_view, flats, nodes_of, window_view}
 use Rattle.liquid_syntax.specs.Forest.{Forest}
 use Rattle.liquid_syntax.specs.Templates.{forest_of, most_of, partials_of, tree_of}
-use Rattle.liquid_syntax.proofs.Places.{Stands-le}
+use Rattle.liquid_syntax.proofs.Places.{Stands-le, nothing_left}
 use Rattle.liquid_meaning.specs.Effects.{assigned_to, interrupted_by}
 use Rattle.liquid_meaning.specs.Meaning.{node_meaning, deeper_meaning, render_apart}
 use Rattle.liquid_meaning.specs.Runs.{buffered, change}
@@ -32,6 +32,7 @@ use Rattle.liquid_meaning.proofs.Law.{within_found}
 use Rattle.liquid_meaning.proofs.Rules.{comment_rule, break_rule, continue_rule, capture_rule, ifchanged_rule}
 use Rattle.liquid_engine.specs.inside.Changed.{shown_if_changed}
 use Rattle.liquid_engine.specs.inside.Choices.{CaseStands, HasCaseAt, Chosen, NodeComesTo}
+use Rattle.liquid_engine.specs.Failures.{raised}
 use Rattle.liquid_engine.specs.inside.Engine.{setting_of, node_meant, nodes_meant}
 use Rattle.liquid_engine.specs.StateKept.{Keeps, LayersKept}
 use Rattle.liquid_engine.specs.inside.Partials.{item_scope}
@@ -41,7 +42,7 @@ use Rattle.liquid_engine.specs.Performs.{Meets, Performs, configuration_of, unit
 use Rattle.liquid_engine.specs.Sinks.{sink_of}
 use Rattle.liquid_engine.proofs.Cases.{the_case, case_performs, case_keeps, case_other, case_loud}
 use Rattle.liquid_engine.proofs.Choices.{chosen_inside, chosen_performs, refused_performs}
-use Rattle.liquid_engine.proofs.Going.{leaf_performs, leaf_keeps, leaf_other, one, one_performs, one_keeps, one_other, two, two_performs, two_keeps, two_other, going_fault, going_halt, going_node, going_on, going_end, going_past, kept_step, alone_step, leaf_next, node_before, node_within}
+use Rattle.liquid_engine.proofs.Going.{leaf_performs, leaf_keeps, leaf_other, one, one_performs, one_keeps, one_other, two, two_performs, two_keeps, two_other, going_fault, going_halt, going_node, going_on, going_end, going_past, kept_step, alone_step, leaf_next, node_before, node_from, node_unfailed, node_within}
 use Rattle.liquid_engine.proofs.Interrupts.{interrupt_of, some_of, none_of}
 use Rattle.liquid_engine.proofs.Joined.{by_rule, bind_met, bind_faulted, buffered_met, buffered_faulted, buffered_memory, change_met, done_met, gives_merged, memory_at}
 use Rattle.liquid_engine.proofs.StateKept.{kept_same, kept_after, kept_assigned, kept_interrupt}
@@ -61,179 +62,214 @@ use Rattle.liquid_engine.specs.inside.LoopRuns.{StartsAt, enclosing_names, cells
 use Rattle.liquid_engine.specs.inside.LoopTurns.{AreRows, IsFor, IsRow, cells_asked, cells_of, items_asked, turn_items, loop_values}
 use Rattle.std.specs.Prelude.{IfOk, IfSome}
 use Rattle.liquid_meaning.specs.Loops.{cell_end}
-use Rattle.liquid_engine.proofs.Turns.{performs_from, may_not_begin}
+use Rattle.liquid_engine.proofs.Turns.{may_not_begin, may_not_meet, meets_from, no_nodes_met}
 use Rattle.liquid_engine.proofs.Turning.{TurnsLead, CellsLead, enclosing_after_advance, at_goes_on, at_kept, at_next, at_off, at_pushed, at_start, cell_fault, cell_faulted, cell_on, cell_ran, cell_unopened, cells_end, cells_start, for_within, from_enclosing, row_within, kept_cell, kept_from_enclosing, kept_turn, turn_break, turn_fault, turn_faulted, turn_on, turn_ran, turns_end, turns_start}
 use Rattle.liquid_engine.proofs.LoopMeanings.{for_none, for_refused, for_some, row_none, row_refused, row_some}
 use Rattle.liquid_engine.proofs.engine.+run.Goals as goal
 
-pub run_range-returns-in_err-turn-clause-performs : goal.run_range-returns-in_err-turn-clause-performs
-run_range-returns-in_err-turn-clause-performs g t c f stood =
-    let p = err_from_is_err_and c.from_residual.result c.from_residual.ensures.1 in
-    rw (p.1, p.2) (may_not_begin c.in_err-turn.field-0.0 (nodes_meant (setting_of g.H.NamedFilters.named c.args.context.now) c.args.context.now.depth (nodes_of f)) _ _ (environment_of c.args.state.now) (environment_of c.args.state.now) c.in_err-turn.ensures.refused)
+-- ---- a list without nodes
 
-pub run_range-returns-in_err-turn-clause-kept : goal.run_range-returns-in_err-turn-clause-kept
-run_range-returns-in_err-turn-clause-kept g t c f stood N names inside = kept_same N (layers_of c.args.state.now) (layers_of c.args.state.now) refl
+pub run_range-returns-then-from-to-clause-performs : goal.run_range-returns-then-from-to-clause-performs
+run_range-returns-then-from-to-clause-performs g t c f stood =
+    let place = configuration_of g.W.CountedWrite.contents g.W.CountedWrite.failure_count in
+    let none = nothing_left (flats c.args.nodes.now) c.args.from f c.args.to stood (omega (arith, c.if-from-to.true)) in
+    subst (λ x. Performs c.run_no_nodes.result (nodes_meant (setting_of g.H.NamedFilters.named c.args.context.now) c.args.context.now.depth (nodes_of x)) (place c.args.out.now c.args.state.now) (place c.run_no_nodes.new.out c.args.state.now)) (sym none)
+    (no_nodes_met (setting_of g.H.NamedFilters.named c.args.context.now) (deeper_meaning (setting_of g.H.NamedFilters.named c.args.context.now) c.args.context.now.depth) c.run_no_nodes.result _ _ (environment_of c.args.state.now) c.run_no_nodes.ensures.writes)
+
+pub run_range-returns-then-from-to-clause-kept : goal.run_range-returns-then-from-to-clause-kept
+run_range-returns-then-from-to-clause-kept g t c f stood N names inside = kept_same N (layers_of c.args.state.now) (layers_of c.args.state.now) refl
+
+pub run_range-returns-then-from-to-clause-silent : goal.run_range-returns-then-from-to-clause-silent
+run_range-returns-then-from-to-clause-silent g t c f stood are = c.run_no_nodes.ensures.stopped
 
 -- ---- a text of a range
 
 pub run_range-bounds-nodes-at : goal.run_range-bounds-nodes-at
 run_range-bounds-nodes-at g t c =
     let place = configuration_of g.W.CountedWrite.contents g.W.CountedWrite.failure_count in
-    let is_node = going_node (setting_of g.H.NamedFilters.named c.args.context.now) c.args.context.now.depth c.args.nodes.now c.args.from c.loop-at.at c.args.to (place c.turn.new.self c.args.state.now) (place c.loop-at.out c.loop-at.state) c.requires c.loop-at.invariant.going c.loop-at-test.true in
+    let is_node = going_node (setting_of g.H.NamedFilters.named c.args.context.now) c.args.context.now.depth c.args.nodes.now c.args.from c.loop-at.at c.args.to (place c.args.out.now c.args.state.now) (place c.loop-at.out c.loop-at.state) c.requires c.loop-at.invariant.going c.loop-at-test.true in
     node_within c.args.nodes.now c.loop-at.at c.args.to is_node
 
 pub run_range-offset_bounds-nodes-at : goal.run_range-offset_bounds-nodes-at
 run_range-offset_bounds-nodes-at g t c =
     let place = configuration_of g.W.CountedWrite.contents g.W.CountedWrite.failure_count in
-    let is_node = going_node (setting_of g.H.NamedFilters.named c.args.context.now) c.args.context.now.depth c.args.nodes.now c.args.from c.loop-at.at c.args.to (place c.turn.new.self c.args.state.now) (place c.loop-at.out c.loop-at.state) c.requires c.loop-at.invariant.going c.loop-at-test.true in
+    let is_node = going_node (setting_of g.H.NamedFilters.named c.args.context.now) c.args.context.now.depth c.args.nodes.now c.args.from c.loop-at.at c.args.to (place c.args.out.now c.args.state.now) (place c.loop-at.out c.loop-at.state) c.requires c.loop-at.invariant.going c.loop-at-test.true in
     let lt : c.loop-at.at < length c.args.nodes.now = node_within c.args.nodes.now c.loop-at.at c.args.to is_node in
     search rules
 
 pub run_range-returns-in_err-run_text-clause-performs : goal.run_range-returns-in_err-run_text-clause-performs
 run_range-returns-in_err-run_text-clause-performs g t c f stood =
     let place = configuration_of g.W.CountedWrite.contents g.W.CountedWrite.failure_count in
-    let is_node = going_node (setting_of g.H.NamedFilters.named c.args.context.now) c.args.context.now.depth c.args.nodes.now c.args.from c.loop-at.at c.args.to (place c.turn.new.self c.args.state.now) (place c.loop-at.out c.loop-at.state) c.requires c.loop-at.invariant.going c.loop-at-test.true in
-    let p = err_from_is_err_and c.from_residual-in_err-run_text.result c.from_residual-in_err-run_text.ensures.1 in
-    rw (p.1, p.2) (performs_from _ (nodes_meant (setting_of g.H.NamedFilters.named c.args.context.now) c.args.context.now.depth (nodes_of f)) _ _ (environment_of c.args.state.now) _ c.in_ok-turn.ensures.goes_on (going_fault (setting_of g.H.NamedFilters.named c.args.context.now) c.args.context.now.depth c.args.nodes.now c.args.from c.loop-at.at c.args.to c.in_err-run_text.field-0.0 (place c.turn.new.self c.args.state.now) (place c.loop-at.out c.loop-at.state) (place c.run_text.new.out c.run_text.new.state) c.loop-at.invariant.going c.loop-at-test.true
+    let is_node = going_node (setting_of g.H.NamedFilters.named c.args.context.now) c.args.context.now.depth c.args.nodes.now c.args.from c.loop-at.at c.args.to (place c.args.out.now c.args.state.now) (place c.loop-at.out c.loop-at.state) c.requires c.loop-at.invariant.going c.loop-at-test.true in
+    let p = err_from_is_err_and c.from_residual.result c.from_residual.ensures.1 in
+    rw (p.1, p.2) ((going_fault (setting_of g.H.NamedFilters.named c.args.context.now) c.args.context.now.depth c.args.nodes.now c.args.from c.loop-at.at c.args.to c.in_err-run_text.field-0.0 (place c.args.out.now c.args.state.now) (place c.loop-at.out c.loop-at.state) (place c.run_text.new.out c.run_text.new.state) c.loop-at.invariant.going c.loop-at-test.true
     (leaf_performs (setting_of g.H.NamedFilters.named c.args.context.now) c.args.context.now.depth c.args.nodes.now c.loop-at.at c.args.to c.index-nodes-at.result _ (tree.plain (string_bytes c.in-Text.text)) (Err c.in_err-run_text.field-0.0) (place c.loop-at.out c.loop-at.state) (place c.run_text.new.out c.run_text.new.state) is_node c.index-nodes-at.is c.in-Text.is refl
     (subst (λ x. Performs (Err c.in_err-run_text.field-0.0) (node_meant (setting_of g.H.NamedFilters.named c.args.context.now) c.args.context.now.depth (tree.plain x)) (place c.loop-at.out c.loop-at.state) (place c.run_text.new.out c.run_text.new.state)) c.as_str.ensures.value c.in_err-run_text.ensures.performs)) f stood))
 
 pub run_range-returns-in_err-run_text-clause-alone : goal.run_range-returns-in_err-run_text-clause-alone
 run_range-returns-in_err-run_text-clause-alone g t c f stood =
     let place = configuration_of g.W.CountedWrite.contents g.W.CountedWrite.failure_count in
-    let is_node = going_node (setting_of g.H.NamedFilters.named c.args.context.now) c.args.context.now.depth c.args.nodes.now c.args.from c.loop-at.at c.args.to (place c.turn.new.self c.args.state.now) (place c.loop-at.out c.loop-at.state) c.requires c.loop-at.invariant.going c.loop-at-test.true in
-    alone_step (setting_of g.H.NamedFilters.named c.args.context.now) c.args.context.now.depth c.args.nodes.now c.args.from c.loop-at.at c.args.to (place c.turn.new.self c.args.state.now) (place c.loop-at.out c.loop-at.state) c.args.state.now c.loop-at.state c.run_text.new.state f stood c.loop-at.invariant.going c.loop-at-test.true
+    let is_node = going_node (setting_of g.H.NamedFilters.named c.args.context.now) c.args.context.now.depth c.args.nodes.now c.args.from c.loop-at.at c.args.to (place c.args.out.now c.args.state.now) (place c.loop-at.out c.loop-at.state) c.requires c.loop-at.invariant.going c.loop-at-test.true in
+    alone_step (setting_of g.H.NamedFilters.named c.args.context.now) c.args.context.now.depth c.args.nodes.now c.args.from c.loop-at.at c.args.to (place c.args.out.now c.args.state.now) (place c.loop-at.out c.loop-at.state) c.args.state.now c.loop-at.state c.run_text.new.state f stood c.loop-at.invariant.going c.loop-at-test.true
     (leaf_other c.args.nodes.now c.loop-at.at c.args.to c.index-nodes-at.result _ (tree.plain (string_bytes c.in-Text.text)) c.loop-at.state c.run_text.new.state is_node c.index-nodes-at.is c.in-Text.is refl (λ no. absurd no)) (c.loop-at.invariant.alone f stood)
 
 pub run_range-returns-in_err-run_text-clause-kept : goal.run_range-returns-in_err-run_text-clause-kept
 run_range-returns-in_err-run_text-clause-kept g t c f stood =
     let place = configuration_of g.W.CountedWrite.contents g.W.CountedWrite.failure_count in
-    let is_node = going_node (setting_of g.H.NamedFilters.named c.args.context.now) c.args.context.now.depth c.args.nodes.now c.args.from c.loop-at.at c.args.to (place c.turn.new.self c.args.state.now) (place c.loop-at.out c.loop-at.state) c.requires c.loop-at.invariant.going c.loop-at-test.true in
-    kept_step (setting_of g.H.NamedFilters.named c.args.context.now) c.args.context.now.depth c.args.nodes.now c.args.from c.loop-at.at c.args.to (place c.turn.new.self c.args.state.now) (place c.loop-at.out c.loop-at.state) c.args.state.now c.loop-at.state c.run_text.new.state f stood c.loop-at.invariant.going c.loop-at-test.true
+    let is_node = going_node (setting_of g.H.NamedFilters.named c.args.context.now) c.args.context.now.depth c.args.nodes.now c.args.from c.loop-at.at c.args.to (place c.args.out.now c.args.state.now) (place c.loop-at.out c.loop-at.state) c.requires c.loop-at.invariant.going c.loop-at-test.true in
+    kept_step (setting_of g.H.NamedFilters.named c.args.context.now) c.args.context.now.depth c.args.nodes.now c.args.from c.loop-at.at c.args.to (place c.args.out.now c.args.state.now) (place c.loop-at.out c.loop-at.state) c.args.state.now c.loop-at.state c.run_text.new.state f stood c.loop-at.invariant.going c.loop-at-test.true
     (leaf_keeps (setting_of g.H.NamedFilters.named c.args.context.now) c.args.nodes.now c.loop-at.at c.args.to c.index-nodes-at.result _ (tree.plain (string_bytes c.in-Text.text)) c.loop-at.state c.run_text.new.state is_node c.index-nodes-at.is c.in-Text.is refl
     (subst (λ x. Keeps (node_names (tree.plain x)) (setting_of g.H.NamedFilters.named c.args.context.now) c.loop-at.state c.run_text.new.state) c.as_str.ensures.value c.run_text.ensures.kept)) (c.loop-at.invariant.kept f stood)
 
 pub run_range-returns-in_err-run_text-clause-silent : goal.run_range-returns-in_err-run_text-clause-silent
 run_range-returns-in_err-run_text-clause-silent g t c f stood are =
     let place = configuration_of g.W.CountedWrite.contents g.W.CountedWrite.failure_count in
-    let is_node = going_node (setting_of g.H.NamedFilters.named c.args.context.now) c.args.context.now.depth c.args.nodes.now c.args.from c.loop-at.at c.args.to (place c.turn.new.self c.args.state.now) (place c.loop-at.out c.loop-at.state) c.requires c.loop-at.invariant.going c.loop-at-test.true in
+    let is_node = going_node (setting_of g.H.NamedFilters.named c.args.context.now) c.args.context.now.depth c.args.nodes.now c.args.from c.loop-at.at c.args.to (place c.args.out.now c.args.state.now) (place c.loop-at.out c.loop-at.state) c.requires c.loop-at.invariant.going c.loop-at-test.true in
     absurd (false≢true (silent_done c.args.nodes.now c.args.from c.loop-at.at c.args.to (Err c.in_err-run_text.field-0.0) f stood are c.loop-at.invariant.silent c.loop-at-test.true
     (λ n next there silent. absurd (leaf_loud c.args.nodes.now c.loop-at.at c.args.to c.index-nodes-at.result _ (tree.plain (string_bytes c.in-Text.text)) is_node c.index-nodes-at.is c.in-Text.is refl (λ no. absurd no) n next there silent))))
 
 pub run_range-returns-then-is_some-clause-performs : goal.run_range-returns-then-is_some-clause-performs
 run_range-returns-then-is_some-clause-performs g t c f stood =
     let place = configuration_of g.W.CountedWrite.contents g.W.CountedWrite.failure_count in
-    let is_node = going_node (setting_of g.H.NamedFilters.named c.args.context.now) c.args.context.now.depth c.args.nodes.now c.args.from c.loop-at.at c.args.to (place c.turn.new.self c.args.state.now) (place c.loop-at.out c.loop-at.state) c.requires c.loop-at.invariant.going c.loop-at-test.true in
+    let is_node = going_node (setting_of g.H.NamedFilters.named c.args.context.now) c.args.context.now.depth c.args.nodes.now c.args.from c.loop-at.at c.args.to (place c.args.out.now c.args.state.now) (place c.loop-at.out c.loop-at.state) c.requires c.loop-at.invariant.going c.loop-at-test.true in
     let some = some_of c.run_text.new.state.interrupt (search rules) in
-    performs_from _ (nodes_meant (setting_of g.H.NamedFilters.named c.args.context.now) c.args.context.now.depth (nodes_of f)) _ _ (environment_of c.args.state.now) _ c.in_ok-turn.ensures.goes_on (going_halt (setting_of g.H.NamedFilters.named c.args.context.now) c.args.context.now.depth c.args.nodes.now c.args.from c.loop-at.at c.args.to _ _ some.0 (place c.turn.new.self c.args.state.now) (place c.loop-at.out c.loop-at.state) (place c.run_text.new.out c.run_text.new.state) c.loop-at.invariant.going c.loop-at-test.true
+    (going_halt (setting_of g.H.NamedFilters.named c.args.context.now) c.args.context.now.depth c.args.nodes.now c.args.from c.loop-at.at c.args.to _ _ some.0 (place c.args.out.now c.args.state.now) (place c.loop-at.out c.loop-at.state) (place c.run_text.new.out c.run_text.new.state) c.loop-at.invariant.going c.loop-at-test.true
     (leaf_performs (setting_of g.H.NamedFilters.named c.args.context.now) c.args.context.now.depth c.args.nodes.now c.loop-at.at c.args.to c.index-nodes-at.result _ (tree.plain (string_bytes c.in-Text.text)) (Ok c.in_ok-run_text.field-0) (place c.loop-at.out c.loop-at.state) (place c.run_text.new.out c.run_text.new.state) is_node c.index-nodes-at.is c.in-Text.is refl
     (subst (λ x. Performs (Ok c.in_ok-run_text.field-0) (node_meant (setting_of g.H.NamedFilters.named c.args.context.now) c.args.context.now.depth (tree.plain x)) (place c.loop-at.out c.loop-at.state) (place c.run_text.new.out c.run_text.new.state)) c.as_str.ensures.value c.in_ok-run_text.ensures.performs)) (interrupt_of c.run_text.new.state _ some.1) f stood)
 
 pub run_range-returns-then-is_some-clause-alone : goal.run_range-returns-then-is_some-clause-alone
 run_range-returns-then-is_some-clause-alone g t c f stood =
     let place = configuration_of g.W.CountedWrite.contents g.W.CountedWrite.failure_count in
-    let is_node = going_node (setting_of g.H.NamedFilters.named c.args.context.now) c.args.context.now.depth c.args.nodes.now c.args.from c.loop-at.at c.args.to (place c.turn.new.self c.args.state.now) (place c.loop-at.out c.loop-at.state) c.requires c.loop-at.invariant.going c.loop-at-test.true in
-    alone_step (setting_of g.H.NamedFilters.named c.args.context.now) c.args.context.now.depth c.args.nodes.now c.args.from c.loop-at.at c.args.to (place c.turn.new.self c.args.state.now) (place c.loop-at.out c.loop-at.state) c.args.state.now c.loop-at.state c.run_text.new.state f stood c.loop-at.invariant.going c.loop-at-test.true
+    let is_node = going_node (setting_of g.H.NamedFilters.named c.args.context.now) c.args.context.now.depth c.args.nodes.now c.args.from c.loop-at.at c.args.to (place c.args.out.now c.args.state.now) (place c.loop-at.out c.loop-at.state) c.requires c.loop-at.invariant.going c.loop-at-test.true in
+    alone_step (setting_of g.H.NamedFilters.named c.args.context.now) c.args.context.now.depth c.args.nodes.now c.args.from c.loop-at.at c.args.to (place c.args.out.now c.args.state.now) (place c.loop-at.out c.loop-at.state) c.args.state.now c.loop-at.state c.run_text.new.state f stood c.loop-at.invariant.going c.loop-at-test.true
     (leaf_other c.args.nodes.now c.loop-at.at c.args.to c.index-nodes-at.result _ (tree.plain (string_bytes c.in-Text.text)) c.loop-at.state c.run_text.new.state is_node c.index-nodes-at.is c.in-Text.is refl (λ no. absurd no)) (c.loop-at.invariant.alone f stood)
 
 pub run_range-returns-then-is_some-clause-kept : goal.run_range-returns-then-is_some-clause-kept
 run_range-returns-then-is_some-clause-kept g t c f stood =
     let place = configuration_of g.W.CountedWrite.contents g.W.CountedWrite.failure_count in
-    let is_node = going_node (setting_of g.H.NamedFilters.named c.args.context.now) c.args.context.now.depth c.args.nodes.now c.args.from c.loop-at.at c.args.to (place c.turn.new.self c.args.state.now) (place c.loop-at.out c.loop-at.state) c.requires c.loop-at.invariant.going c.loop-at-test.true in
-    kept_step (setting_of g.H.NamedFilters.named c.args.context.now) c.args.context.now.depth c.args.nodes.now c.args.from c.loop-at.at c.args.to (place c.turn.new.self c.args.state.now) (place c.loop-at.out c.loop-at.state) c.args.state.now c.loop-at.state c.run_text.new.state f stood c.loop-at.invariant.going c.loop-at-test.true
+    let is_node = going_node (setting_of g.H.NamedFilters.named c.args.context.now) c.args.context.now.depth c.args.nodes.now c.args.from c.loop-at.at c.args.to (place c.args.out.now c.args.state.now) (place c.loop-at.out c.loop-at.state) c.requires c.loop-at.invariant.going c.loop-at-test.true in
+    kept_step (setting_of g.H.NamedFilters.named c.args.context.now) c.args.context.now.depth c.args.nodes.now c.args.from c.loop-at.at c.args.to (place c.args.out.now c.args.state.now) (place c.loop-at.out c.loop-at.state) c.args.state.now c.loop-at.state c.run_text.new.state f stood c.loop-at.invariant.going c.loop-at-test.true
     (leaf_keeps (setting_of g.H.NamedFilters.named c.args.context.now) c.args.nodes.now c.loop-at.at c.args.to c.index-nodes-at.result _ (tree.plain (string_bytes c.in-Text.text)) c.loop-at.state c.run_text.new.state is_node c.index-nodes-at.is c.in-Text.is refl
     (subst (λ x. Keeps (node_names (tree.plain x)) (setting_of g.H.NamedFilters.named c.args.context.now) c.loop-at.state c.run_text.new.state) c.as_str.ensures.value c.run_text.ensures.kept)) (c.loop-at.invariant.kept f stood)
 
 pub run_range-loop-at-preserved-in-Text : goal.run_range-loop-at-preserved-in-Text
 run_range-loop-at-preserved-in-Text g t c =
     let place = configuration_of g.W.CountedWrite.contents g.W.CountedWrite.failure_count in
-    let is_node = going_node (setting_of g.H.NamedFilters.named c.args.context.now) c.args.context.now.depth c.args.nodes.now c.args.from c.loop-at.at c.args.to (place c.turn.new.self c.args.state.now) (place c.loop-at.out c.loop-at.state) c.requires c.loop-at.invariant.going c.loop-at-test.true in
+    let is_node = going_node (setting_of g.H.NamedFilters.named c.args.context.now) c.args.context.now.depth c.args.nodes.now c.args.from c.loop-at.at c.args.to (place c.args.out.now c.args.state.now) (place c.loop-at.out c.loop-at.state) c.requires c.loop-at.invariant.going c.loop-at-test.true in
     let ends = leaf_next c.args.nodes.now c.loop-at.at c.args.to c.index-nodes-at.result _ (tree.plain (string_bytes c.in-Text.text)) is_node c.index-nodes-at.is c.in-Text.is refl in
     let none = none_of c.run_text.new.state.interrupt (search rules) in
     record {
       ordered = omega (arith, c.loop-at.invariant.ordered);
-      going = going_on (setting_of g.H.NamedFilters.named c.args.context.now) c.args.context.now.depth c.args.nodes.now c.args.from c.loop-at.at c.args.to (c.loop-at.at + 1) _ (place c.turn.new.self c.args.state.now) (place c.loop-at.out c.loop-at.state) (place c.run_text.new.out c.run_text.new.state) c.loop-at.invariant.going c.loop-at-test.true
+      going = going_on (setting_of g.H.NamedFilters.named c.args.context.now) c.args.context.now.depth c.args.nodes.now c.args.from c.loop-at.at c.args.to (c.loop-at.at + 1) _ (place c.args.out.now c.args.state.now) (place c.loop-at.out c.loop-at.state) (place c.run_text.new.out c.run_text.new.state) c.loop-at.invariant.going c.loop-at-test.true
           (leaf_performs (setting_of g.H.NamedFilters.named c.args.context.now) c.args.context.now.depth c.args.nodes.now c.loop-at.at c.args.to c.index-nodes-at.result _ (tree.plain (string_bytes c.in-Text.text)) (Ok c.in_ok-run_text.field-0) (place c.loop-at.out c.loop-at.state) (place c.run_text.new.out c.run_text.new.state) is_node c.index-nodes-at.is c.in-Text.is refl
           (subst (λ x. Performs (Ok c.in_ok-run_text.field-0) (node_meant (setting_of g.H.NamedFilters.named c.args.context.now) c.args.context.now.depth (tree.plain x)) (place c.loop-at.out c.loop-at.state) (place c.run_text.new.out c.run_text.new.state)) c.as_str.ensures.value c.in_ok-run_text.ensures.performs)) (interrupt_of c.run_text.new.state _ none) ends;
-      kept = λ f stood. kept_step (setting_of g.H.NamedFilters.named c.args.context.now) c.args.context.now.depth c.args.nodes.now c.args.from c.loop-at.at c.args.to (place c.turn.new.self c.args.state.now) (place c.loop-at.out c.loop-at.state) c.args.state.now c.loop-at.state c.run_text.new.state f stood c.loop-at.invariant.going c.loop-at-test.true
+      kept = λ f stood. kept_step (setting_of g.H.NamedFilters.named c.args.context.now) c.args.context.now.depth c.args.nodes.now c.args.from c.loop-at.at c.args.to (place c.args.out.now c.args.state.now) (place c.loop-at.out c.loop-at.state) c.args.state.now c.loop-at.state c.run_text.new.state f stood c.loop-at.invariant.going c.loop-at-test.true
           (leaf_keeps (setting_of g.H.NamedFilters.named c.args.context.now) c.args.nodes.now c.loop-at.at c.args.to c.index-nodes-at.result _ (tree.plain (string_bytes c.in-Text.text)) c.loop-at.state c.run_text.new.state is_node c.index-nodes-at.is c.in-Text.is refl
           (subst (λ x. Keeps (node_names (tree.plain x)) (setting_of g.H.NamedFilters.named c.args.context.now) c.loop-at.state c.run_text.new.state) c.as_str.ensures.value c.run_text.ensures.kept)) (c.loop-at.invariant.kept f stood);
-      alone = λ f stood. alone_step (setting_of g.H.NamedFilters.named c.args.context.now) c.args.context.now.depth c.args.nodes.now c.args.from c.loop-at.at c.args.to (place c.turn.new.self c.args.state.now) (place c.loop-at.out c.loop-at.state) c.args.state.now c.loop-at.state c.run_text.new.state f stood c.loop-at.invariant.going c.loop-at-test.true
+      alone = λ f stood. alone_step (setting_of g.H.NamedFilters.named c.args.context.now) c.args.context.now.depth c.args.nodes.now c.args.from c.loop-at.at c.args.to (place c.args.out.now c.args.state.now) (place c.loop-at.out c.loop-at.state) c.args.state.now c.loop-at.state c.run_text.new.state f stood c.loop-at.invariant.going c.loop-at-test.true
           (leaf_other c.args.nodes.now c.loop-at.at c.args.to c.index-nodes-at.result _ (tree.plain (string_bytes c.in-Text.text)) c.loop-at.state c.run_text.new.state is_node c.index-nodes-at.is c.in-Text.is refl (λ no. absurd no)) (c.loop-at.invariant.alone f stood);
       silent = silent_next c.args.nodes.now c.args.from c.loop-at.at c.args.to (c.loop-at.at + 1) c.loop-at.invariant.silent c.loop-at-test.true ends;
+      quiet = node_unfailed (setting_of g.H.NamedFilters.named c.args.context.now) c.args.context.now.depth c.args.nodes.now c.loop-at.at c.args.to c.in_ok-run_text.field-0 (place c.loop-at.out c.loop-at.state) (place c.run_text.new.out c.run_text.new.state) is_node
+          (leaf_performs (setting_of g.H.NamedFilters.named c.args.context.now) c.args.context.now.depth c.args.nodes.now c.loop-at.at c.args.to c.index-nodes-at.result _ (tree.plain (string_bytes c.in-Text.text)) (Ok c.in_ok-run_text.field-0) (place c.loop-at.out c.loop-at.state) (place c.run_text.new.out c.run_text.new.state) is_node c.index-nodes-at.is c.in-Text.is refl
+          (subst (λ x. Performs (Ok c.in_ok-run_text.field-0) (node_meant (setting_of g.H.NamedFilters.named c.args.context.now) c.args.context.now.depth (tree.plain x)) (place c.loop-at.out c.loop-at.state) (place c.run_text.new.out c.run_text.new.state)) c.as_str.ensures.value c.in_ok-run_text.ensures.performs)) ∙ c.loop-at.invariant.quiet;
       loops = c.run_text.ensures.loops ∙ c.loop-at.invariant.loops;
       same_writer = c.run_text.ensures.same_writer ∙ c.loop-at.invariant.same_writer;
     }
+
+-- ---- the turns of another node
+
+pub run_range-turns_of_node-requires : goal.run_range-turns_of_node-requires
+run_range-turns_of_node-requires g t c =
+    let place = configuration_of g.W.CountedWrite.contents g.W.CountedWrite.failure_count in
+    going_node (setting_of g.H.NamedFilters.named c.args.context.now) c.args.context.now.depth c.args.nodes.now c.args.from c.loop-at.at c.args.to (place c.args.out.now c.args.state.now) (place c.loop-at.out c.loop-at.state) c.requires c.loop-at.invariant.going c.loop-at-test.true
+
+pub run_range-returns-in_err-turns-clause-performs : goal.run_range-returns-in_err-turns-clause-performs
+run_range-returns-in_err-turns-clause-performs g t c f stood =
+    let place = configuration_of g.W.CountedWrite.contents g.W.CountedWrite.failure_count in
+    let p = err_from_is_err_and c.from_residual-in_err-turns.result c.from_residual-in_err-turns.ensures.1 in
+    rw (p.1, p.2) (going_fault (setting_of g.H.NamedFilters.named c.args.context.now) c.args.context.now.depth c.args.nodes.now c.args.from c.loop-at.at c.args.to c.in_err-turns.field-0.0 (place c.args.out.now c.args.state.now) (place c.loop-at.out c.loop-at.state) (place c.turns_of_node.new.out c.loop-at.state) c.loop-at.invariant.going c.loop-at-test.true
+    (λ n next there. may_not_begin c.in_err-turns.field-0.0 (node_meant (setting_of g.H.NamedFilters.named c.args.context.now) c.args.context.now.depth n) _ _ _ _ c.in_err-turns.ensures.refused) f stood)
+
+pub run_range-returns-in_err-turns-clause-alone : goal.run_range-returns-in_err-turns-clause-alone
+run_range-returns-in_err-turns-clause-alone g t c f stood = c.loop-at.invariant.alone f stood
+
+pub run_range-returns-in_err-turns-clause-kept : goal.run_range-returns-in_err-turns-clause-kept
+run_range-returns-in_err-turns-clause-kept g t c f stood = c.loop-at.invariant.kept f stood
+
+pub run_range-returns-in_err-turns-clause-silent : goal.run_range-returns-in_err-turns-clause-silent
+run_range-returns-in_err-turns-clause-silent g t c f stood are = inr (c.in_err-turns.ensures.stopped ∙ ap raised c.loop-at.invariant.quiet)
 
 -- ---- another node of a range
 
 pub run_range-run_node-requires : goal.run_range-run_node-requires
 run_range-run_node-requires g t c κs within =
     let place = configuration_of g.W.CountedWrite.contents g.W.CountedWrite.failure_count in
-    (let lt : 4 * (c.args.to - c.loop-at.at) + reserve c.args.context.now.depth c.args.context.now.partials.now < t = omega arith in lt, (within.0, (within.1, going_node (setting_of g.H.NamedFilters.named c.args.context.now) c.args.context.now.depth c.args.nodes.now c.args.from c.loop-at.at c.args.to (place c.turn.new.self c.args.state.now) (place c.loop-at.out c.loop-at.state) c.requires c.loop-at.invariant.going c.loop-at-test.true)))
+    (let lt : 4 * (c.args.to - c.loop-at.at) + reserve c.args.context.now.depth c.args.context.now.partials.now < t = omega arith in lt, (within.0, (within.1, going_node (setting_of g.H.NamedFilters.named c.args.context.now) c.args.context.now.depth c.args.nodes.now c.args.from c.loop-at.at c.args.to (place c.args.out.now c.args.state.now) (place c.loop-at.out c.loop-at.state) c.requires c.loop-at.invariant.going c.loop-at-test.true)))
 
 pub run_range-returns-in-Err-clause-performs : goal.run_range-returns-in-Err-clause-performs
 run_range-returns-in-Err-clause-performs g t c f stood =
     let place = configuration_of g.W.CountedWrite.contents g.W.CountedWrite.failure_count in
-    performs_from _ (nodes_meant (setting_of g.H.NamedFilters.named c.args.context.now) c.args.context.now.depth (nodes_of f)) _ _ (environment_of c.args.state.now) _ c.in_ok-turn.ensures.goes_on ((going_fault (setting_of g.H.NamedFilters.named c.args.context.now) c.args.context.now.depth c.args.nodes.now c.args.from c.loop-at.at c.args.to _ (place c.turn.new.self c.args.state.now) (place c.loop-at.out c.loop-at.state) (place c.run_node.new.out c.run_node.new.state) c.loop-at.invariant.going c.loop-at-test.true (λ n next there. fault_again c.in-Err.fault c.located.result c.located.ensures (c.in-Err.ensures.performs n next there))) f stood)
+    ((going_fault (setting_of g.H.NamedFilters.named c.args.context.now) c.args.context.now.depth c.args.nodes.now c.args.from c.loop-at.at c.args.to _ (place c.args.out.now c.args.state.now) (place c.loop-at.out c.loop-at.state) (place c.run_node.new.out c.run_node.new.state) c.loop-at.invariant.going c.loop-at-test.true (node_from (setting_of g.H.NamedFilters.named c.args.context.now) c.args.context.now.depth c.args.nodes.now c.loop-at.at _ _ _ (environment_of c.loop-at.state) _ c.in_ok-turns.ensures.goes_on (λ n next there. fault_again c.in-Err.fault c.located.result c.located.ensures (c.in-Err.ensures.performs n next there)))) f stood)
 
 pub run_range-returns-in-Err-clause-alone : goal.run_range-returns-in-Err-clause-alone
 run_range-returns-in-Err-clause-alone g t c f stood =
     let place = configuration_of g.W.CountedWrite.contents g.W.CountedWrite.failure_count in
-    alone_step (setting_of g.H.NamedFilters.named c.args.context.now) c.args.context.now.depth c.args.nodes.now c.args.from c.loop-at.at c.args.to (place c.turn.new.self c.args.state.now) (place c.loop-at.out c.loop-at.state) c.args.state.now c.loop-at.state c.run_node.new.state f stood c.loop-at.invariant.going c.loop-at-test.true c.run_node.ensures.alone (c.loop-at.invariant.alone f stood)
+    alone_step (setting_of g.H.NamedFilters.named c.args.context.now) c.args.context.now.depth c.args.nodes.now c.args.from c.loop-at.at c.args.to (place c.args.out.now c.args.state.now) (place c.loop-at.out c.loop-at.state) c.args.state.now c.loop-at.state c.run_node.new.state f stood c.loop-at.invariant.going c.loop-at-test.true c.run_node.ensures.alone (c.loop-at.invariant.alone f stood)
 
 pub run_range-returns-in-Err-clause-kept : goal.run_range-returns-in-Err-clause-kept
 run_range-returns-in-Err-clause-kept g t c f stood =
     let place = configuration_of g.W.CountedWrite.contents g.W.CountedWrite.failure_count in
-    kept_step (setting_of g.H.NamedFilters.named c.args.context.now) c.args.context.now.depth c.args.nodes.now c.args.from c.loop-at.at c.args.to (place c.turn.new.self c.args.state.now) (place c.loop-at.out c.loop-at.state) c.args.state.now c.loop-at.state c.run_node.new.state f stood c.loop-at.invariant.going c.loop-at-test.true c.run_node.ensures.kept (c.loop-at.invariant.kept f stood)
+    kept_step (setting_of g.H.NamedFilters.named c.args.context.now) c.args.context.now.depth c.args.nodes.now c.args.from c.loop-at.at c.args.to (place c.args.out.now c.args.state.now) (place c.loop-at.out c.loop-at.state) c.args.state.now c.loop-at.state c.run_node.new.state f stood c.loop-at.invariant.going c.loop-at-test.true c.run_node.ensures.kept (c.loop-at.invariant.kept f stood)
 
 pub run_range-returns-then-is_some-2-clause-performs : goal.run_range-returns-then-is_some-2-clause-performs
 run_range-returns-then-is_some-2-clause-performs g t c f stood =
     let place = configuration_of g.W.CountedWrite.contents g.W.CountedWrite.failure_count in
     let some = some_of c.run_node.new.state.interrupt (search rules) in
-    performs_from _ (nodes_meant (setting_of g.H.NamedFilters.named c.args.context.now) c.args.context.now.depth (nodes_of f)) _ _ (environment_of c.args.state.now) _ c.in_ok-turn.ensures.goes_on ((going_halt (setting_of g.H.NamedFilters.named c.args.context.now) c.args.context.now.depth c.args.nodes.now c.args.from c.loop-at.at c.args.to _ _ some.0 (place c.turn.new.self c.args.state.now) (place c.loop-at.out c.loop-at.state) (place c.run_node.new.out c.run_node.new.state) c.loop-at.invariant.going c.loop-at-test.true c.in_default-run_node.ensures.performs (interrupt_of c.run_node.new.state _ some.1)) f stood)
+    ((going_halt (setting_of g.H.NamedFilters.named c.args.context.now) c.args.context.now.depth c.args.nodes.now c.args.from c.loop-at.at c.args.to _ _ some.0 (place c.args.out.now c.args.state.now) (place c.loop-at.out c.loop-at.state) (place c.run_node.new.out c.run_node.new.state) c.loop-at.invariant.going c.loop-at-test.true (node_from (setting_of g.H.NamedFilters.named c.args.context.now) c.args.context.now.depth c.args.nodes.now c.loop-at.at _ _ _ (environment_of c.loop-at.state) _ c.in_ok-turns.ensures.goes_on c.in_default-run_node.ensures.performs) (interrupt_of c.run_node.new.state _ some.1)) f stood)
 
 pub run_range-returns-then-is_some-2-clause-alone : goal.run_range-returns-then-is_some-2-clause-alone
 run_range-returns-then-is_some-2-clause-alone g t c f stood =
     let place = configuration_of g.W.CountedWrite.contents g.W.CountedWrite.failure_count in
-    alone_step (setting_of g.H.NamedFilters.named c.args.context.now) c.args.context.now.depth c.args.nodes.now c.args.from c.loop-at.at c.args.to (place c.turn.new.self c.args.state.now) (place c.loop-at.out c.loop-at.state) c.args.state.now c.loop-at.state c.run_node.new.state f stood c.loop-at.invariant.going c.loop-at-test.true c.run_node.ensures.alone (c.loop-at.invariant.alone f stood)
+    alone_step (setting_of g.H.NamedFilters.named c.args.context.now) c.args.context.now.depth c.args.nodes.now c.args.from c.loop-at.at c.args.to (place c.args.out.now c.args.state.now) (place c.loop-at.out c.loop-at.state) c.args.state.now c.loop-at.state c.run_node.new.state f stood c.loop-at.invariant.going c.loop-at-test.true c.run_node.ensures.alone (c.loop-at.invariant.alone f stood)
 
 pub run_range-returns-then-is_some-2-clause-kept : goal.run_range-returns-then-is_some-2-clause-kept
 run_range-returns-then-is_some-2-clause-kept g t c f stood =
     let place = configuration_of g.W.CountedWrite.contents g.W.CountedWrite.failure_count in
-    kept_step (setting_of g.H.NamedFilters.named c.args.context.now) c.args.context.now.depth c.args.nodes.now c.args.from c.loop-at.at c.args.to (place c.turn.new.self c.args.state.now) (place c.loop-at.out c.loop-at.state) c.args.state.now c.loop-at.state c.run_node.new.state f stood c.loop-at.invariant.going c.loop-at-test.true c.run_node.ensures.kept (c.loop-at.invariant.kept f stood)
+    kept_step (setting_of g.H.NamedFilters.named c.args.context.now) c.args.context.now.depth c.args.nodes.now c.args.from c.loop-at.at c.args.to (place c.args.out.now c.args.state.now) (place c.loop-at.out c.loop-at.state) c.args.state.now c.loop-at.state c.run_node.new.state f stood c.loop-at.invariant.going c.loop-at-test.true c.run_node.ensures.kept (c.loop-at.invariant.kept f stood)
 
 pub run_range-next_after-at-requires : goal.run_range-next_after-at-requires
 run_range-next_after-at-requires g t c =
     let place = configuration_of g.W.CountedWrite.contents g.W.CountedWrite.failure_count in
-    going_node (setting_of g.H.NamedFilters.named c.args.context.now) c.args.context.now.depth c.args.nodes.now c.args.from c.loop-at.at c.args.to (place c.turn.new.self c.args.state.now) (place c.loop-at.out c.loop-at.state) c.requires c.loop-at.invariant.going c.loop-at-test.true
+    going_node (setting_of g.H.NamedFilters.named c.args.context.now) c.args.context.now.depth c.args.nodes.now c.args.from c.loop-at.at c.args.to (place c.args.out.now c.args.state.now) (place c.loop-at.out c.loop-at.state) c.requires c.loop-at.invariant.going c.loop-at-test.true
 
 pub run_range-loop-at-smaller : goal.run_range-loop-at-smaller
 run_range-loop-at-smaller g t c =
     let place = configuration_of g.W.CountedWrite.contents g.W.CountedWrite.failure_count in
-    let past = going_past (setting_of g.H.NamedFilters.named c.args.context.now) c.args.context.now.depth c.args.nodes.now c.args.from c.loop-at.at c.args.to c.next_after-at.result (place c.turn.new.self c.args.state.now) (place c.loop-at.out c.loop-at.state) c.requires c.loop-at.invariant.going c.loop-at-test.true c.next_after-at.ensures in
+    let past = going_past (setting_of g.H.NamedFilters.named c.args.context.now) c.args.context.now.depth c.args.nodes.now c.args.from c.loop-at.at c.args.to c.next_after-at.result (place c.args.out.now c.args.state.now) (place c.loop-at.out c.loop-at.state) c.requires c.loop-at.invariant.going c.loop-at-test.true c.next_after-at.ensures in
     let lt : c.args.to - c.next_after-at.result < c.args.to - c.loop-at.at = omega arith in
     lt
 
 pub run_range-loop-at-preserved : goal.run_range-loop-at-preserved
 run_range-loop-at-preserved g t c =
     let place = configuration_of g.W.CountedWrite.contents g.W.CountedWrite.failure_count in
-    let past = going_past (setting_of g.H.NamedFilters.named c.args.context.now) c.args.context.now.depth c.args.nodes.now c.args.from c.loop-at.at c.args.to c.next_after-at.result (place c.turn.new.self c.args.state.now) (place c.loop-at.out c.loop-at.state) c.requires c.loop-at.invariant.going c.loop-at-test.true c.next_after-at.ensures in
+    let past = going_past (setting_of g.H.NamedFilters.named c.args.context.now) c.args.context.now.depth c.args.nodes.now c.args.from c.loop-at.at c.args.to c.next_after-at.result (place c.args.out.now c.args.state.now) (place c.loop-at.out c.loop-at.state) c.requires c.loop-at.invariant.going c.loop-at-test.true c.next_after-at.ensures in
     let none = none_of c.run_node.new.state.interrupt (search rules) in
     record {
       ordered = omega arith;
-      going = going_on (setting_of g.H.NamedFilters.named c.args.context.now) c.args.context.now.depth c.args.nodes.now c.args.from c.loop-at.at c.args.to c.next_after-at.result _ (place c.turn.new.self c.args.state.now) (place c.loop-at.out c.loop-at.state) (place c.run_node.new.out c.run_node.new.state) c.loop-at.invariant.going c.loop-at-test.true c.in_default-run_node.ensures.performs (interrupt_of c.run_node.new.state _ none) c.next_after-at.ensures;
-      kept = λ f stood. kept_step (setting_of g.H.NamedFilters.named c.args.context.now) c.args.context.now.depth c.args.nodes.now c.args.from c.loop-at.at c.args.to (place c.turn.new.self c.args.state.now) (place c.loop-at.out c.loop-at.state) c.args.state.now c.loop-at.state c.run_node.new.state f stood c.loop-at.invariant.going c.loop-at-test.true c.run_node.ensures.kept (c.loop-at.invariant.kept f stood);
-      alone = λ f stood. alone_step (setting_of g.H.NamedFilters.named c.args.context.now) c.args.context.now.depth c.args.nodes.now c.args.from c.loop-at.at c.args.to (place c.turn.new.self c.args.state.now) (place c.loop-at.out c.loop-at.state) c.args.state.now c.loop-at.state c.run_node.new.state f stood c.loop-at.invariant.going c.loop-at-test.true c.run_node.ensures.alone (c.loop-at.invariant.alone f stood);
+      going = going_on (setting_of g.H.NamedFilters.named c.args.context.now) c.args.context.now.depth c.args.nodes.now c.args.from c.loop-at.at c.args.to c.next_after-at.result _ (place c.args.out.now c.args.state.now) (place c.loop-at.out c.loop-at.state) (place c.run_node.new.out c.run_node.new.state) c.loop-at.invariant.going c.loop-at-test.true (node_from (setting_of g.H.NamedFilters.named c.args.context.now) c.args.context.now.depth c.args.nodes.now c.loop-at.at _ _ _ (environment_of c.loop-at.state) _ c.in_ok-turns.ensures.goes_on c.in_default-run_node.ensures.performs) (interrupt_of c.run_node.new.state _ none) c.next_after-at.ensures;
+      kept = λ f stood. kept_step (setting_of g.H.NamedFilters.named c.args.context.now) c.args.context.now.depth c.args.nodes.now c.args.from c.loop-at.at c.args.to (place c.args.out.now c.args.state.now) (place c.loop-at.out c.loop-at.state) c.args.state.now c.loop-at.state c.run_node.new.state f stood c.loop-at.invariant.going c.loop-at-test.true c.run_node.ensures.kept (c.loop-at.invariant.kept f stood);
+      alone = λ f stood. alone_step (setting_of g.H.NamedFilters.named c.args.context.now) c.args.context.now.depth c.args.nodes.now c.args.from c.loop-at.at c.args.to (place c.args.out.now c.args.state.now) (place c.loop-at.out c.loop-at.state) c.args.state.now c.loop-at.state c.run_node.new.state f stood c.loop-at.invariant.going c.loop-at-test.true c.run_node.ensures.alone (c.loop-at.invariant.alone f stood);
       silent = silent_next c.args.nodes.now c.args.from c.loop-at.at c.args.to c.next_after-at.result c.loop-at.invariant.silent c.loop-at-test.true c.next_after-at.ensures;
+      quiet = node_unfailed (setting_of g.H.NamedFilters.named c.args.context.now) c.args.context.now.depth c.args.nodes.now c.loop-at.at c.args.to _ (place c.loop-at.out c.loop-at.state) (place c.run_node.new.out c.run_node.new.state) (going_node (setting_of g.H.NamedFilters.named c.args.context.now) c.args.context.now.depth c.args.nodes.now c.args.from c.loop-at.at c.args.to (place c.args.out.now c.args.state.now) (place c.loop-at.out c.loop-at.state) c.requires c.loop-at.invariant.going c.loop-at-test.true)
+          (node_from (setting_of g.H.NamedFilters.named c.args.context.now) c.args.context.now.depth c.args.nodes.now c.loop-at.at _ _ _ (environment_of c.loop-at.state) _ c.in_ok-turns.ensures.goes_on c.in_default-run_node.ensures.performs) ∙ c.loop-at.invariant.quiet;
       loops = c.run_node.ensures.loops ∙ c.loop-at.invariant.loops;
-      same_writer = c.run_node.ensures.same_writer ∙ c.loop-at.invariant.same_writer;
+      same_writer = c.run_node.ensures.same_writer ∙ c.turns_of_node.ensures.same_writer ∙ c.loop-at.invariant.same_writer;
     }
 
 pub run_range-returns-clause-performs : goal.run_range-returns-clause-performs
 run_range-returns-clause-performs g t c f stood =
     let place = configuration_of g.W.CountedWrite.contents g.W.CountedWrite.failure_count in
-    performs_from _ (nodes_meant (setting_of g.H.NamedFilters.named c.args.context.now) c.args.context.now.depth (nodes_of f)) _ _ (environment_of c.args.state.now) _ c.in_ok-turn.ensures.goes_on ((going_end (setting_of g.H.NamedFilters.named c.args.context.now) c.args.context.now.depth c.args.nodes.now c.args.from c.loop-at.at c.args.to _ (place c.turn.new.self c.args.state.now) (place c.loop-at.out c.loop-at.state) c.loop-at.invariant.going c.loop-at-test.false) f stood)
+    ((going_end (setting_of g.H.NamedFilters.named c.args.context.now) c.args.context.now.depth c.args.nodes.now c.args.from c.loop-at.at c.args.to _ (place c.args.out.now c.args.state.now) (place c.loop-at.out c.loop-at.state) c.loop-at.invariant.going c.loop-at-test.false) f stood)
 
 pub run_node-returns-in-Text-clause-performs : goal.run_node-returns-in-Text-clause-performs
 run_node-returns-in-Text-clause-performs g t c =
@@ -640,6 +676,13 @@ renders::run_render-returns-clause-performs g t c =
     render_runs setting depth (expression_view c.args.name.now) bs (setting_of g.H.NamedFilters.named c.in_ok-called.apart.inner.context) c.in_partial.result (environment_of c.in_ok-called.apart.own) (string_bytes c.in_ok-called.called) (tree_of c.in_ok-called.apart.inner.partial.now) c.in_ok-called.apart.inner.context.depth
     (sink c.args.out.now) (sink c.run_range-answer.new.out) (environment_of c.args.state.now) (environment_of c.run_range-answer.new.state) same c.in_ok-called.ensures.apart (met_again c.run_range-answer.result c.in_partial.result c.in_partial.ensures ran)
 
+pub renders::run_item-returns-in_err-turns-clause-performs : goal.renders::run_item-returns-in_err-turns-clause-performs
+renders::run_item-returns-in_err-turns-clause-performs g t c =
+    let place = configuration_of g.W.CountedWrite.contents g.W.CountedWrite.failure_count in
+    let setting = setting_of g.H.NamedFilters.named c.args.context.now in
+    let p = err_from_is_err_and c.from_residual.result c.from_residual.ensures.1 in
+    rw (p.1, p.2) (may_not_meet (λ (i : Option Interrupt). i) c.in_err-turns.field-0.0 (render_apart setting (deeper_meaning setting c.args.context.now.depth) c.args.name.now (bindings_view c.args.bindings.now) (item_scope c.args.item.now)) (place c.args.out.now c.args.state.now) (place c.turns.new.self c.args.state.now) c.in_err-turns.ensures.refused)
+
 pub renders::run_item-returns-in_err-apart-clause-performs : goal.renders::run_item-returns-in_err-apart-clause-performs
 renders::run_item-returns-in_err-apart-clause-performs g t c =
     let sink = sink_of g.W.CountedWrite.contents g.W.CountedWrite.failure_count in
@@ -647,8 +690,8 @@ renders::run_item-returns-in_err-apart-clause-performs g t c =
     let setting = setting_of g.H.NamedFilters.named c.args.context.now in
     let depth = c.args.context.now.depth in
     let bs = bindings_view c.args.bindings.now in
-    let p = err_from_is_err_and c.from_residual.result c.from_residual.ensures.1 in
-    rw (p.1, p.2) (item_refused setting depth c.args.name.now bs (item_scope c.args.item.now) c.in_err-apart.field-0.0 (place c.args.out.now c.args.state.now) c.in_err-apart.ensures.apart)
+    let p = err_from_is_err_and c.from_residual-in_err-apart.result c.from_residual-in_err-apart.ensures.1 in
+    rw (p.1, p.2) (meets_from (λ (i : Option Interrupt). i) (Err c.in_err-apart.field-0.0) (render_apart setting (deeper_meaning setting depth) c.args.name.now bs (item_scope c.args.item.now)) _ _ (environment_of c.args.state.now) (place c.turns.new.self c.args.state.now) c.in_ok-turns.ensures.goes_on (item_refused setting depth c.args.name.now bs (item_scope c.args.item.now) c.in_err-apart.field-0.0 (place c.turns.new.self c.args.state.now) c.in_err-apart.ensures.apart))
 
 pub renders::run_item-run_range-answer-requires : goal.renders::run_item-run_range-answer-requires
 renders::run_item-run_range-answer-requires g t c κs within =
@@ -669,8 +712,9 @@ renders::run_item-returns-clause-performs g t c =
     let same = same_setting g.H.NamedFilters.named c.args.context.now c.in_ok-apart.apart.inner.context ps hs in
     let ran = c.run_range-answer.ensures.performs (forest_of c.in_ok-apart.apart.inner.partial.now) (stood_in c.in_ok-apart.apart.inner.partial.now c.nodes-nodes.result.now c.nodes-nodes.ensures) in
     subst (λ (r : Result (Option Interrupt) Error). Meets (λ (i : Option Interrupt). i) r (render_apart setting (deeper_meaning setting depth) c.args.name.now bs (item_scope c.args.item.now)) (place c.args.out.now c.args.state.now) (place c.run_range-answer.new.out c.args.state.now)) (sym c.left_by-left.ensures)
+    (meets_from (λ (i : Option Interrupt). i) _ (render_apart setting (deeper_meaning setting depth) c.args.name.now bs (item_scope c.args.item.now)) _ _ (environment_of c.args.state.now) (place c.run_range-answer.new.out c.args.state.now) c.in_ok-turns.ensures.goes_on
     (item_runs setting depth c.args.name.now bs (item_scope c.args.item.now) (setting_of g.H.NamedFilters.named c.in_ok-apart.apart.inner.context) c.in_partial.result (environment_of c.in_ok-apart.apart.own) (tree_of c.in_ok-apart.apart.inner.partial.now) c.in_ok-apart.apart.inner.context.depth
-    (sink c.args.out.now) (sink c.run_range-answer.new.out) (environment_of c.args.state.now) (environment_of c.run_range-answer.new.state) same c.in_ok-apart.ensures.apart (met_again c.run_range-answer.result c.in_partial.result c.in_partial.ensures ran))
+    (sink c.turns.new.self) (sink c.run_range-answer.new.out) (environment_of c.args.state.now) (environment_of c.run_range-answer.new.state) same c.in_ok-apart.ensures.apart (met_again c.run_range-answer.result c.in_partial.result c.in_partial.ensures ran)))
 
 pub renders::run_render_each-returns-in_err-called-clause-performs : goal.renders::run_render_each-returns-in_err-called-clause-performs
 renders::run_render_each-returns-in_err-called-clause-performs g t c =
@@ -1479,9 +1523,6 @@ run_node-returns-in-Break-clause-silent g t c n next there silent = refl
 
 pub run_node-returns-in-Continue-clause-silent : goal.run_node-returns-in-Continue-clause-silent
 run_node-returns-in-Continue-clause-silent g t c n next there silent = refl
-
-pub run_range-returns-in_err-turn-clause-silent : goal.run_range-returns-in_err-turn-clause-silent
-run_range-returns-in_err-turn-clause-silent g t c f stood are = inr c.in_err-turn.ensures.stopped
 
 pub run_range-returns-in-Err-clause-silent : goal.run_range-returns-in-Err-clause-silent
 run_range-returns-in-Err-clause-silent g t c f stood are =

@@ -61,6 +61,7 @@ invariant-run_range-loop-at g l =
       kept : (f : Forest Maker) → IsForestAt l.nodes l.from f l.to → Keeps (nodes_names (nodes_of f)) (setting_of g.H.NamedFilters.named l.context) l.initial.state l.state;
       alone : (f : Forest Maker) → IsForestAt l.nodes l.from f l.to → AreRenderNodes (nodes_of f) → layers_of l.state ≡ layers_of l.initial.state;
       silent : SilentOn l.nodes l.from l.at l.to;
+      quiet : (place l.out l.state).sink.failures ≡ (place l.initial.out l.initial.state).sink.failures;
       loops : loops_of l.state ≡ loops_of l.initial.state;
       same_writer : l.out.writer.ghost_name ≡ l.initial.out.writer.ghost_name;
     }

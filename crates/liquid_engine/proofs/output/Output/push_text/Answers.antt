@@ -1,5 +1,8 @@
-use Rattle.std.proofs.Common.{rules}
+use Rattle.std.proofs.Common.{rules, refl}
 use Rattle.liquid_engine.proofs.output.Output.push_text.Goals as goal
+
+pub returns-in-All-clause-takes : goal.returns-in-All-clause-takes
+returns-in-All-clause-takes g c = c.in-All.ensures.takes refl
 
 pub returns-in-NoMemory-clause-writes : goal.returns-in-NoMemory-clause-writes
 returns-in-NoMemory-clause-writes g c = c.in-NoMemory.ensures.puts c.from.result (search rules)
