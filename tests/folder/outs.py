@@ -54,7 +54,7 @@ def outs():
         Out("pages over others, and beside other files", {"out/a": "old", "out/b": Of(0o600, "old"), "out/x": "x"}, {**WRITTEN, "out/b": Of(0o600, "2!")}),
         Out("new pages have the mode of new files", {}, {path: Of(0o644, text) for path, text in WRITTEN.items()}),
         Out("one more name of a page's file keeps its text", {"out/a": "old", "mine": Hard("out/a")}),
-        refused("a page whose name ends as a part's does", {"site/pages/a.bikleinu-part": "4"}, "out/a.bikleinu-part"),
+        refused("a page whose name ends as a part's does", {"site/pages/a.bikleinu-part": "4"}, "site/pages/a.bikleinu-part"),
         Out("a file and links of such names", {"out/a.bikleinu-part": "mine", "out/b.bikleinu-part": Link("../site/data"), "out/c.bikleinu-part": PIPE}),
         Out("a part of a run that was killed", {f"out/{DEAD}": "1", f"site/pages/{DEAD}": "1"}, gone=(f"out/{DEAD}",)),
         Out("a page of the longest name", {f"site/pages/{LONGEST}": "4"}, {**WRITTEN, f"out/{LONGEST}": "4"}),
