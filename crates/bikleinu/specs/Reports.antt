@@ -7,17 +7,26 @@
 use Rattle.std.specs.Prelude.{ℕ, ◌+◌, Bool, true, false, min, nat_le}
 use Rattle.std.specs.declared.io.ErrorKind.TheVariants.{PermissionDenied}
 use Rattle.liquid_disk.specs.Full.{refuses_every_file}
+use Rattle.liquid_disk.specs.declared.disk.DiskFault.{DiskFault}
 use Rattle.liquid_disk.specs.declared.disk.DiskFault.TheVariants.{Refused}
 use Rattle.liquid_records.specs.declared.merge.Failure.TheVariants.{Unwritten}
 use Rattle.bikleinu.specs.declared.report.Report.{Report}
 use Rattle.bikleinu.specs.declared.report.Report.TheVariants.{NoFile}
 
+abbrev pub takes_no_file : DiskFault → Bool
+takes_no_file (Refused kind) = refuses_every_file kind
+takes_no_file _ = false
+
 abbrev pub ends_merge : Report → Bool
-ends_merge (NoFile (Unwritten name (Refused kind))) = refuses_every_file kind
+ends_merge (NoFile (Unwritten name fault)) = takes_no_file fault
 ends_merge _ = false
 
+abbrev pub lacks_permission : DiskFault → Bool
+lacks_permission (Refused PermissionDenied) = true
+lacks_permission _ = false
+
 abbrev pub is_forbidden : Report → Bool
-is_forbidden (NoFile (Unwritten name (Refused PermissionDenied))) = true
+is_forbidden (NoFile (Unwritten name fault)) = lacks_permission fault
 is_forbidden _ = false
 
 abbrev pub in_a_row : ℕ → Bool → ℕ

@@ -33,13 +33,11 @@ fn target_of<'r>(
     let Some(out) = call.out else {
         return Ok(Target::Output(job));
     };
-    let pattern = read_pattern(rt, out)?;
-    let files = if call.dry_run {
-        None
-    } else {
-        Some(record_files(rt, call, out, sources)?)
-    };
-    Ok(Target::files(Merge::new(rt.alloc(), job, pattern), files))
+    let merge = Merge::new(rt.alloc(), job, read_pattern(rt, out)?);
+    if call.dry_run {
+        return Ok(Target::names(merge));
+    }
+    Ok(Target::files(merge, record_files(rt, call, out, sources)?))
 }
 
 /// A merge of the program: what it is asked for, and the texts that faults are shown in.

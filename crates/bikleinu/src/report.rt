@@ -1,6 +1,7 @@
 //! What is printed of a record that has no page.
 ghost use Rattle.std.specs.Prelude.{◌≡◌};
-ghost use Rattle.bikleinu.specs.Reports.{ends_merge, is_forbidden};
+ghost use Rattle.bikleinu.specs.Reports.{ends_merge, is_forbidden, lacks_permission};
+ghost use Rattle.bikleinu.specs.Reports.{takes_no_file};
 
 use liquid_command_files::{Sources, print_excerpt};
 use liquid_core::Error;
@@ -51,9 +52,7 @@ impl Report {
         ensures { result ≡ ends_merge self.now }
     {
         match self {
-            Report::NoFile(Failure::Unwritten(_, DiskFault::Refused(kind))) => {
-                refuses_every_file(*kind)
-            }
+            Report::NoFile(Failure::Unwritten(_, fault)) => takes_no_file(fault),
             _ => false,
         }
     }
@@ -62,13 +61,10 @@ impl Report {
     pub fn is_forbidden(&self) -> bool
         ensures { result ≡ is_forbidden self.now }
     {
-        matches!(
-            self,
-            Report::NoFile(Failure::Unwritten(
-                _,
-                DiskFault::Refused(io::ErrorKind::PermissionDenied)
-            ))
-        )
+        match self {
+            Report::NoFile(Failure::Unwritten(_, fault)) => lacks_permission(fault),
+            _ => false,
+        }
     }
 
     /// Prints it in one line on standard error, and the line of the text that a fault is in. What
@@ -85,6 +81,26 @@ impl Report {
     }
 }
 
+/// Whether the disk takes no file at all.
+fn takes_no_file(fault: &DiskFault) -> bool
+    ensures { result ≡ takes_no_file fault.now }
+{
+    match fault {
+        DiskFault::Refused(kind) => refuses_every_file(*kind),
+        _ => false,
+    }
+}
+
+/// Whether the user may not write the file.
+fn lacks_permission(fault: &DiskFault) -> bool
+    ensures { result ≡ lacks_permission fault.now }
+{
+    match fault {
+        DiskFault::Refused(kind) => matches!(kind, io::ErrorKind::PermissionDenied),
+        _ => false,
+    }
+}
+
 /// What follows the number of the record.
 impl fmt::Display for Report {
     fn fmt<W: fmt::Write>(&self, f: &mut fmt::Formatter<W>) -> fmt::Result {
@@ -97,16 +113,23 @@ impl fmt::Display for Report {
                 write!(f, "{fault}")
             }
             Report::NoFile(failure) => match failure {
-                Failure::Unwritten(_, DiskFault::Refused(kind)) => {
-                    let words = unwritten_words(*kind);
-                    write!(f, "{failure}: {words}")
-                }
-                Failure::Unwritten(_, DiskFault::Memory) => {
-                    let words = system_words(io::ErrorKind::OutOfMemory);
-                    write!(f, "{failure}: {words}")
-                }
+                Failure::Unwritten(_, fault) => write_unwritten(f, failure, fault),
                 _ => write!(f, "{failure}"),
             },
         }
     }
+}
+
+/// A page whose file isn't written: why the system refuses it, unless the failure says why.
+fn write_unwritten<W: fmt::Write>(
+    f: &mut fmt::Formatter<W>,
+    failure: &Failure,
+    fault: &DiskFault,
+) -> fmt::Result {
+    let words = match fault {
+        DiskFault::Refused(kind) => unwritten_words(*kind),
+        DiskFault::Memory => system_words(io::ErrorKind::OutOfMemory),
+        DiskFault::Protected(_) => return write!(f, "{failure}"),
+    };
+    write!(f, "{failure}: {words}")
 }

@@ -1,5 +1,5 @@
 //! Where the pages of a merge go.
-ghost use Rattle.std.specs.Prelude.{◌≡◌, IfSome, None};
+ghost use Rattle.std.specs.Prelude.{◌≡◌};
 
 use crate::files::{Nowhere, SystemPages};
 use crate::report::Report;
@@ -56,16 +56,16 @@ impl FileMerge<'_> {
 }
 
 impl<'r> Target<'r> {
-    /// The files of a merge, or, without any, their names alone: a dry run writes no file.
-    pub fn files(merge: Merge, files: Option<SystemPages<'r>>) -> Target<'r>
-        ensures names { files ≡ None → result ≡ Target.Names merge }
-        ensures written { IfSome files (λ f. result
-            ≡ Target.Files (record { merge = merge; files = f })) }
+    /// The names of a merge's files alone: a dry run writes no file.
+    pub fn names(merge: Merge) -> Target<'r>
+        ensures { result ≡ Target.Names merge }
     {
-        match files {
-            Some(files) => Target::Files(FileMerge { merge, files }),
-            None => Target::Names(merge),
-        }
+        Target::Names(merge)
+    }
+
+    /// The files of a merge.
+    pub fn files(merge: Merge, files: SystemPages<'r>) -> Target<'r> {
+        Target::Files(FileMerge { merge, files })
     }
 
     /// Makes sure that what was written is on the disk, after the last record.
