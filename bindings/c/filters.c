@@ -49,7 +49,7 @@ static void answer_all(bikleinu_handle *answers, bikleinu_handle *calls) {
 /* Renders a template, and writes its text and how it ended. */
 static void show(bikleinu_handle *language, bikleinu_handle *answers, const char *source) {
     bikleinu_handle template_ = BIKLEINU_NONE, none = BIKLEINU_NONE, no_partials = BIKLEINU_NONE, page = BIKLEINU_NONE;
-    bikleinu_limits limits = {0, 0, 0};
+    bikleinu_limits limits = {.bytes = BIKLEINU_ANY, .turns = BIKLEINU_ANY};
     uint8_t text[ROOM];
     need(bikleinu_parse(language, bytes(source), strlen(source), &template_), "parse");
     uint32_t ended = BIKLEINU_LACKING;

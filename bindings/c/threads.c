@@ -12,7 +12,7 @@
 enum { THREADS = 4, MAILS = 10000, ROUNDS = 10, ROOM = 4096 };
 
 static bikleinu_handle template_, partials;
-static const bikleinu_limits usual;
+static const bikleinu_limits usual = {.bytes = BIKLEINU_ANY, .turns = BIKLEINU_ANY};
 /* how each mail ended, and the column of its fault */
 static uint32_t ended[MAILS];
 static size_t columns[MAILS];

@@ -206,7 +206,7 @@ static void make_deepest(void) {
     need(bikleinu_data(bytes(json), strlen(json), &answer));
     need(bikleinu_answers(&answers));
     need(bikleinu_answers_filter(&answers, bytes("f"), 1));
-    bikleinu_limits limits = {.levels = UINT32_MAX};
+    bikleinu_limits limits = {.levels = UINT32_MAX, .bytes = BIKLEINU_ANY, .turns = BIKLEINU_ANY};
     if (bikleinu_render_with(&template_, &data, &partials, 0, &limits, &answers, &lacking) != BIKLEINU_LACKING) abort();
 }
 
