@@ -74,7 +74,8 @@ def out_faults(out, program):
         found = entries_in(room)
     told = [line for line in done.stderr.decode().split("\n") if line.startswith("error: ")]
     wrong = [f"it ends with status {done.returncode}"] if done.returncode != bool(out.named) else []
-    is_told = len(told) == 1 and f"{out.named}`" in told[0] if out.named else not done.stderr
+    # the path of a page stands in backquotes, and that of a template at the end of its line
+    is_told = len(told) == 1 and (f"{out.named}`" in told[0] or told[0].endswith(f" {out.named}")) if out.named else not done.stderr
     if not is_told:
         wrong.append(f"it tells {done.stderr.decode()!r}")
     return wrong + wrong_entries(out, before, found)
