@@ -129,9 +129,9 @@ uint32_t bikleinu_share(bikleinu_handle *handle, bikleinu_handle *made);
  * empty data, or for no partials. All three can be used again. The answer is how the page ended.
  *
  * A run takes stack of the thread that it runs in. A page is one level; each block in it, and each partial that runs in it, is one
- * more, up to the deepest that could stand in one another. A level takes at most BIKLEINU_LEVEL_STACK bytes (as measured, a block
- * 784 to 1,744 and a partial 1,456 to 2,928), and what stands at the end of the deepest one at most BIKLEINU_REST_STACK. bikleinu_render
- * begins no run that could reach more than BIKLEINU_LEVELS levels: it answers BIKLEINU_TOO_MANY_LEVELS. So with a depth of up to 160 it
+ * more, up to the deepest that could stand in one another. A level takes at most BIKLEINU_LEVEL_STACK bytes (a block took up
+ * to 1,744 and a partial up to 2,928 before nodes took turns, and some 200 more since), and what stands at the end of the deepest one at most BIKLEINU_REST_STACK. bikleinu_render
+ * begins no run that could reach more than BIKLEINU_LEVELS levels: it answers BIKLEINU_TOO_MANY_LEVELS. So with a depth of up to 120 it
  * stays within a stack of 1 MiB, and with any depth within 1.5 MiB. What a run could reach is known before it begins:
  *
  *   - Every body counts, whether it would run or not. An elsif is no level of its own.
@@ -141,7 +141,7 @@ uint32_t bikleinu_share(bikleinu_handle *handle, bikleinu_handle *made);
  *   - Of the partials behind a handle all count that were ever put there. */
 uint32_t bikleinu_render(bikleinu_handle *template_, bikleinu_handle *data, bikleinu_handle *partials, uint32_t depth, bikleinu_handle *page);
 
-enum { BIKLEINU_LEVELS = 400, BIKLEINU_LEVEL_STACK = 3008, BIKLEINU_REST_STACK = 139264 };
+enum { BIKLEINU_LEVELS = 400, BIKLEINU_LEVEL_STACK = 3584, BIKLEINU_REST_STACK = 139264 };
 
 /* A call that runs no page takes at most so many bytes of stack, whatever it is given (as measured, bikleinu_paths up to 136,000, and
  * bikleinu_parse, bikleinu_data, bikleinu_complete and the others less). That is more than a thread of 128 KiB has. */

@@ -10,7 +10,7 @@ its data and its partials in many at a time. Templates, partials and environment
 
 A run takes stack of its thread: at most 2.75 KiB for each level, where a page is one and each block and each partial in it is one
 more, and 136 KiB for what stands in the deepest. A run that could reach more than 400 levels isn't begun, so a stack of 1 MiB is
-enough for a depth of up to 160, and one of 1.5 MiB for any; levels= asks for more on a larger stack (threading.stack_size), or for
+enough for a depth of up to 120, and one of 1.5 MiB for any; levels= asks for more on a larger stack (threading.stack_size), or for
 fewer on a smaller one.
 
 The library stands beside this package's files, as libbikleinu.so, or where bindings/build puts it, or where the variable

@@ -31,7 +31,7 @@
 //!
 //! A run takes stack of its thread: at most 2.75 KiB for each level, where a page is one and each block and each partial in it is one
 //! more, and 136 KiB for what stands in the deepest. [`Template::render`] begins no run that could reach more than 400 levels, so a
-//! stack of 1 MiB is enough for a depth of up to 160, and one of 1.5 MiB for any: a thread of [`std::thread::spawn`] has 2.
+//! stack of 1 MiB is enough for a depth of up to 120, and one of 1.5 MiB for any: a thread of [`std::thread::spawn`] has 2.
 //! [`Template::render_within`] takes another bound.
 #![warn(missing_docs)]
 
