@@ -63,7 +63,7 @@ def file_cases():
         case("no folder of partials", "check t -p u", {"t": ""}, status=1, errors=("error: u: No such file or directory", *counted(1))),
         case("a file that isn't UTF-8", "check f", {"f/a": b"a\n\xff", "f/b": ""}, status=1, errors=("error: f/a: the file isn't UTF-8: line 2, column 1", *counted(1))),
         case("what is no text in a folder is left out", "check f", {"f/a.png": b"\x89PNG\0\xff", "f/b": ""}, errors=("left out: f/a.png is no text: it has a byte 0", *counted(1))),
-        case("what is left out of two folders is told once", "check f -p f", {"f/a.png": b"\x89PNG\0\xff", "f/b": ""}, errors=("left out: f/a.png is no text: it has a byte 0", *counted(1))),
+        case("what two folders leave out is reported once", "check f -p f", {"f/a.png": b"\x89PNG\0\xff", "f/b": ""}, errors=("left out: f/a.png is no text: it has a byte 0", *counted(1))),
         case("what is no text by its name", "check f/a.png", {"f/a.png": b"\x89PNG\0\xff"}, status=1, errors=("error: f/a.png: the file isn't UTF-8: line 1, column 1", *counted(0))),
         case("a time that is none, without data", "check t --now rubbish", {"t": ""}, status=2, errors=("error: --now wants a day or an instant of ISO 8601",)),
         case("a time that is none, with data", "check t -d d --now rubbish", {"t": "", "d": "{}"}, status=2, errors=("error: --now wants a day or an instant of ISO 8601",)),

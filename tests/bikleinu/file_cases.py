@@ -28,7 +28,7 @@ def counted(pages, failed=0):
 
 
 def merged(title, ids, files, left, refused=(), pattern="m/{{ id }}", more="", words=f"the file `%s` {WRITE}: "):
-    """A merge of which the records of these numbers have no page, each told by one line with the name of its file."""
+    """A merge of which the records of these numbers have no page, each reported in one line with the name of its file."""
     errors = [f"error: record {number}: {words % pattern.replace('{{ id }}', ids[number - 1])}" for number in refused]
     errors.append(counted(len(ids) - len(refused), len(refused)))
     return case(title, f"merge t r -o '{pattern}'{more}", {"t": "{{ id }}.", "r": lines(*ids), **files}, left, 1 if refused else 0, tuple(errors))
@@ -149,7 +149,7 @@ def into_cases():
 
 
 def odd_cases():
-    """A folder of all that isn't a file of one name: each is refused and told, and every other record has its page."""
+    """A folder of all that isn't a file of one name: each is refused and reported, and every other record has its page."""
     odd = {"pipe": PIPE, "socket": SOCKET, "link": Link("notes"), "nowhere": Link("not/there"), "self": Link("self"), "out": Link("../t"), "null": Link("/dev/null"), "folder/in": "in", ".hidden": "h"}
     fine = {"notes": "n", "kept": Of(0o400, OLD), "a~": OLD, "a\nb": OLD, "caf\u00e9": OLD, "hard": Hard("m/notes"), "folder/in/": None}
     if os.geteuid() == 0:

@@ -116,7 +116,7 @@ class Folder:
         self.link(inner, os.path.abspath(self.path))
 
     def lines(self, path, is_check=False):
-        """What must be told, where the folder is called by this path."""
+        """What must be reported, if the folder is called by this path."""
         return sorted(
             f"left out: a name in {f'{path}/{inner}'.rstrip('/')} isn't UTF-8" if why is None else f"left out: {path}/{inner} {why}"
             for inner, why in self.left_out.items()

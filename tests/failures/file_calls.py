@@ -70,7 +70,7 @@ def file_calls(given, path, call, room):
             wrong = [f"called again it leaves {it}" for it in unlike]
         if wrong:
             yield f"{shown(fault)}: {wrong[0]}"
-    yield from (f"no {name} that fails is told" for name in NEEDED if not told[name])
+    yield from (f"no {name} that fails is reported" for name in NEEDED if not told[name])
 
 
 def kept(given, path, call, room):
@@ -132,7 +132,7 @@ def wrong_without_word(plain, call, room, ended, fault):
     if unlike or ended.page != plain.page:
         return [f"it tells nothing, and leaves {unlike or ended.page[-80:]!r} otherwise"]
     if fault["call"] == "fsync" and fault.get("error") not in (errno.EINTR, None):
-        return ["that a flush failed isn't told"]
+        return ["a flush that failed isn't reported"]
     return []
 
 

@@ -119,7 +119,7 @@ def resetting(port):
 
 
 def crowd(port, allowed):
-    """What isn't well where as many connections are open as are served: one more is told 503, and is served once these have gone. Each
+    """What isn't well where as many connections are open as are served: one more gets 503, and is served once these have gone. Each
     step comes when the server must have let go of whoever has gone."""
     with contextlib.ExitStack() as opened:
 

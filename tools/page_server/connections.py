@@ -10,7 +10,7 @@ import io
 import re
 import socket
 
-# How many connections are served at once. As many more are told 503 at a time, and others wait in the system's queue. Whoever opens all
+# How many connections are served at once. As many more get 503 at a time, and others wait in the system's queue. Whoever opens all
 # of them shuts others out for ASKING seconds: let a proxy in front bound what one address may open.
 CONNECTIONS = 64
 # seconds that a caller has for head and body together, and again to take its answer

@@ -33,7 +33,7 @@ impl Drop for Checked {
 #[derive(Drop)]
 pub(crate) enum File {
     Checked(Checked),
-    /// It was found in a folder and is no text, which is told.
+    /// It was found in a folder and is no text, and that is reported.
     NoText,
     /// It can't be read, and that is reported.
     Unreadable,

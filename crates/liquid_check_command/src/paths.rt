@@ -43,7 +43,7 @@ impl Drop for Paths {
 }
 
 /// The files that a call names, and the partials, which are checked too. A word that names nothing
-/// that can be read is reported, and so is an empty folder; what is left out of a folder is told
+/// that can be read is reported, and so is an empty folder. What a folder leaves out is reported
 /// once.
 pub(crate) fn checked_paths(rt: &HostRuntime, call: &CheckCall<'_>) -> Result<Paths, Stop> {
     let mut paths = Paths {
@@ -127,8 +127,8 @@ impl Paths {
         Ok(self.partials.add_folder(rt.alloc(), places.as_slice())?)
     }
 
-    /// The files below a folder; none where it can't be read, which is reported. What is left out
-    /// is kept, to be told.
+    /// The files below a folder; none if it can't be read, which is reported. What is left out is
+    /// kept, to be reported later.
     fn files_of(&mut self, rt: &HostRuntime, folder: &str) -> Result<Option<Vec<String>>, Stop> {
         match files_below(rt, folder) {
             Ok(found) => {

@@ -48,7 +48,7 @@ impl Sources {
     }
 
     /// Reads the partials that words name, each NAME=FILE, or the files below a folder. The later
-    /// of one name counts. What is left out of a folder is told in a line on standard error.
+    /// of one name counts. Prints a line on standard error for each thing that a folder leaves out.
     pub fn read_partials(&mut self, rt: &HostRuntime, words: &[&str]) -> Result<(), Stop> {
         for word in words {
             match named_file(word) {
@@ -78,7 +78,8 @@ impl Sources {
         Ok(self.names.add_folder(rt.alloc(), files.as_slice())?)
     }
 
-    /// Reads a file of a folder, and gives its place; none where it is no text, which is told.
+    /// Reads a file of a folder, and returns its place; none, and a line on standard error, if it
+    /// is no text.
     fn read_found(&mut self, rt: &HostRuntime, path: &str) -> Result<Option<usize>, Stop> {
         match found_text_at(rt, path)? {
             Some(text) => Ok(Some(self.add_source(rt.alloc(), path, text)?)),

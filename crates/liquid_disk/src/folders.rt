@@ -54,7 +54,7 @@ pub(crate) fn note_new_folders<S: FileSystem>(
     Ok(())
 }
 
-/// Whether nothing is at a path, as far as the system tells.
+/// Whether nothing is at a path, as far as the system knows.
 fn is_missing<S: FileSystem>(system: &S, path: &str) -> bool {
     matches!(system.standing(path), Ok(Standing::Nothing))
 }

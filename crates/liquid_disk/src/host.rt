@@ -86,8 +86,8 @@ impl FileSystem for SystemFiles<'_> {
                 return Err(refused);
             }
         }
-        // it tells other runs that this one is still writing the file; a system without locks has
-        // none that could take it away
+        // the lock shows other runs that this one is still writing the file; without locks, no run
+        // removes it
         let _ = file.try_lock();
         self.made = Some(file);
         Ok(())

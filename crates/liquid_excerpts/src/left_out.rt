@@ -48,7 +48,7 @@ impl LeftOut {
     }
 }
 
-/// The line that tells what is left out, and why. It takes no memory.
+/// The line that says what is left out, and why. It takes no memory.
 #[derive(Clone, Copy)]
 pub struct LeftOutLine<'p> {
     /// The path of the entry; of one whose name isn't UTF-8 that of its folder.

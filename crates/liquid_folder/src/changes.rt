@@ -79,7 +79,7 @@ pub struct Listing {
 }
 
 /// All files of the site but the data. A folder among them, and a name that can't be read, is left
-/// out, which is told on standard error. What that refuses is lost.
+/// out, and reported on standard error. If that can't be written, the report is lost.
 pub fn all_files(rt: &HostRuntime, folder: &Folder) -> std::result::Result<Listing, FolderStop> {
     let mut files = Vec::new(rt.alloc());
     let partials = names_in(rt, folder.partials.as_str())?;
@@ -126,7 +126,7 @@ fn names_in(rt: &HostRuntime, path: &str) -> std::result::Result<Names, FolderSt
 }
 
 impl Names {
-    /// Adds the name of a file. One that isn't UTF-8 is told on standard error.
+    /// Adds the name of a file. One that isn't UTF-8 is reported on standard error.
     fn add(
         &mut self,
         rt: &HostRuntime,
@@ -152,8 +152,8 @@ impl Names {
     }
 }
 
-/// Whether what is found in a folder is to be looked at as a file of the site: no folder, which is
-/// told.
+/// Whether what is found in a folder is to be looked at as a file of the site. A folder isn't, and
+/// is reported.
 fn is_taken(rt: &HostRuntime, folder: &str, path: &str) -> std::result::Result<bool, FolderStop> {
     match entry_at(rt, folder, path) {
         Ok(Entry::Folder | Entry::LinkToFolder) => {

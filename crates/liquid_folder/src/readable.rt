@@ -5,8 +5,8 @@ use liquid_site_files::{Changed, Folder};
 use std::alloc::AllocError;
 use std::{fs, io, mem};
 
-/// Takes out of the changes what may not be read, which is told in a line each on standard error.
-/// What that refuses is lost.
+/// Removes from the changes what may not be read, and prints a line on standard error for each. If
+/// that can't be written, the line is lost.
 pub fn leave_out(
     rt: &HostRuntime,
     folder: &Folder,
@@ -21,8 +21,8 @@ pub fn leave_out(
 }
 
 /// Whether a changed file of the site may be read: neither a pipe nor a device, no link that leads
-/// out of its folder or nowhere, and without a byte 0. What may not is told on standard error. What
-/// isn't there is left to the round.
+/// out of its folder or nowhere, and without a byte 0. Prints what may not be read on standard
+/// error. What isn't there is left to the round.
 fn may_be_read(rt: &HostRuntime, folder: &Folder, changed: &Changed) -> Result<bool, FolderStop> {
     let (inside, name) = match changed {
         Changed::Data => return Ok(true),

@@ -139,8 +139,8 @@ impl<'r> Rounds<'r> {
         }
     }
 
-    /// Makes sure that the names of pages that were written are on the disk, and tells it if they
-    /// may not be.
+    /// Flushes the names of pages that were written to the disk. Prints an error if that fails.
+    /// Returns whether all of them are there.
     fn flush(&mut self, is_written: bool) -> bool
         ensures named { self.new.is_named ≡ self.old.is_named }
         ensures whole { self.new.is_whole ≡ self.old.is_whole }

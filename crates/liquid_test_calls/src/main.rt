@@ -1,4 +1,4 @@
-//! Makes calls that rows tell, and tells each that doesn't end as its row says.
+//! Makes calls that rows tell, and reports each that doesn't end as its row says.
 //!
 //! A row is a line of JSON on standard input, with these fields; one that it lacks is nil, or
 //! empty:

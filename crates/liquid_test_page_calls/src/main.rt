@@ -1,5 +1,5 @@
 //! Makes calls of languages, runtimes, pages and filters of a host as rows tell them, and those of
-//! the examples of docs/use/rattle.md, and tells each that doesn't end as its row says.
+//! the examples of docs/use/rattle.md, and reports each that doesn't end as its row says.
 //!
 //! A row is a line of JSON on standard input: `call`, and of a page its `source`, its `data`, and
 //! `on`, with `partials`, `tags` that are registered beside the standard ones, `host` (names that

@@ -1,4 +1,4 @@
-//! How a host writes a filter and hands it in. docs/use/rattle.md shows this file.
+//! How a host writes and registers a filter. docs/use/rattle.md shows this file.
 use liquid_lib::{Filter, HostFilters, Renderable, Result, RuntimeBuilder, Value, language, parse};
 use std::alloc::Global;
 

@@ -1,4 +1,4 @@
-//! How a host hands in Shopify's filters, all of one type. docs/use/rattle.md names this file.
+//! How a host registers Shopify's filters, all of one type. docs/use/rattle.md names this file.
 use liquid_filter_sets::shopify_language;
 use liquid_lib::{Filter, HostFilters, Renderable, Result, RuntimeBuilder, parse};
 use liquid_shopify_host_filters::{MoneyFormat, MoneyStyle, SHOPIFY_FILTERS, Shop, ShopifyFilter};
