@@ -56,8 +56,14 @@ impl FileSystem for SystemFiles<'_> {
         }
     }
 
-    fn file_at(&self, path: &str) -> io::Result<FileId> {
-        Ok(id_of(&fs::metadata(self.rt, path)?))
+    fn file_at(&self, path: &str) -> io::Result<Option<FileId>> {
+        match fs::metadata(self.rt, path) {
+            Ok(found) => Ok(Some(id_of(&found))),
+            Err(refused) => match refused.kind() {
+                io::ErrorKind::NotFound => Ok(None),
+                _ => Err(refused),
+            },
+        }
     }
 
     // a pipe or a device isn't opened, since it may never end

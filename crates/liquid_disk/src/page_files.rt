@@ -1,11 +1,13 @@
 //! The files that pages go into, each whole.
 ghost use Rattle.std.specs.Prelude.{◌≡◌, ◌++◌, ◌≤◌, IfOk, IfSome, OnErr, OnOk, false, true};
 ghost use Rattle.std.specs.Prelude.{option_map, string_bytes};
+ghost use Rattle.std.specs.BTreeSet.{contains};
 ghost use Rattle.liquid_disk.specs.Files.{IsPut};
 ghost use Rattle.liquid_disk.specs.Names.{hidden_names};
 ghost use Rattle.liquid_disk.specs.Parts.{IsKept, TakesPlace, files_below, is_part_path};
-ghost use Rattle.liquid_disk.specs.Standings.{is_own};
+ghost use Rattle.liquid_disk.specs.Standings.{IsNoSource, is_own};
 ghost use Rattle.liquid_disk.specs.Stories.{Between};
+ghost use Rattle.liquid_disk.specs.declared.system.FileId.{FileId};
 
 use crate::disk::{Disk, DiskFault, Protected};
 use crate::folders::{flush_folders, is_inside, make_ready, note_new_folders};
@@ -56,6 +58,7 @@ impl<S: FileSystem> PageFiles<S> {
     /// The files of a system, none of which is read or was written by the call.
     pub fn new(alloc: Global, system: S, process: u32, bounds: Bounds) -> PageFiles<S>
         ensures system { result.system ≡ system }
+        ensures process { result.process ≡ process }
         ensures bounds { result.bounds ≡ bounds }
     {
         PageFiles {
@@ -75,19 +78,18 @@ impl<S: FileSystem> PageFiles<S> {
     /// Keeps the file at a path as it is: the call reads it. A path without a file keeps nothing,
     /// and what the system refuses to tell of a path is a fault.
     pub fn keep_source(&mut self, path: &str) -> Result<(), DiskFault>
+        ensures kept { OnOk result (IfSome (S.leads self.old.system) (λ l. IfSome (l path.now)
+            (λ id. contains ⟦<FileId as Ord>⟧.cmp self.new.sources id ≡ true))) }
+        ensures others { (id : FileId)
+            → contains ⟦<FileId as Ord>⟧.cmp self.old.sources id ≡ true
+            → contains ⟦<FileId as Ord>⟧.cmp self.new.sources id ≡ true }
         ensures system { self.new.system ≡ self.old.system }
         ensures bounds { self.new.bounds ≡ self.old.bounds }
     {
-        match self.system.file_at(path) {
-            Ok(id) => {
-                self.sources.insert(id)?;
-                Ok(())
-            }
-            Err(refused) => match refused.kind() {
-                io::ErrorKind::NotFound => Ok(()),
-                _ => Err(DiskFault::from(refused)),
-            },
+        if let Some(id) = self.system.file_at(path)? {
+            self.sources.insert(id)?;
         }
+        Ok(())
     }
 
     /// Keeps all pages in a folder, links followed: it is made if need be, and no page leaves it.
@@ -135,7 +137,7 @@ impl<S: FileSystem> PageFiles<S> {
 
     /// Writes a text into what is no file of its own, unless that leads to what the call reads.
     fn write_through(&mut self, path: &str, text: &str) -> Result<(), DiskFault> {
-        if let Ok(id) = self.system.file_at(path) {
+        if let Some(id) = self.system.file_at(path)? {
             if self.sources.contains(&id) {
                 return Err(DiskFault::Protected(Protected::Source));
             }
@@ -149,6 +151,8 @@ impl<S: FileSystem> PageFiles<S> {
             (S.story self.old.system) (S.story self.new.system)) }
         ensures kept { OnErr result (Between IsKept (S.story self.old.system)
             (S.story self.new.system)) }
+        ensures source { OnOk result (IfSome (S.stands self.old.system)
+            (λ s. IsNoSource ⟦<FileId as Ord>⟧.cmp self.old.sources (s path.now))) }
         ensures own { OnOk result (IfSome (S.stands self.old.system)
             (λ s. is_own (s path.now) ≡ true)) }
         ensures page { OnOk result (is_part_path path.now ≡ false) }
@@ -175,6 +179,8 @@ impl<S: FileSystem> PageFiles<S> {
 
     /// The file that a page takes the place of, and its mode; none where there is no file.
     fn replaced(&self, path: &str) -> Result<Option<(FileId, u32)>, DiskFault>
+        ensures source { OnOk result (IfSome (S.stands self.now.system)
+            (λ s. IsNoSource ⟦<FileId as Ord>⟧.cmp self.now.sources (s path.now))) }
         ensures own { OnOk result (IfSome (S.stands self.now.system)
             (λ s. is_own (s path.now) ≡ true)) }
         ensures page { OnOk result (is_part_path path.now ≡ false) }
@@ -200,7 +206,9 @@ impl<S: FileSystem> PageFiles<S> {
     }
 
     /// Refuses a file that the call reads, and the file of an earlier page under another path.
-    fn check_file(&self, path: &str, id: FileId) -> Result<(), DiskFault> {
+    fn check_file(&self, path: &str, id: FileId) -> Result<(), DiskFault>
+        ensures { OnOk result (contains ⟦<FileId as Ord>⟧.cmp self.now.sources id ≡ false) }
+    {
         if self.sources.contains(&id) {
             return Err(DiskFault::Protected(Protected::Source));
         }
@@ -322,6 +330,9 @@ impl<S: FileSystem> Disk for PageFiles<S> {
             (S.story self.old.system) (S.story self.new.system)) }
         ensures kept { OnErr result (Between IsKept (S.story self.old.system)
             (S.story self.new.system)) }
+        ensures source { OnOk result (IfSome (S.stands self.old.system)
+            (λ s. IsNoSource ⟦<FileId as Ord>⟧.cmp self.old.sources
+            (s (string_bytes self.old.bounds.front ++ name.now)))) }
         ensures own { OnOk result (IfSome (S.stands self.old.system)
             (λ s. is_own (s (string_bytes self.old.bounds.front ++ name.now)) ≡ true)) }
         ensures hidden { OnOk result

@@ -4,6 +4,7 @@ ghost use Rattle.liquid_model.specs.Texts.{Text};
 ghost use Rattle.liquid_disk.specs.Files.{IsFound};
 ghost use Rattle.liquid_disk.specs.Stories.{Between, IsFilled, IsMade, IsRenamed, OnlyChanges};
 ghost use Rattle.liquid_disk.specs.Stories.{Story};
+ghost use Rattle.liquid_disk.specs.declared.system.FileId.{FileId};
 ghost use Rattle.liquid_disk.specs.declared.system.Standing.{Standing};
 
 use crate::disk::DiskFault;
@@ -45,12 +46,16 @@ pub trait FileSystem {
     // What stands at each path, where it is known.
     ghost stands: { Self → Option (Text → Standing) } = { λ _. None };
 
+    // The file that each path leads to, links followed, where they are known.
+    ghost leads: { Self → Option (Text → Option FileId) } = { λ _. None };
+
     /// What stands at a path.
     fn standing(&self, path: &str) -> io::Result<Standing>
         ensures { IfSome (stands self.now) (λ s. IfOk result (λ found. found ≡ s path.now)) };
 
-    /// The file that a path leads to, where it leads to one that is there.
-    fn file_at(&self, path: &str) -> io::Result<FileId>;
+    /// The file that a path leads to, or none where it leads to nothing.
+    fn file_at(&self, path: &str) -> io::Result<Option<FileId>>
+        ensures { IfSome (leads self.now) (λ l. IfOk result (λ found. found ≡ l path.now)) };
 
     /// The text of the file at a path, or none where there is no file.
     fn read(&self, path: &str) -> Result<Option<String>, DiskFault>
