@@ -85,6 +85,7 @@ enum {
     BIKLEINU_TOO_MANY_LEVELS = 103, /* a run that could reach more levels than are allowed (below) */
     BIKLEINU_NO_SUCH_CALL = 107,   /* no call of this number behind the handle */
     BIKLEINU_SHARED_HANDLE = 108,  /* a change of what another handle shares */
+    BIKLEINU_NO_SUCH_MISSING = 109, /* a number that says nothing of missing values */
 
     /* of a page that a limit of the caller's ended: it holds the text up to there, and a fault of the kind Write (18) */
     BIKLEINU_BYTES_REACHED = 104,
@@ -144,21 +145,29 @@ uint32_t bikleinu_render(bikleinu_handle *template_, bikleinu_handle *data, bikl
 enum { BIKLEINU_LEVELS = 400, BIKLEINU_LEVEL_STACK = 3584, BIKLEINU_REST_STACK = 139264 };
 
 /* A call that runs no page takes at most so many bytes of stack, whatever it is given (as measured, bikleinu_paths up to 136,000, and
- * bikleinu_parse, bikleinu_data, bikleinu_complete and the others less). That is more than a thread of 128 KiB has. */
+ * bikleinu_parse, bikleinu_data and the others less). That is more than a thread of 128 KiB has. */
 enum { BIKLEINU_CALL_STACK = 196608 };
 
 /* What stands for any number of bytes, or of turns. */
 #define BIKLEINU_ANY UINT64_MAX
 
+/* What becomes of a value that a run needs and that is missing. As nil it writes nothing, and the run goes on: a page without such a
+ * fault is the same byte for byte, and any other begins with what it was up to there. */
+enum { BIKLEINU_MISSING_IS_FAULT = 0, BIKLEINU_MISSING_IS_NIL = 1 };
+
 /* What a caller allows a run. */
 typedef struct {
     uint32_t levels; /* how many levels it may reach: fewer on a smaller stack, and more on a larger one; 0 for BIKLEINU_LEVELS */
-    uint64_t bytes;  /* how many bytes it may write, to the page and into the bodies of capture and ifchanged, or BIKLEINU_ANY */
+    uint32_t missing; /* what becomes of a value that is missing: BIKLEINU_MISSING_IS_FAULT or BIKLEINU_MISSING_IS_NIL */
+    uint64_t bytes;  /* how many bytes it may take, or BIKLEINU_ANY: those of each text that it writes, also into the body of a capture or
+                      * an ifchanged, of each answer of a filter and of each value that assign stores; a list or a map takes the bytes of
+                      * its parts, and 32 more for each item or pair */
     uint64_t turns;  /* how many turns it may take, or BIKLEINU_ANY: a node takes one each time that it runs, and one more for each filter,
                       * comparison, value of a when and pair of a partial in it; a body without nodes takes one */
 } bikleinu_limits;
 
-/* The same within limits of the caller's. A text that is longer than the bytes left isn't written, and no part of it. */
+/* The same within limits of the caller's. A text that is longer than the bytes left isn't written, and no part of it, and a value that
+ * takes more ends the page. */
 uint32_t bikleinu_render_within(bikleinu_handle *template_, bikleinu_handle *data, bikleinu_handle *partials, uint32_t depth,
                                 const bikleinu_limits *limits, bikleinu_handle *page);
 
@@ -166,17 +175,16 @@ uint32_t bikleinu_render_within(bikleinu_handle *template_, bikleinu_handle *dat
  * read as BIKLEINU_TEXT: a list of texts in JSON, ascending and each once. A page depends on no other names of the data. */
 uint32_t bikleinu_names(bikleinu_handle *template_, bikleinu_handle *partials, bikleinu_handle *made);
 
+/* Makes the names under which a template itself can look up partials; a render gives its name and that with .liquid. They are read as
+ * BIKLEINU_TEXT: a list of texts in JSON, ascending and each once, or null where a place looks up a name that only its run knows. A page
+ * depends on no partials but those of these names, those of the names that these give, and so on. */
+uint32_t bikleinu_partial_names(bikleinu_handle *template_, bikleinu_handle *made);
+
 /* Finds what a template and its partials ask of their data, of which a page sees no more; a handle that holds nothing stands for no
  * partials. It is read as BIKLEINU_TEXT: a list of paths in JSON, ascending and each once, as ["customer?","products[].title"]. A path
  * leads by members (.) and by the items that a loop goes over ([]) to a value that is asked for whole. One that ends in ? asks only
  * whether there is a value and of which kind, and for a scalar whole; []? only how many items there are. */
 uint32_t bikleinu_paths(bikleinu_handle *template_, bikleinu_handle *partials, bikleinu_handle *made);
-
-/* Makes a copy of data that has nil wherever such paths lead and the data lack a value, and an empty map where they lead on from there;
- * a handle that holds nothing stands for empty data. What is there stays: nothing is put below nil, a scalar or a list, and no member
- * into a map that a loop goes over or whose size is asked for. A page over the copy doesn't end at a name or a member that the data
- * lack, where a path leads there. The paths are those of a call of bikleinu_paths, and can be used for any number of data. */
-uint32_t bikleinu_complete(bikleinu_handle *data, bikleinu_handle *paths, bikleinu_handle *made);
 
 /* Reads data as bikleinu_data does, but builds no more of them than such paths ask for. Of a long text of which a template sees little that
  * takes less time and memory. The text is refused as by bikleinu_data, also for what no path asks for. The page of a template and its

@@ -11,7 +11,7 @@ from dataclasses import dataclass, field
 HERE = os.path.dirname(os.path.abspath(__file__))
 TOP = os.path.dirname(os.path.dirname(HERE))
 PROGRAM = f"{TOP}/crates/bikleinu/out/bikleinu"
-STANDARD = f"{TOP}/crates/liquid_tags/specs/Standard.antt"
+STANDARD = f"{TOP}/crates/liquid_language/specs/Standard.antt"
 FILTER_KINDS = f"{TOP}/crates/liquid_filters/specs/Kinds.antt"
 
 # what an entry and its parts must hold, and what they may hold besides

@@ -6,29 +6,36 @@ _bikleinu() {
   [ "$word" != = ] || word=
   case $1 in
     liquid_folder)
-      [ "$COMP_CWORD" -gt 3 ] && return
-      if [ "$COMP_CWORD" -ne 2 ]; then mapfile -t COMPREPLY < <(compgen -d -- "$word"); return; fi
+      local at=$COMP_CWORD
+      if [ "${COMP_WORDS[1]}" = --missing ]; then at=$((at - 2)); fi
+      if [ "$before" = --missing ]; then mapfile -t COMPREPLY < <(compgen -W 'fault nil' -- "$word"); return; fi
+      [ "$at" -gt 3 ] && return
+      if [ "$at" -ne 2 ]; then mapfile -t COMPREPLY < <(compgen -d -- "$word"); return; fi
       ;;
     bikleinu)
       local words= values=
       case ${COMP_WORDS[1]} in
-        render) words='--data --partials --filters --out --missing --max-bytes --max-turns --decimals --dates --now --help' ;;
-        merge) words='--out --into --data --partials --records-format --separator --from --count --dry-run --no-flush --progress --decimals --dates --now --help' ;;
-        check) words='--data --partials --filters --format --warn --decimals --dates --now --help' ;;
+        render) words='--text --data --define --partials --filters --assets --out --missing --max-bytes --max-turns --decimals --dates --now --help' ;;
+        merge) words='--text --out --into --data --define --partials --filters --assets --records-format --delimiter --cells --names --separator --missing --max-bytes --max-turns --from --count --dry-run --no-flush --progress --quiet --decimals --dates --now --help' ;;
+        check) words='--data --define --partials --filters --format --warn --quiet --decimals --dates --now --help' ;;
         paths) words='--partials --filters --format --help' ;;
       esac
       if [ "$COMP_CWORD" -eq 1 ]; then mapfile -t COMPREPLY < <(compgen -W 'render merge check paths --help --version' -- "$word"); return; fi
       case ${COMP_WORDS[1]}:$before in
-        render:--filters) values='jekyll shopify' ;;
+        render:--filters) values='decimals jekyll shopify' ;;
         render:--missing) values='fault nil' ;;
         render:--decimals) values='fault text' ;;
-        merge:--records-format) values='csv jsonl' ;;
+        merge:--filters) values='decimals jekyll shopify' ;;
+        merge:--records-format) values='csv json jsonl' ;;
+        merge:--cells) values='text typed' ;;
+        merge:--names) values='written snake' ;;
+        merge:--missing) values='fault nil' ;;
         merge:--decimals) values='fault text' ;;
-        check:--filters) values='jekyll shopify' ;;
+        check:--filters) values='decimals jekyll shopify' ;;
         check:--format) values='text json github' ;;
         check:--warn) values='unescaped-attributes' ;;
         check:--decimals) values='fault text' ;;
-        paths:--filters) values='jekyll shopify' ;;
+        paths:--filters) values='decimals jekyll shopify' ;;
         paths:--format) values='text json-schema' ;;
       esac
       if [ -n "$values" ]; then mapfile -t COMPREPLY < <(compgen -W "$values" -- "$word"); return; fi

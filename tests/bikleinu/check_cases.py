@@ -159,7 +159,39 @@ def attribute_cases():
     ]
 
 
+MAP = "`%s` in the data is a map: a loop goes by its keys, Ruby's by the file; make it a list of pairs"
+NIL = "`%s` in the data has no value: `contains` is a fault, in Ruby false; use `--missing nil` or `default`"
+MODE = "`slugify` has no mode `%s`: here `default`, in Jekyll `none`; write the one you mean"
+SITE = '{"menu": {"b": 1, "a": 2}, "one": {"b": 1}, "none": {}, "rows": [{"links": {"b": 1, "a": 2}}, {"links": null}], "pairs": [["b", 1], ["a", 2]], "nav": null, "page": {"nav": null, "url": "/a/"}}'
+LOOPS = "{% for m in menu %}{% endfor %}{% tablerow m in rows %}{% for l in m.links %}{% endfor %}{% endtablerow %}{% for m in one %}{% endfor %}{% for m in none %}{% endfor %}{% for m in pairs %}{% endfor %}{% for m in menu %}{% endfor %}{% assign own = menu %}{% for m in own %}{% endfor %}"
+SEARCHES = "{% if nav contains 'a' %}{% elsif page.url contains page.nav %}{% endif %}{% if page.nav contains 'a' %}{% endif %}{% unless page.nav.of contains 'a' %}{% endunless %}{% if page.url.of contains 'a' or page.size contains 1 or 'a' contains 'a' or page.nav == 'a' %}{% endif %}{% for r in rows %}{% if r.links contains 'a' %}{% endif %}{% endfor %}"
+MODES = "{{ a | slugify: 'prety' }}{{ a | slugify: 'pretty' | slugify: 'latin' | slugify: mode | slugify | slugify: '' }}{% assign b = a | slugify: 'none' | slugify: 'raw' | slugify: 'ascii' | slugify: 'default' | slugify: 'Raw' %}{{ b | upcase }}"
+
+
+def ruby_cases():
+    """What Ruby's engines do otherwise, which is warned of only in templates for one of them."""
+    maps = warning("t", 1, 1, "KeyOrder", MAP % "menu") + warning("t", 1, 56, "KeyOrder", MAP % "rows[].links")
+    nils = "".join(warning("t", 1, column, "NilContains", NIL % path) for column, path in ((1, "nav"), (75, "page.nav"), (116, "page.nav.of"), (294, "rows[].links")))
+    modes = "".join(warning("t", 1, column, "UnknownMode", MODE % mode) for column, mode in ((1, "prety"), (27, ""), (113, "Raw")))
+    return [
+        warned("a loop over a map, of Jekyll's templates", "t -d d --filters jekyll", {"t": LOOPS, "d": SITE}, maps, 2),
+        warned("a loop over a map, of Shopify's templates", "t -d d --filters shopify", {"t": LOOPS, "d": SITE}, maps, 2),
+        warned("a loop over a map", "t -d d", {"t": LOOPS, "d": SITE}, "", 0),
+        warned("a loop over what isn't known to be a map", "t --filters jekyll", {"t": "{% for m in menu %}{{ m[0] }}{% endfor %}"}, "", 0),
+        warned("a render for each member of a map", "t -d d -p p --filters jekyll", {"t": "{% render 'q' for menu as m %}", "p/q": "{{ m }}", "d": SITE}, warning("t", 1, 1, "KeyOrder", MAP % "menu"), 1, 2),
+        warned("contains of nil, of Jekyll's templates", "t -d d --filters jekyll", {"t": SEARCHES, "d": SITE}, nils, 4),
+        warned("contains of nil, of Shopify's templates", "t -d d --filters shopify", {"t": SEARCHES, "d": SITE}, nils, 4),
+        warned("contains of nil", "t -d d", {"t": SEARCHES, "d": SITE}, "", 0),
+        warned("contains of what the data lacks", "t -d d --filters jekyll", {"t": "{% if page.nva contains 'a' %}{% endif %}{% if xyzzy contains 'a' %}{% endif %}", "d": SITE}, warning("t", 1, 1, "UnknownPath", "the data has no `page.nva`; did you mean `page.nav`?") + warning("t", 1, 1, "NilContains", NIL % "page.nva") + warning("t", 1, 42, "UnknownName", "the data has no `xyzzy`") + warning("t", 1, 42, "NilContains", NIL % "xyzzy"), 4),
+        warned("contains of a name that a tag sets", "t -d d --filters jekyll", {"t": "{% assign nav = nav | default: '' %}{% if nav contains 'a' %}{% endif %}", "d": SITE}, "", 0),
+        warned("modes of slugify, of Jekyll's templates", "t --filters jekyll", {"t": MODES}, modes, 3),
+        warned("modes of slugify, of Shopify's templates", "t --filters shopify", {"t": MODES}, "", 0),
+        warned("modes of slugify", "t", {"t": MODES}, "", 0),
+        warned("two warnings of one output", "t --filters jekyll", {"t": "{{ 'now' | date: '%Y' | slugify: 'x' }}"}, warning("t", 1, 1, "NoClock", "`'now' | date` gives `now`, since there is no clock; give the time as data") + warning("t", 1, 1, "UnknownMode", MODE % "x"), 2),
+    ]
+
+
 def check_cases():
     return (
-        fault_cases() + format_cases() + file_cases() + partial_cases() + name_cases() + path_cases() + value_cases() + attribute_cases()
+        fault_cases() + format_cases() + file_cases() + partial_cases() + name_cases() + path_cases() + value_cases() + attribute_cases() + ruby_cases()
     )

@@ -165,7 +165,8 @@ def called(program, room, words):
 def agreement(program, room, made):
     """What is wrong of the calls over a folder of partials, or None."""
     with open(f"{room}/t", "w", encoding="utf-8") as file:
-        file.writelines(f"{{% include '{inner}' %}}," for inner in made.texts)
+        # a name that only a run knows: all files are read
+        file.writelines(["{% if x %}{% include x %}{% endif %}", *(f"{{% include '{inner}' %}}," for inner in made.texts)])
     with open(f"{room}/r", "w", encoding="utf-8") as file:
         file.write("{}\n")
     page = "".join(f"{text}," for text in made.texts.values())

@@ -1,5 +1,5 @@
-/* What templates ask of their data, as paths, and data that are completed with it or read no further. A line tells each thing that isn't
- * well, and the last one "asked: N". */
+/* What templates ask of their data, as paths, data that are read no further, and pages in which what is missing is nil. It prints each
+ * thing that isn't well, and at the end "asked: N". */
 #include <stdio.h>
 #include <string.h>
 
@@ -7,7 +7,7 @@
 
 enum { ROOM = 4096 };
 
-static bikleinu_handle language, template_, data, partials, paths, completed, page, none;
+static bikleinu_handle language, template_, data, partials, paths, made, answers, page, none;
 static size_t tests, wrong;
 
 static const uint8_t *bytes(const char *text) { return (const uint8_t *)text; }
@@ -36,15 +36,35 @@ static void asks(const char *source, const char *wanted) {
     reads(source, &paths, wanted);
 }
 
-/* How the page of a template ends over data that lack something, as they are and completed, and its text then. */
-static void completes(const char *source, const char *json, uint32_t ended, const char *text) {
+/* The page of a template over data that lack something, where that is nil: whole, within limits and with a table. Else it is a fault. */
+static void lacks(const char *source, const char *json, const char *text) {
+    bikleinu_limits limits = {.missing = BIKLEINU_MISSING_IS_NIL, .bytes = BIKLEINU_ANY, .turns = BIKLEINU_ANY};
     parse(source, &template_);
-    is("paths", bikleinu_paths(&template_, &none, &paths), BIKLEINU_DONE);
     is("data", bikleinu_data(bytes(json), strlen(json), &data), BIKLEINU_DONE);
-    is("complete", bikleinu_complete(&data, &paths, &completed), BIKLEINU_DONE);
-    is(source, bikleinu_render(&template_, &completed, &none, 0, &page), ended);
+    is(source, bikleinu_render_within(&template_, &data, &partials, 1, &limits, &page), BIKLEINU_DONE);
     reads(json, &page, text);
-    is("the data as they are", bikleinu_render(&template_, &data, &none, 0, &page), BIKLEINU_UNKNOWN_VARIABLE);
+    is(source, bikleinu_render_with(&template_, &data, &partials, 1, &limits, &answers, &page), BIKLEINU_DONE);
+    reads(json, &page, text);
+    limits.bytes = limits.turns = 100;
+    is(source, bikleinu_render_within(&template_, &data, &partials, 1, &limits, &page), BIKLEINU_DONE);
+    reads(json, &page, text);
+    limits.missing = BIKLEINU_MISSING_IS_FAULT;
+    is(source, bikleinu_render_within(&template_, &data, &partials, 1, &limits, &page), BIKLEINU_UNKNOWN_VARIABLE);
+    is(source, bikleinu_render(&template_, &data, &partials, 1, &page), BIKLEINU_UNKNOWN_VARIABLE);
+}
+
+/* No other number says what becomes of what is missing. */
+static void of_missing(void) {
+    bikleinu_limits limits = {.missing = 2, .bytes = BIKLEINU_ANY, .turns = BIKLEINU_ANY};
+    is("answers", bikleinu_answers(&answers), BIKLEINU_DONE);
+    lacks("{{ a.b }}|{{ c }}", "{\"a\":{\"d\":1}}", "|");
+    lacks("{{ a.b }}|{{ c }}", "{\"a\":{\"b\":7}}", "7|");
+    lacks("{% for r in rows %}{{ r.x }};{% endfor %}", "{\"rows\":[{\"x\":1},{}]}", "1;;");
+    lacks("{{ a.b }}", "{\"a\":null}", "");
+    lacks("{% if a %}a{% else %}{{ a.b.c }}-{% render 'line' %}{% endif %}", "{}", "--  of \n");
+    is("another number", bikleinu_render_within(&template_, &data, &partials, 1, &limits, &page), BIKLEINU_NO_SUCH_MISSING);
+    is("another number", bikleinu_render_with(&template_, &data, &partials, 1, &limits, &answers, &page), BIKLEINU_NO_SUCH_MISSING);
+    is("no page", (uint32_t)page.there, 0);
 }
 
 /* The page over data that are read no further than a template sees is that over all of them, and how another template ends over them. */
@@ -86,26 +106,19 @@ int main(void) {
     is("language", bikleinu_language(&language), BIKLEINU_DONE);
     asks("no data", "[]");
     asks("{{ shop.currency }}{% if customer %}y{% endif %}", "[\"customer?\",\"shop.currency\"]");
-    asks("{% for p in products %}{{ p.title }}{% endfor %}", "[\"p.title\",\"products[].title\"]");
+    asks("{% for p in products %}{{ p.title }}{% endfor %}", "[\"products[].title\"]");
     is("partials", bikleinu_partials(&partials), BIKLEINU_DONE);
     parse("- {{ line.count }} of {{ line.tea }}\n", &part);
     is("insert", bikleinu_insert(&partials, bytes("line"), 4, &part), BIKLEINU_DONE);
-    asks("{% for line in lines %}{% render 'line', line: line %}{% endfor -%}",
-         "[\"line.count\",\"line.tea\",\"lines[].count\",\"lines[].tea\"]");
+    asks("{% for line in lines %}{% render 'line', line: line %}{% endfor -%}", "[\"lines[].count\",\"lines[].tea\"]");
+    asks("{% for line in lines %}{% include 'line' %}{% endfor -%}", "[\"lines[].count\",\"lines[].tea\"]");
+    asks("{% include 'line' line: shop %}{{ n }}", "[\"n\",\"shop.count\",\"shop.tea\"]");
 
-    completes("{{ a.b }}|{{ c }}", "{\"a\":{\"d\":1}}", BIKLEINU_DONE, "|");
-    completes("{{ a.b }}|{{ c }}", "{\"a\":{\"b\":7}}", BIKLEINU_DONE, "7|");
-    completes("{% for r in rows %}{{ r.x }};{% endfor %}", "{\"rows\":[{\"x\":1},{}]}", BIKLEINU_DONE, "1;;");
-    completes("{{ a.b }}", "{\"a\":null}", BIKLEINU_UNKNOWN_VARIABLE, "");
-    is("nothing stands for empty data", bikleinu_complete(&none, &paths, &completed), BIKLEINU_DONE);
-    is("the page", bikleinu_render(&template_, &completed, &none, 0, &page), BIKLEINU_DONE);
-
-    is("no template", bikleinu_paths(&data, &none, &completed), BIKLEINU_OTHER_HANDLE);
-    is("no partials", bikleinu_paths(&template_, &data, &completed), BIKLEINU_OTHER_HANDLE);
-    is("no paths", bikleinu_complete(&data, &template_, &completed), BIKLEINU_OTHER_HANDLE);
-    is("no data", bikleinu_complete(&template_, &paths, &completed), BIKLEINU_OTHER_HANDLE);
+    of_missing();
+    is("no template", bikleinu_paths(&data, &none, &made), BIKLEINU_OTHER_HANDLE);
+    is("no partials", bikleinu_paths(&template_, &data, &made), BIKLEINU_OTHER_HANDLE);
     of_reading();
-    bikleinu_handle *all[] = {&language, &template_, &data, &partials, &paths, &completed, &page};
+    bikleinu_handle *all[] = {&language, &template_, &data, &partials, &paths, &made, &answers, &page};
     for (size_t at = 0; at < sizeof all / sizeof *all; at++) bikleinu_free(all[at]);
     printf("asked: %zu\n", tests);
     return wrong != 0;

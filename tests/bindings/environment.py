@@ -9,6 +9,7 @@ import os
 import pickle
 import sys
 import tempfile
+import threading
 import types
 import uuid
 import warnings
@@ -231,7 +232,7 @@ def environment():
 
 
 def missing():
-    """What the data lack, which is a fault or nil."""
+    """What is missing, which is a fault or nil."""
     source = "{{ a.b }}|{% for r in rows %}{{ r.x }};{% endfor %}{% render 'end', who: who %}"
     made = Environment(partials={"end": "{{ who.name }}."}, missing="nil")
     template = made.from_string(source)
@@ -239,19 +240,20 @@ def missing():
     again = pickle.loads(pickle.dumps(template))
     return first(
         [
-            same(lambda: template.paths(), ["a.b", "r.x", "rows[].x", "who.name"]),
+            same(lambda: template.paths(), ["a.b", "rows[].x", "who.name"]),
             same(lambda: Template("{{ a.b }}{% if c %}{% endif %}").paths(), ["a.b", "c?"]),
             same(lambda: template.render(rows), "|1;;."),
             same(lambda: template.render(rows, a={"b": 2}, who={"name": "Ada"}), "2|1;;Ada."),
             same(lambda: template.render(shared), "|;."),
             same(lambda: again.render(shared), "|;."),
             same(lambda: template.page(shared, missing="fault").fault.name, "UnknownVariable"),
-            same(lambda: template.page(a=None, rows=[]).fault.name, "UnknownVariable"),
+            same(lambda: template.render(a=None, rows=[]), "|."),
+            same(lambda: made.from_string("{% if who %}{{ who.name }}{% else %}{{ who.name }}-{% endif %}").render(), "-"),
             same(lambda: Template("[{{ a.b.c }}]").render(missing="nil"), "[]"),
             same(lambda: Template("[{{ a.b.c }}]").render('{"a": {}}', missing="nil"), "[]"),
             same(lambda: bikleinu.render("[{{ a }}]", missing=lambda name: name * 2), "[aa]"),
             same(lambda: made.partials.insert("end", "{{ who.age }}") or template.render(rows), "|1;;"),
-            same(lambda: template.paths(), ["a.b", "r.x", "rows[].x", "who.age"]),
+            same(lambda: template.paths(), ["a.b", "rows[].x", "who.age"]),
             raises(lambda: template.render(missing="null"), ValueError),
             raises(lambda: Environment(missing=None), ValueError),
         ]
@@ -305,18 +307,143 @@ def folder():
         return wrong or same(lambda: Partials.from_folder(room), message)
 
 
-def read_as_by_the_program(made):
-    """A folder's texts are partials, what is no text is left out with a warning for each, and what isn't UTF-8 is an error."""
-    with warnings.catch_warnings(record=True) as told:
+def names_found(call):
+    """The names of the partials that a call answers, or None where a file is refused, and what the warnings say."""
+    with warnings.catch_warnings(record=True) as seen:
         warnings.simplefilter("always")
         try:
-            found = sorted(Environment(partials=made.path).partials.sources)
+            found = sorted(call().sources)
         except LiquidError:
             found = None
-    if made.refused or found is None:
-        return bool(made.refused) and found is None
-    names = {*made.texts, *(inner.rpartition(".")[0] for inner in made.texts if "." in inner)}
-    return found == sorted(names) and sorted(str(it.message) for it in told) == made.lines(made.path)
+    return found, sorted(str(it.message) for it in seen)
+
+
+def read_as_by_the_program(made):
+    """A folder's texts are partials, what is no text is left out with a warning for each, and what isn't UTF-8 is an error: of the
+    folder as a whole, and in an environment of that file alone."""
+    names = sorted({*made.texts, *(inner.rpartition(".")[0] for inner in made.texts if "." in inner)})
+    whole, own = names_found(lambda: Partials.from_folder(made.path)), names_found(lambda: Environment(partials=made.path).partials)
+    wanted = names, made.lines(made.path)
+    return own == wanted and (whole[0] is None if made.refused else whole == wanted)
+
+
+def written(room, **files):
+    """Puts these files into a folder. One that was there has another time than before."""
+    for name, content in files.items():
+        path = f"{room}/{name}.html"
+        last = os.stat(path).st_mtime_ns if os.path.exists(path) else 0
+        with open(path, "wb") as file:
+            file.write(content if isinstance(content, bytes) else content.encode())
+        if last:
+            os.utime(path, ns=(last + 10**9, last + 10**9))
+
+
+def cause(page):
+    """The text of a page, its fault, and the cause of that."""
+    return page.text, str(page.fault), str(page.fault.__cause__)
+
+
+def only_what_runs():
+    """Of a folder only what a page leads to is read, once, and what is refused there is a fault of the pages that run it."""
+    with tempfile.TemporaryDirectory() as room:
+        written(room, a="a{% render 'b', y: 1 %}", b="{{ y }}", bad="1\n{{ x | pope }}", tail="ab\n\u00e9c\xff".encode("latin-1"), image=b"\0", me="{% if n %}{% include 'me' %}{% endif %}{{ z }}")
+        made = Environment(partials=room)
+        template, runs = made.from_string("{% if x %}{% include 'bad' %}{% endif %}{% render 'a' %}"), made.from_string("<{% include 'bad' %}")
+        own = "UnknownFilter: in the partial `bad`: line 2, column 8: no filter is named `pope`; did you mean `pop`?"
+        text = "NoText: in the partial `tail`: line 2, column 1: the file '{}/tail.html' is no UTF-8 in line 2".format(room)
+        computed, shout = made.from_string("{% include n %}"), Environment(partials=room, filters={"shout": str.upper})
+        with warnings.catch_warnings(record=True) as seen:
+            warnings.simplefilter("always")
+            wrong = first(
+                [
+                    same(lambda: template.render(x=None), "a1"),
+                    same(lambda: cause(runs.page()), ("<", f"UnknownPartial: line 1, column 13: the partial `bad` is refused: {own}", own)),
+                    same(lambda: (runs.page().fault.__cause__.kind.name, runs.page().fault.__cause__.place.partial), ("UNKNOWN_FILTER", "bad")),
+                    raises(lambda: runs.render(), LiquidError),
+                    same(lambda: template.render(x=None), "a1"),
+                    same(lambda: made.from_string("{% render 'tail' %}").page().fault.__cause__.__str__(), text),
+                    same(lambda: shout.from_string("{{ 'a' | shout }}{% include 'bad' %}").page().fault.__cause__.number, 27),
+                    same(lambda: (made.from_string("{% include 'a' %}").paths(), made.from_string("{% include 'me' %}").paths()), ([], ["n?", "z"])),
+                    same(lambda: made.from_string("{% include 'me' %}").page(n=1, z=1).fault.name, "TooDeep"),
+                    same(lambda: [str(it.message) for it in seen], []),
+                    same(lambda: made.from_string("{% include 'image' %}").page().fault.__cause__.name, "NoText"),
+                    same(lambda: [str(it.message) for it in seen], [f"left out: {room}/image.html is no text: it has a byte 0"]),
+                    same(lambda: computed.render(n="b", y=2), "2"),
+                    same(lambda: cause(computed.page(n="bad"))[2], own),
+                    same(lambda: cause(computed.page(n="bat"))[1:], ("UnknownPartial: line 1, column 12: no partial is named `bat`; did you mean `bad`?", "None")),
+                    same(lambda: cause(made.from_string("{% include 'tale' %}").page())[1], "UnknownPartial: line 1, column 12: no partial is named `tale`; did you mean `tail`?"),
+                    same(lambda: made.get_template("bad"), f"LiquidError: {own}"),
+                    same(lambda: made.get_template("b").render(y=3), "3"),
+                    same(lambda: pickle.loads(pickle.dumps(template)).render(x=None), "a1"),
+                    same(lambda: cause(pickle.loads(pickle.dumps(runs)).page())[2], own),
+                    same(lambda: made.partials.insert("bad", "good{% include 'b' %}") or runs.render(y=4), "<good4"),
+                    raises(lambda: made.partials.insert("bad", "{%"), LiquidError),
+                    same(lambda: bikleinu.render("{% include 'b' %}", {"y": 5}, made.partials), "5"),
+                ]
+            )
+        return wrong
+
+
+def reloaded():
+    """A file that changes is read again where that is asked for, and else it stays as it was read."""
+    with tempfile.TemporaryDirectory() as room:
+        written(room, a="1")
+        once, again = Environment(partials=room), Environment(partials=room, auto_reload=True)
+        pages = [made.from_string("{% include 'a' %}") for made in (once, again)]
+
+        def shown(**files):
+            written(room, **files)
+            return [page.page().text for page in pages]
+
+        return first(
+            [
+                same(lambda: shown(), ["1", "1"]),
+                same(lambda: shown(a="2"), ["1", "2"]),
+                same(lambda: again.get_template("a").render(), "2"),
+                same(lambda: shown(a="<{% render 'b' %}>"), ["1", "<"]),
+                same(lambda: shown(b="new"), ["1", "<new>"]),
+                same(lambda: shown(b="{{"), ["1", "<"]),
+                same(lambda: pages[1].page().fault.__cause__.name, "Unclosed"),
+                same(lambda: shown(b="{{ z }}"), ["1", "<"]),
+                same(lambda: pages[1].paths(), []),
+                same(lambda: os.remove(f"{room}/b.html") or cause(pages[1].page())[2], "None"),
+                same(lambda: shown(b="third", a=b"\xff"), ["1", ""]),
+                same(lambda: shown(a="4"), ["1", "4"]),
+                same(lambda: gone(room), "FileNotFoundError"),
+                same(lambda: in_threads(room, pages), None),
+                raises(lambda: Environment(partials={}, auto_reload=True), ValueError),
+            ]
+        )
+
+
+def gone(room):
+    """Why a page lacks a file that was there when its folder was listed."""
+    written(room, short="1")
+    made = Environment(partials=room)
+    page = made.from_string("{% include 'short' %}")
+    os.remove(f"{room}/short.html")
+    return type(page.page().fault.__cause__).__name__
+
+
+def in_threads(room, pages):
+    """Pages in eight threads while a file changes: each is of the file as it was or is."""
+    found, texts = set(), [str(10**number) for number in range(20)]
+
+    def render():
+        for _ in range(50):
+            found.update(page.page().text for page in pages)
+
+    threads = [threading.Thread(target=render) for _ in range(8)]
+    for thread in threads:
+        thread.start()
+    for text in texts:
+        with open(f"{room}/next", "w", encoding="utf-8") as file:
+            file.write(text)
+        os.replace(f"{room}/next", f"{room}/a.html")
+    for thread in threads:
+        thread.join()
+    last = pages[1].render()
+    return None if found <= {"1", "4", *texts} and last == texts[-1] else f"{found}, {last}"
 
 
 def odd_folders():
@@ -344,6 +471,8 @@ CHECKS = {
     "what the data lack": missing,
     "pickles": pickled,
     "partials of a folder": folder,
+    "partials that a page leads to": only_what_runs,
+    "partials that change": reloaded,
     "folders of odd things": odd_folders,
     "examples of the docstrings": examples,
 }

@@ -26,6 +26,12 @@ def pages():
     def own_size(value):
         return "own"
 
+    @made.filter
+    def whisper(text):
+        return text.lower()
+
+    made.filters["half"] = lambda number: number // 2
+
     data = {"a": {"b": ["x", None, True, -3], 'c"': "\u00e9\n"}, "n": 1999}
     return first(
         [
@@ -37,6 +43,10 @@ def pages():
             same(lambda: made.from_string("{% if n > 1 %}{{ n | money }}{% else %}{{ 'x' | money }}{% endif %}").render(data), "19.99 EUR"),
             same(lambda: Template("{{ 1 | money }}", Language(filters={"money": money})).render(), "0.01 EUR"),
             same(lambda: own_size(3), "own"),
+            same(lambda: made.from_string("{{ 'AB' | whisper }}{{ 9 | half }}").render(), "ab4"),
+            same(lambda: (whisper("C"), made.filters["whisper"], len(made.filters)), ("c", whisper, 7)),
+            raises(lambda: made.filters["none"], KeyError),
+            raises(lambda: made.filters.__setitem__("none", 3), TypeError),
         ]
     )
 
@@ -106,6 +116,20 @@ def rounds():
             raises(lambda: few.render(n=7), LimitError),
             same(lambda: few.render(n=1), "1"),
             raises(lambda: Environment(max_rounds=0), ValueError),
+        ]
+    )
+
+
+def shown():
+    """What a repr shows: the beginning of a source, and the first names."""
+    made = Environment(filters={f"f{number}": money for number in range(7)})
+    return first(
+        [
+            same(lambda: repr(Template("Hi {{ name }}!")), "<bikleinu.Template 'Hi {{ name }}!'>"),
+            same(lambda: repr(Template("a" * 70)), f"<bikleinu.Template '{'a' * 60}..'>"),
+            same(lambda: repr(Environment(filters={"money": money})), "<bikleinu.Environment, filters 'money'>"),
+            same(lambda: repr(made), "<bikleinu.Environment, filters 'f0', 'f1', 'f2', 'f3', 'f4', ..>"),
+            same(lambda: repr(Language(jekyll=True)), "<bikleinu.Language, jekyll>"),
         ]
     )
 
@@ -181,6 +205,7 @@ CHECKS = {
     "ten thousand mails on four threads": mails,
     "names": names,
     "Jekyll's language": jekyll,
+    "what a repr shows": shown,
 }
 
 if __name__ == "__main__":

@@ -49,7 +49,7 @@ typedef struct {
     text source, data, name;
 } row;
 
-enum { LANGUAGE, TEMPLATE, PARTIAL, PARTIALS, DATA, PAGE, PATHS, COMPLETED, READ, SHARED, NAMES, WITHIN, HANDLES };
+enum { LANGUAGE, TEMPLATE, PARTIAL, PARTIALS, DATA, PAGE, PATHS, READ, SHARED, NAMES, CALLED, WITHIN, HANDLES };
 
 static bikleinu_handle held[HANDLES];
 static size_t rows, calls, refused, wrong;
@@ -61,7 +61,6 @@ static uint32_t parse_partial(const row *it) { return bikleinu_parse(&held[LANGU
 static uint32_t read_data(const row *it) { return bikleinu_data(it->data.at, it->data.length, &held[DATA]); }
 static uint32_t insert(const row *it) { return bikleinu_insert(&held[PARTIALS], it->name.at, it->name.length, &held[PARTIAL]); }
 static uint32_t find_paths(const row *it) { return (void)it, bikleinu_paths(&held[TEMPLATE], &held[PARTIALS], &held[PATHS]); }
-static uint32_t complete(const row *it) { return (void)it, bikleinu_complete(&held[DATA], &held[PATHS], &held[COMPLETED]); }
 static uint32_t read_for(const row *it) { return bikleinu_data_for(it->data.at, it->data.length, &held[PATHS], &held[READ]); }
 static uint32_t render_read(const row *it) { return (void)it, bikleinu_render(&held[TEMPLATE], &held[READ], &held[PARTIALS], 32, &held[PAGE]); }
 static uint32_t share(const row *it) { return (void)it, bikleinu_share(&held[TEMPLATE], &held[SHARED]); }
@@ -69,6 +68,11 @@ static uint32_t render_shared(const row *it) { return (void)it, bikleinu_render(
 static uint32_t find_names(const row *it) {
     return (void)it, bikleinu_names(&held[TEMPLATE], &held[PARTIALS], &held[NAMES]);
 }
+static uint32_t render_lenient(const row *it) {
+    static const bikleinu_limits lenient = {.missing = BIKLEINU_MISSING_IS_NIL, .bytes = BIKLEINU_ANY, .turns = BIKLEINU_ANY};
+    return (void)it, bikleinu_render_within(&held[TEMPLATE], &held[DATA], &held[PARTIALS], 32, &lenient, &held[WITHIN]);
+}
+static uint32_t find_called(const row *it) { return (void)it, bikleinu_partial_names(&held[TEMPLATE], &held[CALLED]); }
 static uint32_t render_within(const row *it) {
     static const bikleinu_limits few = {.bytes = 20, .turns = 5};
     bikleinu_handle *partials = &held[PARTIALS], *made = &held[WITHIN];
@@ -188,13 +192,14 @@ int main(void) {
             size_t length = bikleinu_length(&held[PAGE], BIKLEINU_TEXT);
             each("render within limits", render_within, &it, WITHIN, false);
             each("names", find_names, &it, NAMES, false);
+            each("names of partials", find_called, &it, CALLED, false);
             each("share", share, &it, SHARED, true);
             if (!is_same(PAGE, render_shared(&it), ended, page)) report("render of what is shared", 0, ended, "and another page");
             each("paths", find_paths, &it, PATHS, false);
             each("data for the template", read_for, &it, READ, false);
             if (!is_same_page(render_read(&it), ended, page, length)) report("render of what is read for it", 0, ended, "and another page");
             free(page.at);
-            each("complete", complete, &it, COMPLETED, false);
+            each("render where what is missing is nil", render_lenient, &it, WITHIN, false);
         }
         free(it.source.at), free(it.data.at);
         for (int at = TEMPLATE; at < HANDLES; at++) bikleinu_free(&held[at]);

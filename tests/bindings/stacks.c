@@ -162,10 +162,10 @@ static void write_deepest_data(void) {
 
 static uint32_t parses(void) { return bikleinu_parse(&language, bytes(source), strlen(source), &made); }
 static uint32_t reads_names(void) { return bikleinu_names(&template_, &partials, &made); }
+static uint32_t finds_called(void) { return bikleinu_partial_names(&template_, &made); }
 static uint32_t finds_paths(void) { return bikleinu_paths(&template_, &partials, &made); }
 static uint32_t reads_data(void) { return bikleinu_data(bytes(json), strlen(json), &made); }
 static uint32_t reads_data_for(void) { return bikleinu_data_for(bytes(json), strlen(json), &paths, &made); }
-static uint32_t completes(void) { return bikleinu_complete(&data, &paths, &made); }
 static uint32_t answers_call(void) { return bikleinu_answer(&answers, &lacking, 0, &answer); }
 static uint32_t shares(void) { return bikleinu_share(&data, &made); }
 static uint32_t copies(void) {
@@ -177,8 +177,9 @@ static const struct {
     const char *name;
     uint32_t (*call)(void);
 } others[] = {
-    {"bikleinu_parse", parses}, {"bikleinu_names", reads_names}, {"bikleinu_paths", finds_paths}, {"bikleinu_data", reads_data},
-    {"bikleinu_data_for", reads_data_for}, {"bikleinu_complete", completes}, {"bikleinu_answer", answers_call},
+    {"bikleinu_parse", parses}, {"bikleinu_names", reads_names}, {"bikleinu_partial_names", finds_called},
+    {"bikleinu_paths", finds_paths}, {"bikleinu_data", reads_data},
+    {"bikleinu_data_for", reads_data_for}, {"bikleinu_answer", answers_call},
     {"bikleinu_share", shares}, {"bikleinu_copy", copies}};
 
 /* Makes one of them, and frees what it makes. */

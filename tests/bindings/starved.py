@@ -27,12 +27,15 @@ ROOM = 64 << 20
 FOOT = {"foot": "[{{ p.price }}]"}
 
 
-def calls():
-    """Calls by their names, and what each makes as a value that can be compared."""
+def calls(folder):
+    """Calls by their names, and what each makes as a value that can be compared. A folder is for partials."""
     import bikleinu
     from bikleinu import Data, Environment, Language, Partials, Template
 
-    partials = Partials(FOOT)
+    for name, source in {**FOOT, "bad": "{{ a | b }}"}.items():
+        with open(f"{folder}/{name}", "w", encoding="utf-8") as file:
+            file.write(source)
+    partials, again = Partials(FOOT), Environment(partials=folder, auto_reload=True).from_string(SOURCE)
     template, data = Template(SOURCE), Data(DATA)
     shout = Environment(filters={"shout": upper})
     mail = shout.from_string("{{ shop | shout }}{{ 'a' | shout }}")
@@ -57,11 +60,22 @@ def calls():
         "a page with filters": lambda: mail.render(shop="Leaf"),
         "new filters": lambda: Environment(filters={"shout": upper}).from_string("{{ 'a' | shout }}").render(),
         "a fault": lambda: Template("{{ a | plus: 'x' }}").page({"a": 1}).fault.name,
+        "a folder": lambda: Environment(partials=folder).from_string(SOURCE).render(DATA),
+        "a folder that is read again": lambda: changed(again, folder, data),
+        "a refused partial": lambda: str(Environment(partials=folder).from_string("{% include 'bad' %}").page().fault),
     }
 
 
 def upper(text):
     return text.upper()
+
+
+def changed(template, folder, data):
+    """A page after a file changed in size."""
+    file = os.open(f"{folder}/foot", os.O_WRONLY | os.O_APPEND)
+    os.write(file, b" ")
+    os.close(file)
+    return template.render(data).replace(" ", "")
 
 
 def inserted(template, data):
@@ -171,8 +185,9 @@ def doubled():
 def main():
     if "REFUSE_AT" in os.environ:
         starving = Starving()
-        checks = [(name, lambda call=call: starved(starving, call)) for name, call in calls().items()]
-        return report([*checks, ("what can't be passed", unpassed), ("values that double", doubled)])
+        with tempfile.TemporaryDirectory() as folder:
+            checks = [(name, lambda call=call: starved(starving, call)) for name, call in calls(folder).items()]
+            return report([*checks, ("what can't be passed", unpassed), ("values that double", doubled)])
     sys.path.insert(0, f"{TOP}/tests/refusals")
     from library import built
 

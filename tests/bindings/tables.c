@@ -145,6 +145,7 @@ static uint32_t register_money(void) { return bikleinu_register(&language, bytes
 static uint32_t make_answers(void) { return bikleinu_answers(&answers); }
 static uint32_t add_money(void) { return bikleinu_answers_filter(&answers, bytes("money"), 5); }
 static uint32_t find_names(void) { return bikleinu_names(&template_, &partials, &answer); }
+static uint32_t find_partial_names(void) { return bikleinu_partial_names(&template_, &answer); }
 static uint32_t put_answer(void) { return bikleinu_answer(&answers, &page, 0, &data); }
 static uint32_t put_fault(void) {
     return bikleinu_refuse(&answers, &page, 0, BIKLEINU_NUMBER_RANGE, bytes("too dear"), 8);
@@ -173,7 +174,7 @@ static void of_memory(void) {
     each("register", register_money), each("register again", register_money);
     is("parse", bikleinu_parse(&language, bytes(source), strlen(source), &template_), BIKLEINU_DONE);
     is("data", bikleinu_data(bytes(json), strlen(json), &data), BIKLEINU_DONE);
-    each("names", find_names), each("what is read", read_names);
+    each("names of partials", find_partial_names), each("names", find_names), each("what is read", read_names);
     is("requests of what is read", (uint32_t)requests, 0);
     each("answers", make_answers), each("a filter", add_money);
     renders(BIKLEINU_LACKING, BIKLEINU_TEXT, "[[\"money\",1]]");
@@ -241,16 +242,25 @@ static void of_limits(void) {
     begin("{% for i in (1..5) %}{{ 'a' | shout }}{% endfor %}", "{}");
     is("lacking", render(), BIKLEINU_LACKING);
     answers_by(0, "{\"answer\":\"A\"}");
-    /* the loop takes a turn, and an output with a filter two */
+    /* the loop takes a turn, and an output with a filter two; what a filter answers takes its bytes twice */
     limits = (bikleinu_limits){.bytes = BIKLEINU_ANY, .turns = 8};
     renders(BIKLEINU_TURNS_REACHED, BIKLEINU_TEXT, "AAA");
-    limits = (bikleinu_limits){.bytes = 2, .turns = BIKLEINU_ANY};
+    limits = (bikleinu_limits){.bytes = 4, .turns = BIKLEINU_ANY};
     renders(BIKLEINU_BYTES_REACHED, BIKLEINU_TEXT, "AA");
     limits = (bikleinu_limits){.bytes = BIKLEINU_ANY};
     renders(BIKLEINU_TURNS_REACHED, BIKLEINU_TEXT, "");
     limits = (bikleinu_limits){.turns = BIKLEINU_ANY};
     renders(BIKLEINU_BYTES_REACHED, BIKLEINU_TEXT, "");
     limits = (bikleinu_limits){.bytes = BIKLEINU_ANY, .turns = BIKLEINU_ANY};
+    end();
+}
+
+/* The names of partials that stand in a template. */
+static void partials_named(const char *source, const char *wanted) {
+    is("language", bikleinu_language(&language), BIKLEINU_DONE);
+    is("parse", bikleinu_parse(&language, bytes(source), strlen(source), &template_), BIKLEINU_DONE);
+    is(source, bikleinu_partial_names(&template_, &answer), BIKLEINU_DONE);
+    reads(source, &answer, BIKLEINU_TEXT, wanted);
     end();
 }
 
@@ -267,7 +277,13 @@ static void of_languages(void) {
     is("names", bikleinu_names(&template_, &partials, &answer), BIKLEINU_DONE);
     reads("names", &answer, BIKLEINU_TEXT, "[\"b\",\"include\",\"xs\",\"z\"]");
     is("names of a language", bikleinu_names(&language, &partials, &answer), BIKLEINU_OTHER_HANDLE);
+    is("names of partials", bikleinu_partial_names(&template_, &answer), BIKLEINU_DONE);
+    reads("names of partials", &answer, BIKLEINU_TEXT, "[\"p\"]");
+    is("names of partials of a language", bikleinu_partial_names(&language, &answer), BIKLEINU_OTHER_HANDLE);
     end();
+    partials_named("{% include 'b' %}{% if x %}{% render 'a' %}{% endif %}{% render 'b' for x as y %}", "[\"a\",\"a.liquid\",\"b\",\"b.liquid\"]");
+    partials_named("{% include 'b' %}{% render x %}", "null");
+    partials_named("{{ x }}", "[]");
     is("standard", bikleinu_language(&language), BIKLEINU_DONE);
     is("in the standard language", bikleinu_parse(&language, bytes(source), strlen(source), &template_), BIKLEINU_EXPECTED);
     end();

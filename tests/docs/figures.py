@@ -9,7 +9,7 @@ import re
 import sys
 
 TOP = os.path.dirname(os.path.dirname(os.path.dirname(os.path.abspath(__file__))))
-PROGRAMS = ["bikleinu", "liquid_folder", "liquid_check_command", "liquid_command_files", "liquid_commands"]
+PROGRAMS = ["bikleinu", "liquid_folder", "liquid_check", "liquid_commands"]
 SENTENCE = re.compile(r"[Ss]ome ([\d,]+) of the ([\d,]+) functions of (.*?), with some ([\d,]+) lines, have no clause")
 FUNCTION = re.compile(r"(?<![\w.])fn\s+[A-Za-z_]\w*")
 CLAUSE = re.compile(r"\b(requires|ensures|decreases)\b\s*\w*\s*$")

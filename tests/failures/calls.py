@@ -58,6 +58,7 @@ CALLS = [
     Call("a page on standard output", "bikleinu render t d -p parts --missing nil", PAGE),
     Call("a page in a file", "bikleinu render t d -p parts -o p", {**PAGE, "p": "old"}, prints=False),
     Call("a page of Jekyll's", "bikleinu render t d -p parts --filters jekyll --dates --decimals text", {**PAGE, "t": LINES + "{{ name | jsonify }}"}),
+    Call("a page of decimals", "bikleinu render t d -p parts --filters decimals --max-bytes 9999", {**PAGE, "t": LINES + "{{ '19.99' | decimal_times: 3 | decimal_format: 1 }}"}),
     Call("a page of Shopify's", "bikleinu render t d -p parts --filters shopify --max-bytes 9999", {**PAGE, "t": LINES + "{{ 5 | money }}"}),
     Call("pages in files", "bikleinu merge t r -d d -p parts -o 'm/{{ id }}'", {**PAGE, "r": RECORDS, "m/2": "old"}, prints=False, merges=True),
     Call("pages on standard output", "bikleinu merge t - -d d -p parts --progress", PAGE, RECORDS, merges=True),

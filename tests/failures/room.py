@@ -4,6 +4,9 @@ from dataclasses import dataclass
 
 from faulty import PART
 
+# the status of bikleinu where standard output has no reader, and the line that it doesn't print then
+CLOSED, CLOSED_LINE = 141, "error: standard output: Broken pipe"
+
 
 @dataclass
 class Plain:
@@ -67,7 +70,9 @@ class Room:
 
     def wrong_end(self, plain, page, printed, status, wanted):
         """What is wrong where something was refused, of which a line has to tell in these words, or None."""
-        if status != 1:
+        if status == CLOSED and wanted.fullmatch(CLOSED_LINE):
+            printed = [*printed, CLOSED_LINE]
+        elif status != 1:
             return f"status {status}: {printed[-2:]}"
         if not self.is_part(plain.page, page) and not self.call.passes_over:
             return f"it writes {page[-80:]!r}"

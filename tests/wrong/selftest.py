@@ -1,11 +1,14 @@
 """A test of the script, over a small crate that it writes: an edit that changes nothing is reported, tried with others and alone, and
 so are one that doesn't apply and one that stops the compiler. So are two that change nothing of a function whose proof has answers
-by hand, whose goals are open for want of one: one adds a way out, the other takes away the call that its answer names."""
+by hand, whose goals are open for want of one: one adds a way out, the other takes away the call that its answer names. And a test of
+what a turn tries, over small repositories: each edit is tried or left, once, and at three commits in a row each one is tried."""
 import os
+import subprocess
 import tempfile
 from dataclasses import dataclass
 
 from crates import Crate
+from turns import COMMITS, TELLING_PAGE, TURNS, name_of, of_turn
 
 ROOT = """//! A crate of one module.
 #![tactic(auto)]
@@ -108,8 +111,71 @@ def selftest(run, tell):
     reported = sorted(name for name, _ in trial.failed)
     well = reported == REPORTED and trial.count == len(EDITS)
     print(f"selftest: {', '.join(reported)} reported" + ("" if well else f", and not {', '.join(REPORTED)}"))
-    print(f"{int(well)} passed, {int(not well)} failed")
-    return int(not well)
+    results = [well, *turns_cover()]
+    print(f"{sum(results)} passed, {results.count(False)} failed")
+    return int(False in results)
+
+
+def turns_cover():
+    """Whether what turns try is as it should be, of each thing that is looked at."""
+    with tempfile.TemporaryDirectory(prefix="wrong-") as top:
+        work = [(Small(name, [], [], at=f"{top}/crates/{name}"), []) for name in ("low", "high", "edited", "untracked")]
+        for crate, files in work:
+            files += [written(f"{crate.folder}/wrong/edit_{at}.edit", "") for at in range(30)]
+            written(f"{crate.folder}/src/lib.rt", "")
+        written(f"{top}/{TELLING_PAGE}", "| a body | `high/edit_3`, `low/edit_4` |\n")
+        every = {file for _, files in work for file in files}
+        yield said("without a repository all are tried", tried(work, top) == every)
+        git(top, "init", "--quiet")
+        committed(top)
+        yield said("without ten commits before all are tried", tried(work, top) == every)
+        for at in range(COMMITS + 1):
+            written(f"{top}/page.md", f"{at}")
+            committed(top)
+        turns = []
+        for at in range(TURNS):
+            turns.append(tried(work, top))
+            written(f"{top}/page.md", f"the turn after {at}")
+            committed(top)
+        telling = {file for crate, files in work for file in files if name_of(crate, file) in ("high/edit_3", "low/edit_4")}
+        yield said("three turns try each edit", set().union(*turns) == every)
+        yield said("the telling ones are tried in each", set.intersection(*turns) == telling)
+        written(f"{top}/crates/low/specs/Lib.antt", "")
+        git(top, "switch", "--quiet", "--create", "other")
+        committed(top)
+        git(top, "switch", "--quiet", "-")
+        git(top, "merge", "--quiet", "--no-ff", "--no-edit", "other")
+        written(f"{top}/crates/edited/wrong/edit_1.edit", "another")
+        committed(top)
+        written(f"{top}/crates/untracked/proofs/New.antt", "")
+        written(f"{top}/crates/high/stdin", "rows aren't proved")
+        whole = {file for crate, files in work for file in files if crate.name != "high"}
+        yield said("those of crates that changed are tried, also in a merge or without a commit", whole < tried(work, top) < every)
+        git(top, "clone", "--quiet", "--depth", f"{COMMITS + 2}", f"file://{top}", f"{top}/shallow")
+        yield said("with a part of the history all are tried", tried(work, f"{top}/shallow") == every)
+
+
+def tried(work, top):
+    """The edits that the turn tries; none if what is tried and what is left aren't all edits, each once."""
+    of = [[file for _, files in part for file in files] for part in of_turn(work, top)[:2]]
+    return set(of[0]) if sorted(of[0] + of[1]) == sorted(file for _, files in work for file in files) else set()
+
+
+def said(what, well):
+    print(f"selftest: {what}" if well else f"selftest: not so: {what}")
+    return well
+
+
+def committed(top):
+    git(top, "add", "--all")
+    git(top, "commit", "--quiet", "--message", "a commit")
+
+
+def git(top, *words):
+    # nothing of whoever runs it
+    who = {f"GIT_{role}_{part}": "somebody@localhost" for role in ("AUTHOR", "COMMITTER") for part in ("NAME", "EMAIL")}
+    env = {**os.environ, **who, "GIT_CONFIG_GLOBAL": os.devnull, "GIT_CONFIG_SYSTEM": os.devnull}
+    subprocess.run(["git", "-C", top, *words], check=True, env=env, stdin=subprocess.DEVNULL, stdout=subprocess.DEVNULL)
 
 
 def written(path, text):

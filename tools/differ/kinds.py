@@ -4,8 +4,8 @@ import reading
 from compare import Kind, run_check, run_page, run_paths, run_render
 
 
-def read_page(filters=None, completes=False):
-    return lambda case: reading.page(case.source, case.data, case.partials, filters, completes)
+def read_page(filters=None, missing_is_nil=False):
+    return lambda case: reading.page(case.source, case.data, case.partials, filters, missing_is_nil)
 
 
 def read_paths(case):
@@ -35,7 +35,7 @@ def is_there(expected, printed):
 KINDS = {
     "language": Kind("liquid_page", generate.case_of, read_page(), run_page),
     "projected": Kind("liquid_page", generate.long_case_of, read_page(), run_page),
-    "missing": Kind("bikleinu", generate.lacking_case_of, read_page(completes=True), run_render("--missing", "nil")),
+    "missing": Kind("bikleinu", generate.lacking_case_of, read_page(missing_is_nil=True), run_render("--missing", "nil")),
     "paths": Kind("bikleinu", generate.asking_case_of, read_paths, run_paths),
     "faults": Kind("bikleinu", generate.broken_case_of, read_faults, run_check, within_pieces),
     "jekyll": Kind("bikleinu", generate.pack_case_of("jekyll"), read_page("jekyll"), run_render("--filters", "jekyll")),

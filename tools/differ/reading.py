@@ -1,13 +1,12 @@
 """The page of a template by the plain reading: what the program should write, and the kind of the fault that it should end by."""
 import json
 
-from language.completion import completed
 from language.evaluation import Run
 from language.faults import Fault
 from language.languages import LANGUAGES
 from language.parser import parse
 from language.several_faults import faults_of
-from language.uses import paths_of, uses_of
+from language.uses import data_uses, paths_of
 from language.values import GREATEST, LEAST, digits_of, new_map
 
 # lists and maps of the data nest so deep at most, the whole of it among them
@@ -18,11 +17,10 @@ class NotWhole:
     """A number of the data that isn't whole, or past 64 bits."""
 
 
-def page(source, data_text, partials, filters=None, completes=False):
+def page(source, data_text, partials, filters=None, missing_is_nil=False):
     """The text and the kind, None where the page is done.
 
-    The partials are names and sources in their order, and the filters are those of a set by its name. Where it completes, what the
-    data lacks is nil.
+    The partials are names and sources in their order, and the filters are those of a set by its name.
     """
     language = LANGUAGES[filters]
     try:
@@ -31,9 +29,7 @@ def page(source, data_text, partials, filters=None, completes=False):
         parsed = {name: parse(text, language) for name, text in partials}
     except Fault as fault:
         return "", fault.kind
-    if completes:
-        data = completed(data, template, parsed)
-    run = Run(parsed, data, language.filters(data))
+    run = Run(parsed, data, language.filters(data), missing_is_nil)
     try:
         run.nodes(template)
     except Fault as fault:
@@ -49,7 +45,7 @@ def paths(source, partials, filters=None):
         parsed = {name: parse(text, language) for name, text in partials}
     except Fault as fault:
         return "", fault.kind
-    return "".join(f"{path}\n" for path in paths_of(uses_of(template, parsed))), None
+    return "".join(f"{path}\n" for path in paths_of(data_uses(template, parsed))), None
 
 
 def faults(source, filters=None):

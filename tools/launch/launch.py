@@ -4,6 +4,7 @@
 The proved program runs where it is made of the sources as they are. Else the unproved one does, which is built first, once, where
 it isn't there or is older than the sources. Words that make no call, and files that aren't there, build nothing."""
 import os
+import re
 import sys
 
 from programs import TOP, Program, Stopped, kit
@@ -16,11 +17,14 @@ HELP = """usage: {usage}
 {what}
 
 The proved program runs where ./prove (or .ci/run) has made it. Until then a program without proofs runs, which the first call builds
-in a minute and a half or so. {name} --unproved .. takes that one in any case.
+in one to four minutes. {name} --unproved .. takes that one in any case.
 """
 
 
-TAKES = "which takes a minute and a half or so; later calls start at once"
+TAKES = "which takes one to four minutes; later calls start at once"
+
+
+HELP_WORDS, VERSION_WORDS = ("--help", "-h"), ("--version", "-V")
 
 
 class Invalid(Exception):
@@ -36,6 +40,8 @@ def files_of_page(words):
 
 
 def files_of_folder(words):
+    if words[:1] == ["--missing"] and words[1:2] in (["fault"], ["nil"]):
+        words = words[2:]
     return words[:2] if len(words) == 3 and all(words) else None
 
 
@@ -47,11 +53,28 @@ CALLS = {
         files_of_page,
     ),
     "liquid_folder": (
-        "liquid_folder FOLDER DATA OUT",
+        "liquid_folder [--missing fault|nil] FOLDER DATA OUT",
         "Writes the pages of a folder, and again those that a change shows in.",
         files_of_folder,
     ),
 }
+
+
+def kept_answer(name, words):
+    """What bikleinu prints for its help and its version, which tools/manual keeps, so that neither wants a build; None for other words."""
+    if name != "bikleinu" or len(words) not in (1, 2):
+        return None
+    if len(words) == 1 and words[0] in VERSION_WORDS:
+        with open(f"{TOP}/VERSION", encoding="utf-8") as file:
+            return f"{name} {file.read()}"
+    command, asks = ("", words[0]) if len(words) == 1 else words
+    if command == "help":
+        command, asks = asks, HELP_WORDS[0]
+    path = f"{TOP}/tools/launch/help/{command or name}"
+    if asks not in (*HELP_WORDS, *([] if command else ["help"])) or not re.fullmatch(r"[a-z]*", command) or not os.path.exists(path):
+        return None
+    with open(path, encoding="utf-8") as file:
+        return file.read()
 
 
 def quoted(text):
@@ -108,6 +131,9 @@ def launched(name, words):
         start(proved, words)
     if name in CALLS:
         need_files(name, words)
+    elif not is_asked and (answer := kept_answer(name, words)):
+        print(answer, end="")
+        return 0
     why = "no proved program stands yet"
     if is_asked:
         why = "an unproved program is asked for"

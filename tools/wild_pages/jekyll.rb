@@ -1,9 +1,9 @@
 # Builds a site by Jekyll, and writes down each page that its Liquid makes: ruby jekyll.rb SITE OUT
 #
-# OUT/N.json has the template, the data, the partials that the page ran, each with its file, and the page.
+# OUT/N.json has the template, the data, the partials that the page ran, each with its file, and the page; OUT/folders the folders in which
+# the site's partials are, as a list.
 require "fileutils"
-require "jekyll"
-require "tmpdir"
+require_relative "plugins"
 require_relative "values"
 
 module Recording
@@ -45,10 +45,10 @@ source, Recording.folder = ARGV
 Recording.count = 0
 FileUtils.mkdir_p(Recording.folder)
 Jekyll.logger.log_level = :error
-config = Jekyll::Configuration.new.read_config_file("#{source}/_config.yml")
-# the site's plugins of those that are here, and the tag `seo`, which sites expect without naming it
-plugins = [*config["plugins"], *config["gems"]].select { |name| Gem::Specification.any? { |it| it.name == name } }
 Dir.mktmpdir do |out|
-  options = { "source" => source, "destination" => out, "disable_disk_cache" => true, "plugins" => plugins | ["jekyll-seo-tag"] }
-  Jekyll::Site.new(Jekyll.configuration(options)).process
+  options = { "source" => source, "destination" => out, "disable_disk_cache" => true, "plugins" => plugins_of(source) }
+  site = Jekyll::Site.new(Jekyll.configuration(options))
+  site.process
+  # the site's own come before those of its theme
+  File.write("#{Recording.folder}/folders", JSON.generate(site.includes_load_paths.select { |it| File.directory?(it) }))
 end

@@ -18,9 +18,9 @@ class Handle(ctypes.Structure):
 
 
 class Limits(ctypes.Structure):
-    """What a run is allowed. A 0 stands for what is usual."""
+    """What a run is allowed. A 0 stands for what is usual. A missing value is a fault by 0, and nil by 1."""
 
-    _fields_ = [("levels", ctypes.c_uint32), ("bytes", ctypes.c_uint64), ("turns", ctypes.c_uint64)]
+    _fields_ = [("levels", ctypes.c_uint32), ("missing", ctypes.c_uint32), ("bytes", ctypes.c_uint64), ("turns", ctypes.c_uint64)]
 
 
 def _path() -> str:
@@ -69,8 +69,8 @@ def _loaded() -> Any:
         "insert": ([handle, text, size, handle], number),
         "render_within": ([handle, handle, handle, number, ctypes.POINTER(Limits), handle], number),
         "names": ([handle, handle, handle], number),
+        "partial_names": ([handle, handle], number),
         "paths": ([handle, handle, handle], number),
-        "complete": ([handle, handle, handle], number),
         "data_for": ([text, size, handle, handle], number),
         "share": ([handle, handle], number),
         "answers": ([handle], number),

@@ -4,7 +4,7 @@ from __future__ import annotations
 import ctypes
 import operator
 import threading
-from collections.abc import Callable
+from collections.abc import Callable, Iterable
 from typing import Any, NoReturn, TypeVar
 
 from ._library import Handle, library
@@ -12,6 +12,8 @@ from .errors import LIMITS, MESSAGES, NAMES, LimitError, LiquidError, Place
 
 TEXT, MESSAGE, NAME, PARTIAL = range(4)
 _ORIGINS = {1: "template", 2: "partial", 3: "data"}
+# how many characters of a text, and how many names, stand in a repr
+_SHOWN, _LISTED = 60, 5
 
 
 def part(handle: Any, number: int) -> str:
@@ -142,6 +144,17 @@ def utf8(text: str) -> bytes:
     if not isinstance(text, str):
         raise TypeError(f"a str is wanted, not {type(text).__name__}")
     return text.encode("utf-8", "surrogatepass")
+
+
+def shown(text: str) -> str:
+    """A text for a repr, of a long one the beginning."""
+    return repr(text if len(text) <= _SHOWN else f"{text[:_SHOWN]}..")
+
+
+def listed(before: str, names: Iterable[str]) -> str:
+    """Names for a repr, of many the first, after a word; nothing where there are none."""
+    first = [shown(name) for name, _ in zip(names, range(_LISTED + 1))]
+    return f"{before} {', '.join(first[:_LISTED])}{', ..' if len(first) > _LISTED else ''}" if first else ""
 
 
 def whole(name: str, value: int, least: int = 0, most: int = 2**32 - 1) -> int:

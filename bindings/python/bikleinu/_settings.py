@@ -7,7 +7,7 @@ from typing import Any, Callable, Optional, Union
 from ._values import Conversions
 from .partials import Partials
 
-# what stands for a name or a member that the data lack: "fault", "nil", or what a function answers to a name
+# what becomes of what is missing: "fault", "nil", or for a name that the data lack what a function answers
 Missing = Union[str, Callable[[str], Any]]
 
 
@@ -26,7 +26,7 @@ class Settings:
 
 
 def missing_of(value: Any) -> Missing:
-    """The value, which says what stands for what the data lack."""
+    """The value, which says what becomes of what is missing."""
     if not callable(value) and value not in ("fault", "nil"):
         raise ValueError(f"missing is {value!r}, and 'fault', 'nil' or a function is wanted")
     found: Missing = value

@@ -5,14 +5,15 @@ import os
 from collections.abc import Callable, Mapping
 from dataclasses import replace
 from datetime import tzinfo
-from typing import Any, Union
+from typing import Any, Union, overload
 
 from ._filters import Function
-from ._owner import new_lock, whole
+from ._folder import FolderPartials
+from ._owner import listed, new_lock, whole
 from ._settings import Missing, Settings, missing_of
 from ._values import Conversions
 from .data import Data
-from .language import Called, Language
+from .language import Called, Functions, Language
 from .partials import Partials
 from .template import Template
 
@@ -26,11 +27,17 @@ class Environment:
         '1.5, yours, B.'
 
     partials is a mapping from names to sources, Partials, or the path of a folder, of which each file is a partial (as of
-    Partials.from_folder). depth, levels, max_bytes and max_turns are as of Template.page, decimals, dates and default as of Data.
+    Partials.from_folder). The folder is listed with the first template, and a file is read, once, when a page, its paths, names or
+    data first lead to it; where a name is computed, that is every file. A partial that is refused, for its source or as no UTF-8, is
+    a fault of the pages that run it, whose __cause__ is its own fault. With auto_reload=True the folder is listed for each page, and
+    a file whose time or size changed is read again.
+
+    depth, levels, max_bytes and max_turns are as of Template.page, decimals, dates and default as of Data.
 
     filters are functions in Python by their names (as of Language.add_filter); a page asks them in at most max_rounds rounds. jekyll
-    is as of Language. missing is as of Template.page: with missing="nil" what a template asks for and its data lack is nil. The
-    partials are parsed with the first template, so filters that are added until then are known to them.
+    is as of Language. missing is as of Template.page: with missing="nil" what is missing is nil. The
+    partials of a mapping are parsed with the first template, so filters that are added until then are known to them; those of a folder
+    when they are read.
 
     An environment can be pickled where its functions can, and its templates with it.
     """
@@ -50,13 +57,16 @@ class Environment:
         decimals: str | None = None,
         dates: bool | tzinfo = False,
         default: Callable[[Any], Any] | None = None,
+        auto_reload: bool = False,
     ) -> None:
         bounds = {"levels": levels, "max_bytes": max_bytes, "max_turns": max_turns}
         for name, value in bounds.items():
             if value is not None:
                 whole(name, value, 1, 2**32 - 1 if name == "levels" else 2**64 - 1)
         self._language = Language(jekyll=jekyll, filters=filters)
-        self._given = _checked(partials)
+        self._given, self._auto_reload = _checked(partials), bool(auto_reload)
+        if auto_reload and not isinstance(partials, (str, os.PathLike)):
+            raise ValueError("auto_reload is for the path of a folder as partials")
         how = Conversions(decimals, dates, default)
         rounds = whole("max_rounds", max_rounds, 1)
         self._usual = Settings(None, whole("depth", depth), levels, max_bytes, max_turns, rounds, missing_of(missing), how)
@@ -70,7 +80,7 @@ class Environment:
             if self._settings is None:
                 given = self._given
                 if isinstance(given, (str, os.PathLike)):
-                    given = Partials.from_folder(given, self._language)
+                    given = FolderPartials.of(given, self._language, self._auto_reload)
                 elif not isinstance(given, Partials):
                     given = Partials(given, self._language)
                 self._settings = replace(self._usual, partials=given)
@@ -83,7 +93,18 @@ class Environment:
         assert made is not None
         return made
 
-    def filter(self, name: str | None = None) -> Callable[[Called], Called]:
+    @property
+    def filters(self) -> Functions:
+        """The functions that are filters, to read and to add to: `environment.filters["money"] = money`."""
+        return self._language.filters
+
+    @overload
+    def filter(self, name: Called) -> Called: ...
+
+    @overload
+    def filter(self, name: str | None = None) -> Callable[[Called], Called]: ...
+
+    def filter(self, name: Any = None) -> Any:
         """Makes a filter of the function that follows, under this name or its own, for what is parsed from now on."""
         return self._language.filter(name)
 
@@ -102,6 +123,9 @@ class Environment:
     def data(self, data: Mapping[str, Any] | str) -> Data:
         """Data that is read once, by the conversions of this environment, for any number of its templates."""
         return Data._of(data, self._usual.how)
+
+    def __repr__(self) -> str:
+        return f"<bikleinu.Environment{listed(', filters', self.filters)}>"
 
     def __reduce__(self) -> Any:
         usual, how = self._usual, self._usual.how

@@ -48,6 +48,7 @@ class Kind(enum.IntEnum):
 
 INVALID_INPUT = Kind.INVALID_INPUT.value
 FLOAT = Kind.FLOAT.value
+UNKNOWN_PARTIAL = Kind.UNKNOWN_PARTIAL.value
 MEMORY = Kind.MEMORY.value
 NO_TEXT = Kind.NO_TEXT.value
 OTHER_HANDLE = Kind.OTHER_HANDLE.value
@@ -66,7 +67,7 @@ NAMES = {
     TOO_MANY_LEVELS: "TooManyLevels",
 }
 LIMITS = {
-    BYTES_REACHED: ("BytesReached", "the page is longer than max_bytes"),
+    BYTES_REACHED: ("BytesReached", "the page takes more bytes than max_bytes"),
     TURNS_REACHED: ("TurnsReached", "the page takes more turns than max_turns"),
 }
 # those of calls that made nothing, which the library has no words for

@@ -2,16 +2,38 @@
 from __future__ import annotations
 
 import threading
-from collections.abc import Callable, Mapping
-from typing import Any, TypeVar
+from collections.abc import Callable, Iterator, Mapping
+from typing import Any, TypeVar, overload
 
 from ._filters import Filters, Function, arity
 from ._library import library
-from ._owner import Owner, utf8
+from ._owner import Owner, listed, utf8
 from .errors import refused
 
 # a function that a decorator hands back as it is
 Called = TypeVar("Called", bound=Function)
+
+
+class Functions(Mapping[str, Function]):
+    """The functions that are filters of a language, by their names. One more is added as `filters["money"] = money`."""
+
+    def __init__(self, language: Language) -> None:
+        self._language = language
+
+    def __getitem__(self, name: str) -> Function:
+        return self._language._filters.functions[name]
+
+    def __setitem__(self, name: str, function: Function) -> None:
+        self._language.add_filter(name, function)
+
+    def __iter__(self) -> Iterator[str]:
+        return iter(self._language._filters.functions)
+
+    def __len__(self) -> int:
+        return len(self._language._filters.functions)
+
+    def __repr__(self) -> str:
+        return repr(self._language._filters.functions)
 
 
 class Language(Owner):
@@ -25,8 +47,19 @@ class Language(Owner):
         for name, function in (filters or {}).items():
             self.add_filter(name, function)
 
-    def filter(self, name: str | None = None) -> Callable[[Called], Called]:
-        """Makes a filter of the function that follows, under this name or its own:
+    @property
+    def filters(self) -> Functions:
+        """The functions that are filters, to read and to add to."""
+        return Functions(self)
+
+    @overload
+    def filter(self, name: Called) -> Called: ...
+
+    @overload
+    def filter(self, name: str | None = None) -> Callable[[Called], Called]: ...
+
+    def filter(self, name: Any = None) -> Any:
+        """Makes a filter of the function that follows, under this name or its own, which needs no parentheses:
 
             >>> import bikleinu
             >>> language = bikleinu.Language()
@@ -36,6 +69,9 @@ class Language(Owner):
             >>> bikleinu.Template("{{ 1999 | money }}", language).render()
             '19.99 EUR'
         """
+
+        if callable(name):
+            return self.filter()(name)
 
         def add(function: Called) -> Called:
             self.add_filter(function.__name__ if name is None else name, function)
@@ -60,6 +96,9 @@ class Language(Owner):
 
     def __reduce__(self) -> Any:
         return _language, (self._jekyll, self._filters.functions)
+
+    def __repr__(self) -> str:
+        return f"<bikleinu.Language{', jekyll' if self._jekyll else ''}{listed(', filters', self.filters)}>"
 
 
 def _language(jekyll: bool, filters: Mapping[str, Function]) -> Language:

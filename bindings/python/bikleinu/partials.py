@@ -4,7 +4,7 @@ from __future__ import annotations
 import os
 import stat
 import warnings
-from collections.abc import Iterator, Mapping
+from collections.abc import Iterable, Iterator, Mapping
 from difflib import get_close_matches
 from typing import Any, Union
 from typing import Mapping as AnyMapping
@@ -39,17 +39,22 @@ class Partials(Shared):
         whole name counts before one that lost its suffix. What has a name that begins with a dot is passed over, and so is a link
         to a folder below this one. Anything else but a regular file, a link that leads out of the folder or nowhere, a file with a
         byte 0 and a name that isn't UTF-8 are left out, each with a warning."""
-        found = _Found(os.fspath(folder))
+        found = Found(os.fspath(folder))
         sources = {path: source for path, source in found.texts()}
-        stems = {stem: sources[path] for path in sources for stem in [_stem(path)] if stem}
+        stems = {stem: sources[path] for path in sources for stem in [stem_of(path)] if stem}
         for line in found.left_out:
             warnings.warn(line, stacklevel=2)
         return cls({**stems, **sources}, language)
 
     def insert(self, name: str, source: str) -> None:
         """Puts a template of this source at a name."""
-        template, text = Owner(), utf8(name)
+        template = Owner()
         parse(source, self._language, template, name)
+        self._take(name, source, template)
+
+    def _take(self, name: str, source: str, template: Owner) -> None:
+        """Puts a template, which was parsed of this source, at a name."""
+        text = utf8(name)
         with self._lock:
             answer = library.bikleinu_insert(self._handle, text, len(text), template._handle)
             if answer == SHARED_HANDLE:
@@ -75,15 +80,27 @@ class Partials(Shared):
         try:
             return self._sources[name]
         except KeyError:
-            similar = get_close_matches(name, self._sources, 1)
-            asked = f"; did you mean {similar[0]!r}?" if similar else ""
-            raise LookupError(f"no partial is named {name!r}{asked}") from None
+            raise self._unknown(name, self._sources) from None
+
+    @staticmethod
+    def _unknown(name: str, known: Iterable[str]) -> LookupError:
+        similar = get_close_matches(name, known, 1)
+        asked = f"; did you mean {similar[0]!r}?" if similar else ""
+        return LookupError(f"no partial is named {name!r}{asked}")
+
+    def _for(self, template: Any) -> Partials:
+        """Those of a page of a template."""
+        return self
+
+    def _explained(self, fault: LiquidError) -> LiquidError:
+        """The fault of a page with these partials, with what is known of it here."""
+        return fault
 
     def __reduce__(self) -> Any:
         return Partials, (self.sources, self._language)
 
 
-class _Found:
+class Found:
     """The files below a folder, and a line for each thing that is left out of it."""
 
     def __init__(self, folder: str) -> None:
@@ -93,7 +110,7 @@ class _Found:
 
     def texts(self) -> Iterator[tuple[str, str]]:
         """The paths of the files from the folder on, in their order, and their texts."""
-        for inner in sorted(self._files(""), key=os.fsencode):
+        for inner in self.paths():
             path = os.path.join(self._folder, inner)
             with open(path, "rb") as file:
                 text = file.read()
@@ -101,6 +118,10 @@ class _Found:
                 self._leave_out(path, "is no text: it has a byte 0")
             else:
                 yield inner, _decoded(path, text)
+
+    def paths(self) -> list[str]:
+        """The paths of the files from the folder on, in their order."""
+        return sorted(self._files(""), key=os.fsencode)
 
     def _files(self, inner: str) -> Iterator[str]:
         """The paths of the regular files, from the folder on."""
@@ -147,7 +168,12 @@ class _Found:
         return "" if is_below else "is a link that leads out of the folder"
 
     def _leave_out(self, path: str, why: str) -> None:
-        self.left_out.append(f"left out: {_shown(path)} {why}")
+        self.left_out.append(self.line(path, why))
+
+    @staticmethod
+    def line(path: str, why: str) -> str:
+        """What is reported of a path that is left out."""
+        return f"left out: {_shown(path)} {why}"
 
 
 def _shown(path: str) -> str:
@@ -180,7 +206,7 @@ def _decoded(path: str, text: bytes) -> str:
         raise LiquidError(NO_TEXT, "NoText", f"the file {path!r} is no UTF-8 in line {line}") from None
 
 
-def _stem(path: str) -> str:
+def stem_of(path: str) -> str:
     """The path without the suffix of its last part, where it has one."""
     folder, slash, last = path.rpartition("/")
     stem, dot, _ = last.rpartition(".")

@@ -8,7 +8,7 @@ from typing import Any, Optional
 
 from ._filters import Run, Table
 from ._library import Limits, library
-from ._owner import TEXT, Owner, Shared, checked, lent, made_by, part, whole
+from ._owner import TEXT, Owner, Shared, checked, lent, made_by, part, shown, whole
 from ._settings import Missing, Settings, missing_of
 from .data import Data, DataLike, data_of
 from .errors import MESSAGES, LiquidError
@@ -48,6 +48,9 @@ class Template(Shared):
         self._filters = language._filters if isinstance(language, Language) else None
         # what was found at last of names and of paths, for which partials, and how often these were changed until then
         self._known: dict[str, tuple[Owner | None, int, Shared]] = {}
+        # of a folder of partials: the names that are looked up, and those partials that are reached from there
+        self._names: Any = None
+        self._reached: Any = None
 
     @classmethod
     def _of(cls, source: str, language: Language | None, settings: Settings, maker: Any) -> Template:
@@ -60,6 +63,9 @@ class Template(Shared):
     def source(self) -> str:
         """What it was parsed from."""
         return self._source
+
+    def __repr__(self) -> str:
+        return f"<bikleinu.Template {shown(self._source)}>"
 
     def __reduce__(self) -> Any:
         return (self._maker, (self._source,)) if self._maker else (Template, (self._source, self._language))
@@ -83,24 +89,22 @@ class Template(Shared):
         that can't be read, for refused memory, and where the run could reach more levels than are allowed: 400, or as many as
         levels says.
 
-        With max_bytes the page may write so many bytes of UTF-8, captured texts too; with max_turns it may take so many turns: one
-        each time that a text, an output or a tag runs, one more for each filter, comparison, value of a when and pair of a partial
-        in it, and one for an empty body. The fault of a page that one of them ended is a LimitError.
+        With max_bytes the page may take so many bytes of UTF-8: those of each text that it writes or captures, each answer of a
+        filter and each assigned value, and 32 for each item and pair in these. With max_turns it may take so many turns: one each
+        time that a text, an output or a tag runs, one more for each filter, comparison, value of a when and pair of a partial in
+        it, and one for an empty body. The fault of a page that one of them ended is a LimitError.
 
-        What the data lack is a fault of a page that comes to it. With missing="nil" it is nil, wherever the template or a partial asks for
-        it (see paths); nil is put below no nil and no scalar, and into no map that a loop goes over or that is measured. A function as
-        missing is called with each name that is lacking in a mapping, and answers the value to take. What isn't said here is as the
-        template's Environment says, and else "fault"."""
+        What is missing is a fault of a page that comes to it. With missing="nil" it is nil: it writes nothing, and the page goes on. A
+        function as missing is called with each name that is lacking in a mapping, and answers the value to take; anything else that is
+        missing is a fault. What isn't said here is as the template's Environment says, and else "fault"."""
         usual = self._settings
         depth = whole("depth", usual.depth if depth is None else depth)
-        limits = _limits(usual.levels if levels is None else levels, usual.max_bytes if max_bytes is None else max_bytes,
-                         usual.max_turns if max_turns is None else max_turns)
-        others = self._others(partials)
         asked = usual.missing if missing is None else missing_of(missing)
+        limits = _limits(usual.levels if levels is None else levels, usual.max_bytes if max_bytes is None else max_bytes,
+                         usual.max_turns if max_turns is None else max_turns, asked)
+        others = self._others(partials)
         data = self._with_missing(data, names, others, asked) if callable(asked) else data
         read = data_of(data, names, usual.how)
-        if asked == "nil":
-            read = self._completed(read, others)
 
         def render(page: Owner, table: Table | None = None) -> int:
             with lent(self, read, others) as given:
@@ -111,9 +115,11 @@ class Template(Shared):
             return answer
 
         if self._filters and self._filters.functions:
-            return self._asking(render)
-        page = Owner()
-        return _shown(render(page), page)
+            page = self._asking(render)
+        else:
+            made = Owner()
+            page = _shown(render(made), made)
+        return Page(page.text, others._explained(page.fault)) if page.fault and isinstance(others, Partials) else page
 
     def _asking(self, render: Callable[[Owner, Table], int]) -> Page:
         """The page with the answers of filters in Python."""
@@ -136,7 +142,7 @@ class Template(Shared):
 
             >>> import bikleinu
             >>> bikleinu.Template("{% for p in products %}{{ p.title }}{% endfor %}").paths()
-            ['p.title', 'products[].title']
+            ['products[].title']
         """
         return self._texts_of("paths", partials)
 
@@ -154,7 +160,8 @@ class Template(Shared):
         return Data._of(data, self._settings.how, self._found("paths", self._others(partials)))
 
     def _others(self, partials: Others) -> Owner:
-        return partials_of(self._settings.partials if partials is None else partials)
+        others = partials_of(self._settings.partials if partials is None else partials)
+        return others._for(self) if isinstance(others, Partials) else others
 
     def _texts_of(self, what: str, partials: Others) -> list[str]:
         with lent(self._found(what, self._others(partials))) as (found,):
@@ -176,10 +183,6 @@ class Template(Shared):
         with lent(self._found("names", others)) as (found,):
             lacking = [name for name in _texts(found) if name not in names and name not in (data or ())]
         return {**(data or {}), **{name: missing(name) for name in lacking}}
-
-    def _completed(self, data: Owner, others: Owner) -> Owner:
-        """The data with nil where the template asks for what they lack."""
-        return made_by(library.bikleinu_complete, Owner(), data, self._found("paths", others))
 
     def render(
         self,
@@ -213,9 +216,10 @@ def _shown(answer: int, page: Owner) -> Page:
     return Page(text, page._error(answer, text=text) if answer else None)
 
 
-def _limits(levels: int | None, max_bytes: int | None, max_turns: int | None) -> Limits:
+def _limits(levels: int | None, max_bytes: int | None, max_turns: int | None, missing: Missing) -> Limits:
     return Limits(
         0 if levels is None else whole("levels", levels, 1),
+        1 if missing == "nil" else 0,
         ANY_NUMBER if max_bytes is None else whole("max_bytes", max_bytes, 0, ANY_NUMBER),
         ANY_NUMBER if max_turns is None else whole("max_turns", max_turns, 0, ANY_NUMBER),
     )

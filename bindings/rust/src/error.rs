@@ -76,7 +76,7 @@ pub enum Kind {
     NoText,
     /// A run that could reach more levels than are allowed.
     TooManyLevels,
-    /// The page is longer than [`Limits::max_bytes`](crate::Limits::max_bytes).
+    /// The page takes more bytes than [`Limits::max_bytes`](crate::Limits::max_bytes).
     BytesReached,
     /// The page ran more than [`Limits::max_turns`](crate::Limits::max_turns).
     TurnsReached,

@@ -11,18 +11,20 @@ pub(crate) struct Handle {
     at: *mut c_void,
 }
 
-/// What a run is allowed: 0 levels for as many as are usual, and the greatest number for any number of bytes or turns.
+/// What a run is allowed: 0 levels for as many as are usual, and the greatest number for any number of bytes or turns. A missing value is
+/// a fault by 0, and nil by 1.
 #[repr(C)]
 #[derive(Clone, Copy, Debug, PartialEq, Eq)]
 pub(crate) struct RawLimits {
     pub(crate) levels: u32,
+    pub(crate) missing: u32,
     pub(crate) bytes: u64,
     pub(crate) turns: u64,
 }
 
 impl Default for RawLimits {
     fn default() -> RawLimits {
-        RawLimits { levels: 0, bytes: u64::MAX, turns: u64::MAX }
+        RawLimits { levels: 0, missing: 0, bytes: u64::MAX, turns: u64::MAX }
     }
 }
 
@@ -44,7 +46,6 @@ extern "C" {
     pub(crate) fn bikleinu_register(language: *mut Handle, name: *const u8, length: usize, least: usize, most: usize) -> u32;
     pub(crate) fn bikleinu_names(template: *mut Handle, partials: *mut Handle, made: *mut Handle) -> u32;
     pub(crate) fn bikleinu_paths(template: *mut Handle, partials: *mut Handle, made: *mut Handle) -> u32;
-    pub(crate) fn bikleinu_complete(data: *mut Handle, paths: *mut Handle, made: *mut Handle) -> u32;
     pub(crate) fn bikleinu_data_for(json: *const u8, length: usize, paths: *mut Handle, made: *mut Handle) -> u32;
     pub(crate) fn bikleinu_share(handle: *mut Handle, made: *mut Handle) -> u32;
     pub(crate) fn bikleinu_answers(made: *mut Handle) -> u32;

@@ -60,8 +60,9 @@ impl Filters {
     }
 
     fn answer_all(&self, table: &mut Table, calls: &Owner, errors: &mut Errors) -> Result<(), LiquidError> {
-        let Some(Value::List(all)) = Reader::read(&calls.part(TEXT)?)? else {
-            return Err(LiquidError::new(LACKING, "Calls".to_owned(), "the calls can't be read".to_owned(), None));
+        let all = match Reader::read(&calls.part(TEXT)?)? {
+            Some(Value::List(all)) => all,
+            _ => return Err(LiquidError::new(LACKING, "Calls".to_owned(), "the calls can't be read".to_owned(), None)),
         };
         for (number, call) in all.iter().enumerate() {
             match self.answer(call).and_then(readable) {
@@ -78,11 +79,13 @@ impl Filters {
 
     /// The answer to a call, which is a list of the filter's name, the input and the arguments.
     fn answer(&self, call: &Value) -> Result<Value, FilterError> {
-        let Some([Value::Text(name), input, arguments @ ..]) = call.as_list() else {
-            return Err("a call that can't be read".into());
-        };
-        let function = self.0.get(name).ok_or("no such filter")?;
-        function(input, arguments)
+        match call.as_list() {
+            Some([Value::Text(name), input, arguments @ ..]) => {
+                let function = self.0.get(name).ok_or("no such filter")?;
+                function(input, arguments)
+            }
+            _ => Err("a call that can't be read".into()),
+        }
     }
 }
 

@@ -1,8 +1,7 @@
 //! Templates and their pages.
 use crate::error::{out_of_memory, LiquidError, MEMORY, NO_TEXT, TOO_MANY_LEVELS};
 use crate::ffi::{
-    bikleinu_complete, bikleinu_data_for, bikleinu_names, bikleinu_paths, bikleinu_render_with, bikleinu_render_within, Handle, Owner,
-    RawLimits, TEXT,
+    bikleinu_data_for, bikleinu_names, bikleinu_paths, bikleinu_render_with, bikleinu_render_within, Handle, Owner, RawLimits, TEXT,
 };
 use crate::filters::{Filters, Table};
 use crate::shared::{locked, Shared};
@@ -14,7 +13,7 @@ use std::sync::Mutex;
 /// How many partials may stand in one another where nothing is said.
 const USUAL_DEPTH: u32 = 32;
 
-/// What a run is allowed. By default it is what is usual: 400 levels, and any number of bytes and turns.
+/// What a run is allowed. By default it is what is usual: 400 levels, any number of bytes and turns, and no missing value.
 #[derive(Clone, Copy, Debug, Default, PartialEq, Eq)]
 pub struct Limits(RawLimits);
 
@@ -25,7 +24,8 @@ impl Limits {
         Limits(RawLimits { levels, ..self.0 })
     }
 
-    /// At most so many bytes, to the page and into the bodies of `capture` and `ifchanged`.
+    /// At most so many bytes: those of each text that the page writes, also into the body of a `capture` or an `ifchanged`, of each
+    /// answer of a filter and of each value that `assign` stores, and 32 for each item and pair in these.
     #[must_use]
     pub fn max_bytes(self, bytes: u64) -> Limits {
         Limits(RawLimits { bytes, ..self.0 })
@@ -36,6 +36,23 @@ impl Limits {
     #[must_use]
     pub fn max_turns(self, turns: u64) -> Limits {
         Limits(RawLimits { turns, ..self.0 })
+    }
+
+    /// What is missing is nil, and no fault: it writes nothing, and the page goes on.
+    ///
+    /// ```
+    /// use bikleinu::{Data, Language, Limits, Partials};
+    ///
+    /// let template = Language::new()?.parse("{% for p in products %}{{ p.title }};{% endfor %}")?;
+    /// let data = Data::from_json(r#"{"products": [{"title": "Tea"}, {}]}"#)?;
+    /// assert!(template.render_text(&data).is_err());
+    /// let limits = Limits::default().missing_is_nil();
+    /// assert_eq!(template.render_within(&data, &Partials::new()?, 32, limits)?.into_text()?, "Tea;;");
+    /// # Ok::<(), bikleinu::LiquidError>(())
+    /// ```
+    #[must_use]
+    pub fn missing_is_nil(self) -> Limits {
+        Limits(RawLimits { missing: 1, ..self.0 })
     }
 }
 
@@ -96,14 +113,11 @@ impl Template {
     /// What the template and these partials ask of data.
     ///
     /// ```
-    /// use bikleinu::{Data, Language, Partials};
+    /// use bikleinu::{Language, Partials};
     ///
     /// let template = Language::new()?.parse("{{ shop.name }}{% for p in products %}{{ p.title }};{% endfor %}")?;
     /// let paths = template.paths(&Partials::new()?)?;
-    /// assert_eq!(paths.texts(), ["p.title", "products[].title", "shop.name"]);
-    /// let data = Data::from_json(r#"{"products": [{"title": "Tea"}, {}]}"#)?;
-    /// assert!(template.render_text(&data).is_err());
-    /// assert_eq!(template.render_text(&data.completed(&paths)?)?, "Tea;;");
+    /// assert_eq!(paths.texts(), ["products[].title", "shop.name"]);
     /// # Ok::<(), bikleinu::LiquidError>(())
     /// ```
     ///
@@ -134,6 +148,15 @@ impl Template {
     /// The fault of the page, or as [`render`](Template::render).
     pub fn render_text(&self, data: &Data) -> Result<String, LiquidError> {
         self.render_by(data, Owner::new().at(), USUAL_DEPTH, Limits::default())?.into_text()
+    }
+
+    /// The whole text of the page over this data, with these partials, of which at most 32 may be nested.
+    ///
+    /// # Errors
+    ///
+    /// The fault of the page, or as [`render`](Template::render).
+    pub fn render_text_with(&self, data: &Data, partials: &Partials) -> Result<String, LiquidError> {
+        self.render(data, partials, USUAL_DEPTH)?.into_text()
     }
 
     /// As [`render`](Template::render), within limits: fewer levels for a smaller stack, or more for a larger one.
@@ -197,19 +220,6 @@ impl fmt::Debug for Paths {
 }
 
 impl Data {
-    /// A copy that has nil wherever the paths lead and this lacks a value, and an object where they lead on from there. What is there
-    /// stays: nothing is put below nil, a scalar or a list, and no member into an object that a loop goes over or that is measured.
-    ///
-    /// # Errors
-    ///
-    /// Refused memory.
-    pub fn completed(&self, paths: &Paths) -> Result<Data, LiquidError> {
-        let (lent, asked, made) = (self.0.lend()?, paths.owner.lend()?, Owner::new());
-        // SAFETY: the handles are owners', three of them.
-        let number = unsafe { bikleinu_complete(lent.at(), asked.at(), made.at()) };
-        made.settled(number).map(Data::of)
-    }
-
     /// As [`from_json`](Data::from_json), but no more is built than the paths ask for. Of a long text of which a template sees little that
     /// takes less time and memory. The page of a template and partials whose paths these are is the same as over all of the data, up to
     /// the words of a fault; another template may lack what it asks for.

@@ -14,6 +14,7 @@ fn a_template_renders_many_times() -> Result<(), LiquidError> {
     for (items, text) in [("[1,2]", "2,3,"), ("[]", ""), ("[40]", "41,")] {
         let data = Data::from_json(&format!("{{\"items\":{items}}}"))?;
         let page = template.render(&data, &partials, 32)?;
+        assert_eq!(template.render_text_with(&data, &partials)?, text);
         assert_eq!((page.text.as_str(), page.fault), (text, None));
     }
     Ok(())
@@ -125,20 +126,20 @@ fn eight_threads_over_one_template() -> Result<(), LiquidError> {
 }
 
 #[test]
-fn paths_and_what_the_data_lack() -> Result<(), LiquidError> {
+fn paths_and_what_is_missing() -> Result<(), LiquidError> {
     let language = Language::new()?;
     let mut partials = Partials::new()?;
     partials.insert("line", language.parse("{{ line.count }} of {{ line.tea }};")?)?;
     let template = language.parse("{{ a.b }}{% if c %}c{% endif %}{% for line in lines %}{% render 'line', line: line %}{% endfor %}")?;
     let paths = template.paths(&partials)?;
-    let wanted = ["a.b", "c?", "line.count", "line.tea", "lines[].count", "lines[].tea"];
+    let wanted = ["a.b", "c?", "lines[].count", "lines[].tea"];
     assert_eq!(paths.texts(), wanted);
     assert_eq!(format!("{paths:?}"), format!("{wanted:?}"));
     let data = Data::from_json(r#"{"lines": [{"count": 2}, {"tea": "Assam"}]}"#)?;
     assert_eq!(template.render(&data, &partials, 32)?.into_text().unwrap_err().kind(), Kind::UnknownVariable);
-    let completed = data.completed(&paths)?;
-    assert_eq!(template.render(&completed, &partials, 32)?.into_text()?, "2 of ; of Assam;");
-    assert_eq!(template.render(&Data::from_json(r#"{"a": null, "lines": []}"#)?.completed(&paths)?, &partials, 32)?.text, "");
+    let lenient = |data: &Data| template.render_within(data, &partials, 32, Limits::default().missing_is_nil())?.into_text();
+    assert_eq!(lenient(&data)?, "2 of ; of Assam;");
+    assert_eq!(lenient(&Data::from_json(r#"{"a": null, "lines": []}"#)?)?, "");
     Ok(())
 }
 

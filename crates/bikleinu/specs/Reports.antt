@@ -6,9 +6,9 @@
 --     ends_the_row n      so many in a row, that the merge ends
 use Rattle.std.specs.Prelude.{ℕ, ◌+◌, Bool, true, false, min, nat_le}
 use Rattle.std.specs.declared.io.ErrorKind.TheVariants.{PermissionDenied}
-use Rattle.liquid_disk.specs.Full.{refuses_every_file}
-use Rattle.liquid_disk.specs.declared.disk.DiskFault.{DiskFault}
-use Rattle.liquid_disk.specs.declared.disk.DiskFault.TheVariants.{Refused}
+use Rattle.liquid_files.specs.Full.{refuses_every_file}
+use Rattle.liquid_files.specs.declared.disk.DiskFault.{DiskFault}
+use Rattle.liquid_files.specs.declared.disk.DiskFault.TheVariants.{Refused}
 use Rattle.liquid_records.specs.declared.merge.Failure.TheVariants.{Unwritten}
 use Rattle.bikleinu.specs.declared.report.Report.{Report}
 use Rattle.bikleinu.specs.declared.report.Report.TheVariants.{NoFile}

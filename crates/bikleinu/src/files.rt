@@ -1,8 +1,6 @@
 //! The files that pages go into.
-use liquid_command_files::{Sources, Stop};
-use liquid_commands::{Inputs, MergeCall};
-use liquid_disk::{Bounds, DiskFault, PageFiles, SystemFiles, hidden_names};
-use liquid_excerpts::{Reason, ShownPath};
+use liquid_commands::{Inputs, MergeCall, Sources, Stop, TemplateWord};
+use liquid_files::{Bounds, DiskFault, PageFiles, Reason, ShownPath, SystemFiles, hidden_names};
 use liquid_records::Disk;
 use std::alloc::AllocError;
 use std::process;
@@ -106,7 +104,9 @@ fn keep_sources(
     inputs: &Inputs<'_>,
     sources: &Sources,
 ) -> Result<(), Stop> {
-    keep_source(rt, files, path_of(inputs.template))?;
+    if let TemplateWord::Path(path) = inputs.template {
+        keep_source(rt, files, path_of(path))?;
+    }
     for file in inputs.data.as_slice() {
         keep_source(rt, files, path_of(file.path))?;
     }

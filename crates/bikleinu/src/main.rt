@@ -4,23 +4,29 @@
 
 mod files;
 mod filters;
+mod host_merge;
 mod merge;
 mod parts;
 mod paths;
 mod progress;
+mod reach;
+mod records;
 mod render;
 mod report;
 mod target;
+mod tips;
 
 use crate::filters::language_with;
 use crate::merge::merge;
 use crate::paths::paths;
 use crate::render::render;
+use crate::tips::SetTips;
 use clap::ArgMatches;
 use clap::error::ErrorKind;
-use liquid_check_command::check;
-use liquid_command_files::Stop;
-use liquid_commands::{check_call, command_fault, merge_call, paths_call, program, render_call};
+use liquid_check::check;
+use liquid_commands::{
+    Stop, check_call, command_fault, merge_call, option_fault, paths_call, program, render_call,
+};
 use std::alloc::{AllocError, Global};
 use std::process::ExitCode;
 use std::{env, io};
@@ -45,14 +51,17 @@ fn run(rt: &HostRuntime) -> Result<(), Stop> {
 }
 
 /// What is wrong in the command line, with what to write where a file stands in the place of the
-/// command.
+/// command, or an option of another program in that of one of this.
 fn explained(alloc: Global, answer: clap::Error, words: &[String]) -> Result<clap::Error, Stop> {
-    if answer.kind() == ErrorKind::InvalidSubcommand {
-        if let Some(fault) = command_fault(alloc, words)? {
-            return Ok(fault);
-        }
+    let other = match answer.kind() {
+        ErrorKind::InvalidSubcommand => command_fault(alloc, words)?,
+        ErrorKind::UnknownArgument => option_fault(alloc, words)?,
+        _ => None,
+    };
+    match other {
+        Some(fault) => Ok(fault),
+        None => Ok(answer),
     }
-    Ok(answer)
 }
 
 /// Does what a command is called for.
@@ -69,7 +78,8 @@ fn run_command(rt: &HostRuntime, matches: &ArgMatches<'_>) -> Result<(), Stop> {
 /// Checks templates in the language of the filters that are asked for.
 fn checked(rt: &HostRuntime, given: &ArgMatches<'_>) -> Result<(), Stop> {
     let call = check_call(rt.alloc(), given)?;
-    check(rt, &call, &language_with(rt.alloc(), call.filters)?)
+    let language = language_with(rt.alloc(), call.filters)?;
+    check(rt, &call, &language, &SetTips)
 }
 
 /// Prints the help or the version that was asked for, or what is wrong in the command line.

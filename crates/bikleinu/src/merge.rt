@@ -1,26 +1,73 @@
 //! The command `merge`.
 use crate::files::record_files;
-use crate::parts::{read_parts, read_pattern};
+use crate::host_merge::merge_with;
+use crate::parts::{PageParts, read_parts, read_pattern};
 use crate::progress::Progress;
+use crate::records::{front_of, records_of, shown, unreadable};
 use crate::report::Report;
 use crate::target::{RecordOutcome, Target};
-use liquid_command_files::{Sources, Stop, called, form_of};
-use liquid_commands::{MergeCall, is_selected};
-use liquid_excerpts::{Reason, ShownPath};
-use liquid_records::{Job, Merge};
-use liquid_row_records::{HeadStop, Records};
-use std::alloc::AllocError;
+use crate::tips::Tips;
+use liquid_commands::{
+    MergeCall, RecordsFormat, Sources, Stop, Tip, form_of, is_selected, is_template_name, page_tip,
+    record_tip,
+};
+use liquid_core::{ErrorKind, HostFilters};
+use liquid_data::Records;
+use liquid_lib::Limits;
+use liquid_records::{Job, Merge, Why};
+use std::fs;
 use std::io::Read;
-use std::{fs, io};
 
 /// Writes the page of each record. A record's fault is printed, and stops no other: the merge ends
 /// where the disk takes no more files, where ten in a row are refused for want of permission, or
 /// where the records or standard output fail.
 pub fn merge(rt: &HostRuntime, call: &MergeCall<'_>) -> Result<(), Stop> {
-    let (sources, job) = read_parts(rt, &call.inputs)?.into_job();
+    let parts = match read_parts(rt, &call.inputs) {
+        Ok(parts) => parts,
+        Err(stop) => {
+            note_columns(rt, call, &stop);
+            return Err(stop);
+        }
+    };
+    merge_with(rt, call, parts)
+}
+
+/// The same with these parts, and with filters of a host.
+pub fn merge_by(
+    rt: &HostRuntime,
+    call: &MergeCall<'_>,
+    parts: PageParts,
+    host: HostFilters,
+) -> Result<(), Stop> {
+    let has_refusals = !parts.partials.refusals().is_empty();
+    let limits = Limits {
+        bytes: call.max_bytes,
+        turns: call.max_turns,
+    };
+    let (sources, job) = parts.into_job(host, call.missing, limits);
     let mut target = target_of(rt, call, &sources, job)?;
-    let run = Run { rt, call, sources };
+    let run = Run {
+        rt,
+        call,
+        sources,
+        has_refusals,
+    };
     run.merge_into(&mut target)
+}
+
+/// Reports a column that no template can write where the template has a fault: it may be that
+/// column's name. Standard input isn't read for it.
+fn note_columns(rt: &HostRuntime, call: &MergeCall<'_>, stop: &Stop) {
+    if call.records == "-" || !matches!(stop, Stop::Faulted) {
+        return;
+    }
+    let Ok(file) = fs::open(rt, call.records) else {
+        return;
+    };
+    let mut reader = file;
+    if let Ok(front) = front_of(rt, call, &mut reader) {
+        drop(records_of(rt, call, front, reader));
+    }
 }
 
 /// Where the pages of a merge go.
@@ -28,7 +75,7 @@ fn target_of<'r>(
     rt: &'r HostRuntime,
     call: &MergeCall<'_>,
     sources: &Sources,
-    job: Job,
+    job: Job<HostFilters>,
 ) -> Result<Target<'r>, Stop> {
     let Some(out) = call.out else {
         return Ok(Target::Output(job));
@@ -46,6 +93,8 @@ struct Run<'r> {
     rt: &'r HostRuntime,
     call: &'r MergeCall<'r>,
     sources: Sources,
+    /// Whether a partial is refused, so that one that isn't known may be given.
+    has_refusals: bool,
 }
 
 impl Run<'_> {
@@ -56,13 +105,15 @@ impl Run<'_> {
         }
         match fs::open(self.rt, self.call.records) {
             Ok(file) => self.all(target, file),
-            Err(refused) => Err(self.unreadable(refused.kind())),
+            Err(refused) => Err(unreadable(self.rt, self.call, refused.kind())),
         }
     }
 
     /// Merges the records that a reader gives.
     fn all<R: Read + Drop>(&self, target: &mut Target<'_>, reader: R) -> Result<(), Stop> {
-        let mut records = self.records(reader)?;
+        let mut reader = reader;
+        let front = front_of(self.rt, self.call, &mut reader)?;
+        let mut records = records_of(self.rt, self.call, front, reader)?;
         self.each(target, &mut records)
     }
 
@@ -74,15 +125,16 @@ impl Run<'_> {
         records: &mut Records<R>,
     ) -> Result<(), Stop> {
         let mut progress = Progress::new(self.rt, self.call.progress);
+        let mut tips = Tips::new();
         for _ in 0..u64::MAX {
             if !self.advance(records)? {
                 break;
             }
-            self.one(target, records, &mut progress)?;
+            self.one(target, records, &mut progress, &mut tips)?;
         }
         target.finish(self.rt.alloc())?;
         self.check_begun(records.number())?;
-        progress.end(self.rt)
+        progress.end(self.rt, self.call.is_quiet)
     }
 
     /// Refuses a `--from` past the last record, which is printed. Without one there may be no
@@ -92,33 +144,12 @@ impl Run<'_> {
         if from <= last.max(1) {
             return Ok(());
         }
-        let path = ShownPath {
-            path: called(self.call.records),
-        };
+        let path = shown(self.call);
         let _ = match last {
             0 => eprintln!(self.rt; "error: {path}: --from {from}: there are no records"),
             _ => eprintln!(self.rt; "error: {path}: --from {from}: the last record is {last}"),
         };
         Err(Stop::Faulted)
-    }
-
-    /// The records that a reader gives. A fault of their head is printed.
-    fn records<R: Read + Drop>(&self, reader: R) -> Result<Records<R>, Stop> {
-        if !self.call.in_csv {
-            return Ok(Records::lines(self.rt.alloc(), reader)?);
-        }
-        match Records::rows(self.rt.alloc(), reader) {
-            Ok(records) => Ok(records),
-            Err(HeadStop::Memory) => Err(Stop::from(AllocError)),
-            Err(HeadStop::Unreadable(kind)) => Err(self.unreadable(kind)),
-            Err(HeadStop::Faulted(fault)) => {
-                let path = ShownPath {
-                    path: called(self.call.records),
-                };
-                let _ = eprintln!(self.rt; "error: {path}: {fault}");
-                Err(Stop::Faulted)
-            }
-        }
     }
 
     /// Reads the next record that is asked for. Whether there is one.
@@ -128,7 +159,7 @@ impl Run<'_> {
             match records.advance() {
                 Ok(true) => {}
                 Ok(false) => return Ok(false),
-                Err(refused) => return Err(self.unreadable(refused.kind())),
+                Err(refused) => return Err(unreadable(self.rt, self.call, refused.kind())),
             }
             if records.number() >= *from {
                 return Ok(is_selected(records.number(), *from, *count));
@@ -143,6 +174,7 @@ impl Run<'_> {
         target: &mut Target<'_>,
         records: &Records<R>,
         progress: &mut Progress,
+        tips: &mut Tips,
     ) -> Result<(), Stop> {
         let number = records.number();
         let Err(report) = self.taken(target, records)? else {
@@ -150,6 +182,11 @@ impl Run<'_> {
             return Ok(());
         };
         report.print(self.rt, &self.sources, number, records.text());
+        if self.is_about_columns(&report, records) {
+            tips.print_columns(self.rt, records.columns());
+        } else {
+            tips.print(self.rt, self.tip_for(&report, number));
+        }
         if report.ends_merge() {
             return Err(Stop::Faulted);
         }
@@ -161,6 +198,43 @@ impl Run<'_> {
             return Err(Stop::Faulted);
         }
         Ok(())
+    }
+
+    /// Whether the first record may be no JSON because the file isn't what the call takes it for:
+    /// JSON by its name or by an option, or a template.
+    fn may_be_another_file(&self) -> bool {
+        matches!(self.call.format, Some(RecordsFormat::Lines))
+            || is_template_name(self.call.records)
+    }
+
+    /// Whether a page lacks a value that may be that of a column of another name.
+    fn is_about_columns<R: Read + Drop>(&self, report: &Report, records: &Records<R>) -> bool {
+        match report.why() {
+            Some(Why::Faulted(fault) | Why::Unnamed(fault)) => {
+                fault.kind == ErrorKind::UnknownVariable && !records.columns().is_empty()
+            }
+            _ => false,
+        }
+    }
+
+    /// The tip for a record that has no page.
+    fn tip_for(&self, report: &Report, number: u64) -> Option<Tip> {
+        match report.why()? {
+            Why::NoData(fault) => {
+                let forms = self.call.inputs.forms;
+                record_tip(
+                    fault.kind,
+                    self.call.records,
+                    forms.decimals_as_texts,
+                    number == 1 && self.may_be_another_file(),
+                )
+            }
+            Why::Faulted(fault) => match fault.kind {
+                ErrorKind::UnknownPartial if self.has_refusals => None,
+                kind => page_tip(kind, self.call.missing),
+            },
+            _ => None,
+        }
     }
 
     /// Takes one record: whether its page is there, or why not.
@@ -175,13 +249,5 @@ impl Run<'_> {
             Ok(Err(fault)) => Ok(Err(Report::from(fault))),
             Err(fault) => Ok(Err(Report::Fault(fault))),
         }
-    }
-
-    fn unreadable(&self, kind: io::ErrorKind) -> Stop {
-        Stop::unreadable(
-            self.rt.alloc(),
-            called(self.call.records),
-            Reason::from(kind),
-        )
     }
 }

@@ -2,14 +2,18 @@
 ghost use Rattle.std.specs.Prelude.{◌≡◌};
 
 use crate::filters::language_with;
-use liquid_command_files::{Source, Sources, Stop, print_fault, read_data};
-use liquid_commands::{Inputs, Missing};
-use liquid_completion::complete;
-use liquid_core::Object;
-use liquid_lib::{DEFAULT_DEPTH, Language, Partials, Template, language, parse_with_source};
+use crate::reach::partials_in_reach;
+use crate::tips::tip_for_source;
+use liquid_commands::{DataTexts, Inputs, Source, Sources, Stop, print_fault, print_tip};
+use liquid_core::{Missing, Object, Uses};
+use liquid_lib::{
+    DEFAULT_DEPTH, Language, Limits, Partials, Template, language, parse_with_source,
+};
 use liquid_records::Job;
-use liquid_uses::uses_of;
-use std::alloc::Global;
+use liquid_uses::data_uses;
+
+/// To find out what a node uses of the data takes about as long as to read some 200 bytes of it.
+const BYTES_FOR_A_NODE: usize = 4096;
 
 /// What pages are made of.
 pub struct PageParts {
@@ -32,79 +36,158 @@ impl Drop for PageParts {
     }
 }
 
-/// Reads the template, the data and the partials. A fault of one of them is printed.
-pub fn read_parts(rt: &HostRuntime, inputs: &Inputs<'_>) -> Result<PageParts, Stop> {
-    let language = language_with(rt.alloc(), inputs.filters)?;
-    parts_in(rt, inputs, &language)
+/// How much of the data is read.
+#[derive(Clone, Copy, Drop)]
+enum Reading {
+    Whole,
+    /// What the template uses, where there is much more data than template.
+    Used,
 }
 
-fn parts_in(rt: &HostRuntime, inputs: &Inputs<'_>, language: &Language) -> Result<PageParts, Stop> {
+/// What a page is made of, with its data as far as the template uses it.
+#[derive(Drop)]
+pub struct UsedParts<'c> {
+    pub parts: PageParts,
+    /// The texts of the data, where the data isn't whole.
+    pub texts: Option<DataTexts<'c>>,
+}
+
+impl UsedParts<'_> {
+    /// The parts with the whole data, and whether it wasn't whole before.
+    pub fn complete(&mut self, rt: &HostRuntime) -> Result<bool, Stop> {
+        let Some(texts) = self.texts.take() else {
+            return Ok(false);
+        };
+        self.parts.data = texts.data(rt, None)?;
+        Ok(true)
+    }
+}
+
+/// Reads the template, the data, and the partials that the template leads to. A fault of the
+/// template or of the data is printed; a partial that is refused counts where a page runs it.
+pub fn read_parts(rt: &HostRuntime, inputs: &Inputs<'_>) -> Result<PageParts, Stop> {
+    let UsedParts { parts, texts: _ } = parts_read(rt, inputs, Reading::Whole)?;
+    Ok(parts)
+}
+
+/// Reads the same, and where there is much data no more of it than the template uses: over it the
+/// page has the same text and the same end, and its fault is of the same kind, though not always in
+/// the same words. What a set of filters uses isn't known, so there the data is whole.
+pub fn read_used_parts<'c>(
+    rt: &HostRuntime,
+    inputs: &'c Inputs<'c>,
+) -> Result<UsedParts<'c>, Stop> {
+    let reading = match inputs.filters {
+        Some(_) => Reading::Whole,
+        None => Reading::Used,
+    };
+    parts_read(rt, inputs, reading)
+}
+
+/// The fault of the template comes first, then those of the data, then those of the partials. These
+/// are parsed before the data is read, so that it is known what is used of it.
+fn parts_read<'c>(
+    rt: &HostRuntime,
+    inputs: &'c Inputs<'c>,
+    reading: Reading,
+) -> Result<UsedParts<'c>, Stop> {
+    let language = language_with(rt.alloc(), inputs.filters)?;
     let mut sources = Sources::read(rt, inputs.template)?;
-    let template = parsed(rt, sources.template(), language)?;
-    let data = read_data(rt, &inputs.data, inputs.forms)?;
-    sources.read_partials(rt, &inputs.partials)?;
-    let partials = partials_of(rt, &sources, language)?;
-    Ok(PageParts {
-        sources,
-        template,
-        partials,
-        data,
+    let template = parsed(rt, sources.template(), &language)?;
+    let texts = DataTexts::read(rt, &inputs.data, &inputs.values, inputs.forms)?;
+    let partials = match partials_of(rt, inputs, &mut sources, &template, &language) {
+        Ok(partials) => partials,
+        Err(stop) => {
+            drop(texts.data(rt, None)?);
+            sources.print_left_out(rt);
+            return Err(stop);
+        }
+    };
+    let uses = uses_read(rt, reading, texts.bytes(), &template, &partials)?;
+    let data = texts.data(rt, uses.as_ref())?;
+    sources.print_left_out(rt);
+    Ok(UsedParts {
+        parts: PageParts {
+            sources,
+            template,
+            partials,
+            data,
+        },
+        texts: uses.is_some().then_some(texts),
     })
+}
+
+/// The partials that a template leads to.
+fn partials_of(
+    rt: &HostRuntime,
+    inputs: &Inputs<'_>,
+    sources: &mut Sources,
+    template: &Template,
+    language: &Language,
+) -> Result<Partials, Stop> {
+    sources.read_partials(rt, &inputs.partials)?;
+    partials_in_reach(rt, sources, template, language)
+}
+
+/// What the template uses of so many bytes of data, where no more is to be read and there are many
+/// bytes for each node of the templates: then to find it out takes little time beside reading.
+fn uses_read(
+    rt: &HostRuntime,
+    reading: Reading,
+    bytes: usize,
+    template: &Template,
+    partials: &Partials,
+) -> Result<Option<Uses>, Stop> {
+    let mut nodes = template.nodes().len();
+    for slot in partials.slots().values() {
+        if let Some(partial) = slot {
+            nodes = nodes.saturating_add(partial.nodes().len());
+        }
+    }
+    match reading {
+        Reading::Used if bytes / BYTES_FOR_A_NODE >= nodes => {
+            Ok(Some(data_uses(rt.alloc(), template, partials)?))
+        }
+        _ => Ok(None),
+    }
 }
 
 /// The template of a source. Its fault is printed.
 fn parsed(rt: &HostRuntime, source: &Source, language: &Language) -> Result<Template, Stop> {
-    match parse_with_source(rt.alloc(), source.text.as_str(), language) {
+    let text = source.text.as_str();
+    match parse_with_source(rt.alloc(), text, language) {
         Ok(template) => Ok(template),
         Err(fault) => {
-            print_fault(rt, source.path.as_str(), &fault, Some(source.text.as_str()));
+            print_fault(rt, source.path.as_str(), &fault, Some(text));
+            print_tip(rt, tip_for_source(rt.alloc(), text, &fault));
             Err(Stop::Faulted)
         }
     }
 }
 
-/// The templates of the partials by their names. The fault of one is printed.
-fn partials_of(rt: &HostRuntime, sources: &Sources, language: &Language) -> Result<Partials, Stop> {
-    let mut partials = Partials::new(rt.alloc());
-    for (name, place) in sources.names() {
-        if let Some(source) = sources.partial_at(*place) {
-            let template = parsed(rt, source, language)?;
-            partials.insert(String::from_str(rt.alloc(), name.as_str())?, template)?;
+/// The template of the names of files, in the standard language. Its fault is printed.
+pub fn read_pattern(rt: &HostRuntime, pattern: &str) -> Result<Template, Stop> {
+    match parse_with_source(rt.alloc(), pattern, &language(rt.alloc())?) {
+        Ok(template) => Ok(template),
+        Err(fault) => {
+            print_fault(rt, "--out", &fault, Some(pattern));
+            Err(Stop::Faulted)
         }
     }
-    Ok(partials)
-}
-
-/// The template of the names of files. Its fault is printed.
-pub fn read_pattern(rt: &HostRuntime, pattern: &str) -> Result<Template, Stop> {
-    let source = Source {
-        path: String::from_str(rt.alloc(), "--out")?,
-        text: String::from_str(rt.alloc(), pattern)?,
-    };
-    parsed(rt, &source, &language(rt.alloc())?)
 }
 
 impl PageParts {
-    /// Puts nil into the data where they lack what the template asks for, unless that is a fault.
-    pub fn complete(&mut self, alloc: Global, missing: Missing) -> Result<(), Stop>
-        ensures template { self.new.template ≡ self.old.template }
-        ensures partials { self.new.partials ≡ self.old.partials }
-        ensures strict { missing ≡ Missing.Fault → self.new.«data» ≡ self.old.«data» }
-    {
-        if let Missing::Nil = missing {
-            let uses = uses_of(alloc, &self.template, &self.partials)?;
-            complete(alloc, &mut self.data, &uses)?;
-        }
-        Ok(())
-    }
-
-    /// The sources, and a job of the others, in which partials nest as deep as they may by default.
-    pub fn into_job(self) -> (Sources, Job)
+    /// The sources, and a job of the others with filters of a host, in which partials nest as deep
+    /// as they may by default.
+    pub fn into_job<H>(self, host: H, missing: Missing, limits: Limits) -> (Sources, Job<H>)
         ensures sources { result.0 ≡ self.sources }
         ensures template { result.1.template ≡ self.template }
         ensures partials { result.1.partials ≡ self.partials }
         ensures shared { result.1.shared ≡ self.«data» }
         ensures depth { result.1.depth ≡ 32 }
+        ensures host { result.1.host ≡ host }
+        ensures missing { result.1.missing ≡ missing }
+        ensures limits { result.1.limits ≡ limits }
     {
         let PageParts {
             sources,
@@ -116,6 +199,9 @@ impl PageParts {
             template,
             partials,
             depth: DEFAULT_DEPTH,
+            host,
+            missing,
+            limits,
             shared: data,
         };
         (sources, job)

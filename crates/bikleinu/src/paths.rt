@@ -1,16 +1,20 @@
 //! The command `paths`.
 use crate::parts::read_parts;
-use liquid_command_files::{Stop, print_text};
-use liquid_commands::{PathsCall, PathsFormat};
+use crate::reach::print_refusals;
+use liquid_commands::{PathsCall, PathsFormat, Stop, print_text};
 use liquid_core::Uses;
 use liquid_json::schema_of;
-use liquid_uses::{paths_of, uses_of};
+use liquid_uses::{data_uses, paths_of};
 use std::alloc::Global;
 
-/// Prints what a template asks of its data.
+/// Prints what a template asks of its data. What a partial that is refused would ask isn't known:
+/// its fault is printed, and no path.
 pub fn paths(rt: &HostRuntime, call: &PathsCall<'_>) -> Result<(), Stop> {
     let parts = read_parts(rt, &call.inputs)?;
-    let uses = uses_of(rt.alloc(), &parts.template, &parts.partials)?;
+    if print_refusals(rt, &parts.sources, &parts.partials) {
+        return Err(Stop::Faulted);
+    }
+    let uses = data_uses(rt.alloc(), &parts.template, &parts.partials)?;
     let text = match call.format {
         PathsFormat::Text => lines_of(rt.alloc(), &uses)?,
         PathsFormat::JsonSchema => schema_of(rt.alloc(), &uses)?,

@@ -1,9 +1,9 @@
 //! How far a merge is.
 ghost use Rattle.std.specs.Prelude.{◌≡◌, ◌+◌, ◌<◌, min, IfErr, IfOk};
 ghost use Rattle.bikleinu.specs.Reports.{ends_the_row, in_a_row};
-ghost use Rattle.liquid_command_files.specs.declared.stop.Stop.TheVariants.{Faulted};
+ghost use Rattle.liquid_commands.specs.declared.stop.Stop.TheVariants.{Faulted};
 
-use liquid_command_files::Stop;
+use liquid_commands::Stop;
 use std::time::Instant;
 
 /// The most records in a row whose files are refused for want of permission.
@@ -98,13 +98,15 @@ impl Progress {
         }
     }
 
-    /// Prints the counts. A merge in which a record failed isn't done.
-    pub fn end(&self, rt: &HostRuntime) -> Result<(), Stop>
+    /// Prints the counts, unless they are left out. A merge in which a record failed isn't done.
+    pub fn end(&self, rt: &HostRuntime, is_quiet: bool) -> Result<(), Stop>
         ensures done { IfOk result (λ _. self.now.failed ≡ 0) }
         ensures failed { IfErr result (λ stop. (stop ≡ Faulted) × (0 < self.now.failed)) }
     {
         let (pages, failed) = (self.pages, self.failed);
-        let _ = eprintln!(rt; "pages {pages}, failed {failed}");
+        if !is_quiet {
+            let _ = eprintln!(rt; "pages {pages}, failed {failed}");
+        }
         if failed == 0 {
             Ok(())
         } else {

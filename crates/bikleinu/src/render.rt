@@ -1,18 +1,59 @@
 //! The command `render`.
+ghost use Rattle.std.specs.Prelude.{◌≡◌};
+
 use crate::files::{SystemPages, page_file, unwritten};
 use crate::filters::page_with;
-use crate::parts::{PageParts, read_parts};
-use liquid_command_files::{Sources, Stop, end_line, print_text};
-use liquid_commands::RenderCall;
-use liquid_lib::{LimitReached, LimitedPage, Limits, Page};
+use crate::parts::{PageParts, UsedParts, read_used_parts};
+use crate::reach::{print_refusal, refusal_of, tip_for_refusal};
+use liquid_commands::{RenderCall, Sources, Stop, end_line, page_tip, print_text, print_tip};
+use liquid_core::Error;
+use liquid_lib::{DEFAULT_DEPTH, LimitReached, LimitedPage, Limits, Page, Surroundings};
+use std::mem;
 
 /// Writes the page of a template. A page that ends by a fault goes to standard output up to there,
-/// and into no file.
+/// and into no file. What was read isn't taken apart, so its memory stays until the program ends.
 pub fn render(rt: &HostRuntime, call: &RenderCall<'_>) -> Result<(), Stop> {
-    let mut parts = read_parts(rt, &call.inputs)?;
-    parts.complete(rt.alloc(), call.missing)?;
-    let limits = limits_of(call);
-    let shown = page_with(rt.alloc(), call.inputs.filters, &parts, limits)?;
+    let mut read = read_used_parts(rt, &call.inputs)?;
+    let answer = match page_of(rt, call, &mut read) {
+        Ok(page) => write_page(rt, call, &read.parts, page),
+        Err(stop) => Err(stop),
+    };
+    mem::forget(read);
+    answer
+}
+
+/// The page, over the whole data where it has a fault: what a message says may be in a part of the
+/// data that the template doesn't use.
+fn page_of(
+    rt: &HostRuntime,
+    call: &RenderCall<'_>,
+    read: &mut UsedParts<'_>,
+) -> Result<LimitedPage, Stop> {
+    let shown = page_over(rt, call, &read.parts)?;
+    if shown.page.fault.is_some() && shown.limit.is_none() && read.complete(rt)? {
+        return page_over(rt, call, &read.parts);
+    }
+    Ok(shown)
+}
+
+/// The page over the data as it was read.
+fn page_over(
+    rt: &HostRuntime,
+    call: &RenderCall<'_>,
+    parts: &PageParts,
+) -> Result<LimitedPage, Stop> {
+    let inputs = &call.inputs;
+    let around = surroundings(parts, call);
+    Ok(page_with(rt.alloc(), inputs.filters, inputs.assets, parts, around)?)
+}
+
+/// Writes what was rendered, and prints the fault that it ended by.
+fn write_page(
+    rt: &HostRuntime,
+    call: &RenderCall<'_>,
+    parts: &PageParts,
+    shown: LimitedPage,
+) -> Result<(), Stop> {
     let LimitedPage { page, limit } = shown;
     let Page { text, fault } = page;
     if call.out.is_none() {
@@ -22,23 +63,50 @@ pub fn render(rt: &HostRuntime, call: &RenderCall<'_>) -> Result<(), Stop> {
         }
     }
     if let Some(limit) = limit {
-        print_limit(rt, &parts.sources, limit, limits);
+        print_limit(rt, &parts.sources, limit, call);
         return Err(Stop::Faulted);
     }
     if let Some(fault) = &fault {
-        parts.sources.print_page_fault(rt, fault);
+        print_end(rt, call, parts, fault);
         return Err(Stop::Faulted);
     }
     match call.out {
-        Some(path) => put_page(rt, call, &parts, path, text.as_str()),
+        Some(path) => put_page(rt, call, parts, path, text.as_str()),
         None => Ok(()),
     }
 }
 
-fn limits_of(call: &RenderCall<'_>) -> Limits {
-    Limits {
-        bytes: call.max_bytes,
-        turns: call.max_turns,
+/// Prints the fault that a page ended by, after that of the refused partial that it ended at.
+fn print_end(rt: &HostRuntime, call: &RenderCall<'_>, parts: &PageParts, fault: &Error) {
+    let sources = &parts.sources;
+    let tip = match refusal_of(rt.alloc(), &parts.partials, fault) {
+        Some((name, refusal)) => {
+            print_refusal(rt, sources, name, refusal);
+            tip_for_refusal(rt.alloc(), sources, name, refusal)
+        }
+        None => page_tip(fault.kind, call.missing),
+    };
+    sources.print_page_fault(rt, fault);
+    print_tip(rt, tip);
+}
+
+/// What the template is rendered with beside its data: partials nest as deep as they may by
+/// default.
+fn surroundings<'p>(parts: &'p PageParts, call: &RenderCall<'_>) -> Surroundings<'p>
+    ensures partials { result.partials.now ≡ parts.now.partials }
+    ensures depth { result.depth ≡ 32 }
+    ensures missing { result.missing ≡ call.now.missing }
+    ensures bytes { result.limits.bytes ≡ call.now.max_bytes }
+    ensures turns { result.limits.turns ≡ call.now.max_turns }
+{
+    Surroundings {
+        partials: &parts.partials,
+        depth: DEFAULT_DEPTH,
+        missing: call.missing,
+        limits: Limits {
+            bytes: call.max_bytes,
+            turns: call.max_turns,
+        },
     }
 }
 
@@ -62,15 +130,15 @@ fn put_page(
 }
 
 /// Prints which limit ended a page.
-fn print_limit(rt: &HostRuntime, sources: &Sources, limit: LimitReached, limits: Limits) {
+fn print_limit(rt: &HostRuntime, sources: &Sources, limit: LimitReached, call: &RenderCall<'_>) {
     let path = sources.template_path();
     let _ = match limit {
         LimitReached::Bytes => {
-            let most = limits.bytes.unwrap_or(0);
-            eprintln!(rt; "error: {path}: the page has more text than --max-bytes allows, {most}")
+            let most = call.max_bytes.unwrap_or(0);
+            eprintln!(rt; "error: {path}: the page takes more than --max-bytes allows, {most}")
         }
         LimitReached::Turns => {
-            let most = limits.turns.unwrap_or(0);
+            let most = call.max_turns.unwrap_or(0);
             eprintln!(rt; "error: {path}: the page runs more than --max-turns allows, {most}")
         }
     };

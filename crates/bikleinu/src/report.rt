@@ -3,12 +3,12 @@ ghost use Rattle.std.specs.Prelude.{◌≡◌};
 ghost use Rattle.bikleinu.specs.Reports.{ends_merge, is_forbidden, lacks_permission};
 ghost use Rattle.bikleinu.specs.Reports.{takes_no_file};
 
-use liquid_command_files::{Sources, print_excerpt};
+use liquid_commands::{Sources, print_excerpt};
 use liquid_core::Error;
-use liquid_disk::{DiskFault, refuses_every_file};
-use liquid_excerpts::{ShownFault, system_words, unwritten_words};
+use liquid_data::{ListFault, RecordFault, RowFault};
+use liquid_files::{DiskFault, ShownFault, refuses_every_file, system_words, unwritten_words};
+use liquid_lib::LimitReached;
 use liquid_records::{Failure, Why};
-use liquid_row_records::{RecordFault, RowFault};
 use std::{fmt, io};
 
 /// Why a record has no page, or none in a file.
@@ -17,6 +17,8 @@ pub enum Report {
     NotUtf8,
     /// Its row is no record.
     NoRow(RowFault),
+    /// Its list has a fault there.
+    NoItem(ListFault),
     /// There is no page.
     NoPage(Why),
     /// The page is in no file.
@@ -30,7 +32,7 @@ pub enum Report {
 impl Drop for Report {
     fn drop(self) {
         match self {
-            Report::NotUtf8 | Report::NoRow(_) | Report::NoPage(_) => {}
+            Report::NotUtf8 | Report::NoRow(_) | Report::NoItem(_) | Report::NoPage(_) => {}
             Report::NoFile(_) | Report::Fault(_) => {}
         }
     }
@@ -41,6 +43,7 @@ impl From<RecordFault> for Report {
         match fault {
             RecordFault::NotUtf8 => Report::NotUtf8,
             RecordFault::NoRow(fault) => Report::NoRow(fault),
+            RecordFault::NoItem(fault) => Report::NoItem(fault),
             RecordFault::NoData(fault) => Report::NoPage(Why::NoData(fault)),
         }
     }
@@ -67,16 +70,22 @@ impl Report {
         }
     }
 
+    /// Why there is no page, where that is so.
+    pub fn why(&self) -> Option<&Why> {
+        match self {
+            Report::NoPage(why) | Report::NoFile(Failure::NoPage(why)) => Some(why),
+            _ => None,
+        }
+    }
+
     /// Prints it in one line on standard error, and the line of the text that a fault is in. What
     /// that refuses is lost.
     pub fn print(&self, rt: &HostRuntime, sources: &Sources, number: u64, text: &str) {
         let _ = eprintln!(rt; "error: record {number}: {self}");
-        if let Report::NoPage(why) | Report::NoFile(Failure::NoPage(why)) = self {
-            match why {
-                Why::NoData(fault) => print_excerpt(rt, fault, Some(text)),
-                Why::Faulted(fault) => sources.print_excerpt_of(rt, fault),
-                _ => {}
-            }
+        match self.why() {
+            Some(Why::NoData(fault)) => print_excerpt(rt, fault, Some(text)),
+            Some(Why::Faulted(fault)) => sources.print_excerpt_of(rt, fault),
+            _ => {}
         }
     }
 }
@@ -104,9 +113,13 @@ fn lacks_permission(fault: &DiskFault) -> bool
 /// What follows the number of the record.
 impl fmt::Display for Report {
     fn fmt<W: fmt::Write>(&self, f: &mut fmt::Formatter<W>) -> fmt::Result {
+        if let Some(Why::Limited(reached)) = self.why() {
+            return f.write_str(limit_words(*reached));
+        }
         match self {
             Report::NotUtf8 => f.write_str("its line isn't UTF-8"),
             Report::NoRow(fault) => write!(f, "{fault}"),
+            Report::NoItem(fault) => write!(f, "{fault}"),
             Report::NoPage(why) => write!(f, "{why}"),
             Report::Fault(fault) => {
                 let fault = ShownFault { fault };
@@ -117,6 +130,14 @@ impl fmt::Display for Report {
                 _ => write!(f, "{failure}"),
             },
         }
+    }
+}
+
+/// What is said of a page that a limit ended.
+fn limit_words(reached: LimitReached) -> &'static str {
+    match reached {
+        LimitReached::Bytes => "its page takes more than --max-bytes allows",
+        LimitReached::Turns => "its page runs more than --max-turns allows",
     }
 }
 

@@ -3,11 +3,11 @@ ghost use Rattle.std.specs.Prelude.{◌≡◌};
 
 use crate::files::{Nowhere, SystemPages};
 use crate::report::Report;
-use liquid_command_files::{Stop, print_text};
-use liquid_core::Result as Answer;
-use liquid_excerpts::ShownName;
+use liquid_commands::{Stop, print_text};
+use liquid_core::{HostFilters, Result as Answer};
+use liquid_data::RecordData;
+use liquid_files::ShownName;
 use liquid_records::{Disk, Fate, Job, Made, Merge, RecordResult};
-use liquid_row_records::RecordData;
 use std::alloc::Global;
 
 /// Whether a record's page is there, or why not.
@@ -18,9 +18,9 @@ pub enum Target<'r> {
     /// Each into the file of its name.
     Files(FileMerge<'r>),
     /// Nowhere: the names of the files are printed.
-    Names(Merge),
+    Names(Merge<HostFilters>),
     /// All to standard output.
-    Output(Job),
+    Output(Job<HostFilters>),
 }
 
 /// Drops what it holds. Written by hand, so that each early return drops the value by one call
@@ -36,7 +36,7 @@ impl Drop for Target<'_> {
 /// A merge, and the files that its pages go into.
 #[derive(Drop)]
 pub struct FileMerge<'r> {
-    merge: Merge,
+    merge: Merge<HostFilters>,
     files: SystemPages<'r>,
 }
 
@@ -57,14 +57,14 @@ impl FileMerge<'_> {
 
 impl<'r> Target<'r> {
     /// The names of a merge's files alone: a dry run writes no file.
-    pub fn names(merge: Merge) -> Target<'r>
+    pub fn names(merge: Merge<HostFilters>) -> Target<'r>
         ensures { result ≡ Target.Names merge }
     {
         Target::Names(merge)
     }
 
     /// The files of a merge.
-    pub fn files(merge: Merge, files: SystemPages<'r>) -> Target<'r> {
+    pub fn files(merge: Merge<HostFilters>, files: SystemPages<'r>) -> Target<'r> {
         Target::Files(FileMerge { merge, files })
     }
 
@@ -98,7 +98,7 @@ impl<'r> Target<'r> {
 /// A record that a merge takes.
 fn merged<D: Disk>(
     alloc: Global,
-    merge: &mut Merge,
+    merge: &mut Merge<HostFilters>,
     number: usize,
     data: RecordData<'_>,
     disk: &mut D,
@@ -110,7 +110,11 @@ fn merged<D: Disk>(
 }
 
 /// A record whose page goes into no file.
-fn made(alloc: Global, job: &mut Job, data: RecordData<'_>) -> Answer<RecordResult<Made>> {
+fn made(
+    alloc: Global,
+    job: &mut Job<HostFilters>,
+    data: RecordData<'_>,
+) -> Answer<RecordResult<Made>> {
     match data {
         RecordData::Text(text) => job.make_page_of_json(alloc, text, None),
         RecordData::Data(data) => job.make_page(alloc, data, None),

@@ -5,11 +5,13 @@ use Rattle.std.specs.Prelude.{slice_get}
 use Rattle.std.specs.Ordering.{on}
 use Rattle.std.specs.List.{AllByRecursion}
 use Rattle.std.specs.List.Sorted.{IsStrictlySortedBy}
+use Rattle.liquid_model.specs.Data.{array}
 use Rattle.liquid_model.specs.Order.{order}
 use Rattle.liquid_model.specs.OrderLaws.{order_total}
 use Rattle.liquid_model.specs.View.{items_view, view}
 use Rattle.liquid_model.specs.declared.value.Value.{Value}
-use Rattle.liquid_jekyll_host_filters.specs.Json.{json_list}
+use Rattle.json.specs.Print.{print_from}
+use Rattle.liquid_json.specs.JsonTexts.{json_text}
 use Rattle.liquid_answers.specs.Lacking.{AreLackingCalls, all_but_last}
 use Rattle.liquid_answers.specs.Tables.{answer_at}
 use Rattle.liquid_answers.specs.declared.answers.Answers.{Answers}
@@ -52,13 +54,13 @@ front_snoc (x ∷ []) c = refl
 front_snoc (x ∷ y ∷ ys) c = ap (λ zs. x ∷ zs) (front_snoc (y ∷ ys) c)
 
 -- one more is listed
-pub lacking_calls_more : (table : Answers) (cs : List Value) (c : Value) → AreLackingCalls table cs → length cs < 1000 → length (json_list (items_view cs)) ≤ 1048576
+pub lacking_calls_more : (table : Answers) (cs : List Value) (c : Value) → AreLackingCalls table cs → length cs < 1000 → length (json_text (array (items_view cs))) ≤ 1048576
     → ((last : Value) → slice_get cs (length cs - 1) ≡ Some last → by_view last c ≡ Less) → answer_at table (view c) ≡ None → AreLackingCalls table (cs ++ c ∷ [])
 lacking_calls_more table cs c are few short after lacks = record {
   lacking = all_snoc (λ call. answer_at table (view call) ≡ None) cs c are.lacking lacks;
   once = sorted_snoc cs c are.once (λ last n e is. after last (subst (λ m. slice_get cs m ≡ Some last) (one_less (length cs) n e) is));
   few = subst (λ n. n ≤ 1000) (sym (length-append cs (c ∷ []))) (less (length cs) few);
-  short = subst (λ front. length (json_list (items_view front)) ≤ 1048576) (sym (front_snoc cs c)) short;
+  short = subst (λ front. length (json_text (array (items_view front))) ≤ 1048576) (sym (front_snoc cs c)) short;
 }
 
 brackets : 2 ≤ 1048576
@@ -66,5 +68,5 @@ brackets = omega arith
 
 -- none is listed
 pub lacking_calls_none : (table : Answers) → AreLackingCalls table []
-unfolding IsStrictlySortedBy
+unfolding IsStrictlySortedBy print_from
 lacking_calls_none table = record { lacking = tt; once = tt; few = omega arith; short = brackets }

@@ -3,6 +3,7 @@ use Rattle.std.specs.Prelude.{ℕ, List, false, ⊤}
 use Rattle.liquid_model.specs.Data.{Datum}
 use Rattle.liquid_model.specs.Maps.{Map}
 use Rattle.liquid_model.specs.Texts.{Text}
+use Rattle.liquid_core.specs.declared.missing_value.Missing.{Missing}
 use Rattle.liquid_evaluation.specs.Tree.{Nodes}
 use Rattle.liquid_engine.specs.HostedPages.{EndsOtherwise, hosted_page}
 use Rattle.liquid_engine.specs.LimitedPages.{PageWithin}
@@ -14,11 +15,13 @@ use Rattle.liquid_answers.specs.declared.answered_page.Answered.TheVariants as a
 
 -- The page over the table's answers. It doesn't end by `Memory`, as it would at a call that the
 -- table lacks, so the run met none. Or calls that the table lacks.
-abbrev pub IsAnswered : Answers → ℕ → List (Text × Nodes) → Map Datum → Nodes → Answered → Type 0
-IsAnswered table depth partials «data» nodes (answered.Page p) =
-    PageWithin (hosted_page (answers_by false table) depth partials «data» nodes) p
+abbrev pub IsAnswered : Answers → Missing → ℕ → List (Text × Nodes) → Map Datum → Nodes → Answered
+    → Type 0
+IsAnswered table missing depth partials «data» nodes (answered.Page p) =
+    PageWithin (hosted_page missing (answers_by false table) depth partials «data» nodes) p
     × EndsOtherwise p.page
-IsAnswered table depth partials «data» nodes (answered.Lacking calls) = IsLacking table calls
+IsAnswered table missing depth partials «data» nodes (answered.Lacking calls) =
+    IsLacking table calls
 
 -- where calls are listed, all but the last have at most 1 MiB in JSON
 abbrev pub IsShort : Answered → Type 0

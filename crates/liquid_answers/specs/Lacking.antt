@@ -7,7 +7,7 @@ use Rattle.liquid_model.specs.Data.{array}
 use Rattle.liquid_model.specs.Order.{order}
 use Rattle.liquid_model.specs.View.{items_view, view}
 use Rattle.liquid_model.specs.declared.value.Value.{Value}
-use Rattle.liquid_jekyll_host_filters.specs.Json.{json_list, json_text}
+use Rattle.liquid_json.specs.JsonTexts.{json_text}
 use Rattle.liquid_answers.specs.Tables.{answer_at}
 use Rattle.liquid_answers.specs.declared.answers.Answers.{Answers}
 use Rattle.liquid_answers.specs.declared.lacking.Lacking.{Lacking}
@@ -19,7 +19,7 @@ all_but_last (c ∷ d ∷ ds) = c ∷ all_but_last (d ∷ ds)
 
 -- in JSON all but the last have at most 1 MiB
 abbrev pub AreShort : List Value → Type 0
-AreShort calls = length (json_list (items_view (all_but_last calls))) ≤ 1048576
+AreShort calls = length (json_text (array (items_view (all_but_last calls)))) ≤ 1048576
 
 -- the table lacks each, none is there twice, they are at most 1,000, and short
 pub record AreLackingCalls (table : Answers) (calls : List Value) : Type 0 where

@@ -15,7 +15,7 @@ use Rattle.liquid_model.specs.declared.error.ErrorKind.{ErrorKind}
 use Rattle.liquid_model.specs.declared.error.ErrorKind.TheVariants.{InvalidInput, Memory}
 use Rattle.liquid_model.specs.declared.error.ErrorKind.TheVariants.{Unsupported}
 use Rattle.liquid_model.specs.declared.value.Value.{Value}
-use Rattle.liquid_filter_base.specs.FilterAnswers.{FilterAnswer}
+use Rattle.liquid_model.specs.FilterAnswers.{FilterAnswer}
 use Rattle.liquid_answers.specs.declared.answers.Answer.{Answer}
 use Rattle.liquid_answers.specs.declared.answers.Answer.TheVariants as kept
 use Rattle.liquid_answers.specs.declared.answers.Answers.{Answers}

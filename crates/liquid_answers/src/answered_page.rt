@@ -38,8 +38,9 @@ pub fn render_page_answered(
     around: Surroundings<'_>,
     data: &Object,
 ) -> Result<Answered>
-    ensures answered { IfOk result (IsAnswered table.now around.entry.depth
-        (partials_of around.entry.partials.now) (held «data».now) (tree_of template.now)) }
+    ensures answered { IfOk result (IsAnswered table.now around.entry.missing
+        around.entry.depth (partials_of around.entry.partials.now) (held «data».now)
+        (tree_of template.now)) }
     ensures bytes { IfOk result IsShort }
     ensures memory { IfErr result (λ e. e.kind ≡ ErrorKind.Memory) }
 {

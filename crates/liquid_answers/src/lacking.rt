@@ -2,16 +2,16 @@
 ghost use Rattle.std.specs.Prelude.{◌≡◌, ◌==◌, ◌<◌, ◌++◌, ◌∷◌, [], IfErr, IfOk, IsTrue, None};
 ghost use Rattle.std.specs.Prelude.{length, option_map, slice_get, string_bytes};
 ghost use Rattle.liquid_model.specs.View.{view};
-ghost use Rattle.liquid_jekyll_host_filters.specs.Json.{json_text};
+ghost use Rattle.liquid_json.specs.JsonTexts.{json_text};
 ghost use Rattle.liquid_answers.specs.Lacking.{IsLacking, calls_in};
 ghost use Rattle.liquid_answers.specs.Tables.{answer_at};
 ghost use Rattle.liquid_answers.specs.declared.answers.Answers.{Answers};
 ghost use Rattle.liquid_answers.specs.inside.Listed.{AreListed, IsAfter, IsNone, comma_after};
 
 use crate::answers::Answers;
-use crate::json::json_of;
 use crate::missing_calls::{MOST_BYTES, MOST_CALLS, MissingCalls};
 use liquid_core::{ErrorKind, Result, Value};
+use liquid_json::json_of;
 use std::alloc::Global;
 
 /// Calls that a table lacks: at least one, and each once.
@@ -146,7 +146,6 @@ fn is_after(calls: &[Value], call: &Value) -> bool
 }
 
 /// The calls that are listed, of which there is one, with their text.
-#[tactic(auto, using(crate::proofs::Listed::lacking_listed))]
 pub(crate) fn lacking_of(listed: Listed) -> Result<Lacking>
     ensures lacking { (table : Answers) → AreListed table listed →
         0 < length listed.calls.items → IfOk result (IsLacking table) }

@@ -5,11 +5,9 @@
 mod answered_page;
 mod answers;
 mod filter;
-mod json;
 mod lacking;
 mod missing_calls;
 
 pub use answered_page::{Answered, render_page_answered};
 pub use answers::{Answer, Answers};
-pub use json::json_of;
 pub use lacking::Lacking;

@@ -1,43 +1,41 @@
 -- Data that are read as far as uses ask show the pages of the whole.
-use Rattle.std.proofs.Common.{◌≡◌, ℕ, List, Ok, refl, subst}
+use Rattle.std.proofs.Common.{◌≡◌, ℕ, List, Ok, subst}
 use Rattle.liquid_model.specs.Data.{Pairs}
 use Rattle.liquid_model.specs.Skipping.{AlikeKeys}
 use Rattle.liquid_model.specs.Texts.{Text}
 use Rattle.liquid_model.specs.UseViews.{uses_view}
 use Rattle.liquid_model.specs.View.{pairs_view}
-use Rattle.liquid_model.proofs.Alike.{alike_same}
-use Rattle.liquid_filter_base.specs.FilterAnswers.{FilterAnswer}
+use Rattle.liquid_model.specs.FilterAnswers.{FilterAnswer}
 use Rattle.liquid_core.specs.Held.{Outer, map_of}
 use Rattle.liquid_core.specs.Hosts.{no_host}
+use Rattle.liquid_core.specs.declared.missing_value.Missing.{Missing}
 use Rattle.liquid_evaluation.specs.Tree.{Nodes}
 use Rattle.liquid_json.specs.Asked.{IsAlikeData}
 use Rattle.liquid_json.specs.Json.{data_of}
 use Rattle.liquid_engine.specs.HostedPages.{hosted_page}
-use Rattle.liquid_engine.specs.Pages.{fault_of, new_run_environment, page_over}
+use Rattle.liquid_engine.specs.Pages.{fault_of, page_in}
 use Rattle.liquid_syntax.specs.Templates.{partials_of}
 use Rattle.liquid_syntax.specs.declared.partials.Partials.{Partials}
-use Rattle.liquid_uses.specs.Covered.{SeesAlone}
+use Rattle.liquid_uses.specs.Covered.{SeesDataAlone}
 use Rattle.liquid_c.specs.Asked.{Covers, UsesByName}
 use Rattle.liquid_c.specs.DataFor.{IsReadFor, ReadsFor, SamePages}
 use Rattle.liquid_c.specs.declared.content.Content.TheVariants as content
 
 -- a run sees no more of its data than was read
-hosted_same : (uses : UsesByName) (p : Partials) (nodes : Nodes) (ps qs : Pairs) → AlikeKeys (uses_view uses) ps qs → SeesAlone (uses_view uses) p nodes
-    → (named : Text → FilterAnswer) (depth : ℕ) → hosted_page named depth (partials_of p) (map_of ps) nodes ≡ hosted_page named depth (partials_of p) (map_of qs) nodes
+hosted_same : (uses : UsesByName) (p : Partials) (nodes : Nodes) (ps qs : Pairs) → AlikeKeys (uses_view uses) ps qs → SeesDataAlone (uses_view uses) p nodes
+    → (missing : Missing) (named : Text → FilterAnswer) (depth : ℕ) → hosted_page missing named depth (partials_of p) (map_of ps) nodes ≡ hosted_page missing named depth (partials_of p) (map_of qs) nodes
 unfolding map_of hosted_page
-hosted_same uses p nodes ps qs alike alone named depth =
-    let U = uses_view uses in
-    let runs = alone named depth (new_run_environment (map_of ps)) (new_run_environment (map_of qs))
-    (record { local = λ name. alike_same (U name) _; assigned = λ name. alike_same (U name) _; counters = λ name. alike_same (U name) _; globals = alike; registers = refl }) in
-    λ i. record { text = runs.text i; fault = fault_of (runs.end i) }
+hosted_same uses p nodes ps qs alike alone missing named depth =
+    let runs = alone named depth missing ps qs alike in
+    λ i. record { text = runs.0 i; fault = fault_of (runs.1 i) }
 
 -- without filters of a host it is the page where each name stands for none
-page_same : (uses : UsesByName) (p : Partials) (nodes : Nodes) (ps qs : Pairs) → AlikeKeys (uses_view uses) ps qs → SeesAlone (uses_view uses) p nodes
-    → (depth : ℕ) → page_over depth (partials_of p) (map_of ps) nodes ≡ page_over depth (partials_of p) (map_of qs) nodes
-unfolding page_over hosted_page
-page_same uses p nodes ps qs alike alone depth = hosted_same uses p nodes ps qs alike alone no_host depth
+page_same : (uses : UsesByName) (p : Partials) (nodes : Nodes) (ps qs : Pairs) → AlikeKeys (uses_view uses) ps qs → SeesDataAlone (uses_view uses) p nodes
+    → (missing : Missing) (depth : ℕ) → page_in missing depth (partials_of p) (map_of ps) nodes ≡ page_in missing depth (partials_of p) (map_of qs) nodes
+unfolding page_in hosted_page
+page_same uses p nodes ps qs alike alone missing depth = hosted_same uses p nodes ps qs alike alone missing no_host depth
 
-same_pages : (uses : UsesByName) (nodes : Nodes) (ps qs : Pairs) → AlikeKeys (uses_view uses) ps qs → (p : Partials) → SeesAlone (uses_view uses) p nodes → SamePages (partials_of p) nodes ps qs
+same_pages : (uses : UsesByName) (nodes : Nodes) (ps qs : Pairs) → AlikeKeys (uses_view uses) ps qs → (p : Partials) → SeesDataAlone (uses_view uses) p nodes → SamePages (partials_of p) nodes ps qs
 same_pages uses nodes ps qs alike p alone = record {
   page = page_same uses p nodes ps qs alike alone;
   hosted = hosted_same uses p nodes ps qs alike alone;

@@ -1,23 +1,22 @@
--- What a template asks of its data, and data that are completed with it.
+-- What a template asks of its data.
 use Rattle.std.specs.Prelude.{◌≡◌, List, Option, Some, None, Result, Ok, Err, String, map}
 use Rattle.std.specs.Prelude.{string_bytes}
 use Rattle.std.specs.BTreeMap.{BTreeMap}
 use Rattle.std.specs.BTreeSet.{BTreeSet, keys}
 use Rattle.std.specs.declared.alloc.Global.{Global}
-use Rattle.liquid_model.specs.Data.{Pairs, no_pairs, array, text}
+use Rattle.liquid_model.specs.Data.{array, text}
 use Rattle.liquid_model.specs.Texts.{Text}
 use Rattle.liquid_model.specs.UseViews.{members_view, uses_view}
-use Rattle.liquid_model.specs.View.{items_of, pairs_view}
+use Rattle.liquid_model.specs.View.{items_of}
 use Rattle.liquid_model.specs.declared.error.ErrorKind.TheVariants.{Memory}
 use Rattle.liquid_model.specs.declared.uses.Use.{Use}
-use Rattle.liquid_completion.specs.Completed.{completed_pairs}
 use Rattle.liquid_evaluation.specs.Names.{mentioned}
 use Rattle.liquid_evaluation.specs.Tree.{Nodes}
-use Rattle.liquid_jekyll_host_filters.specs.Json.{json_text}
+use Rattle.liquid_json.specs.JsonTexts.{json_text}
 use Rattle.liquid_syntax.specs.NameSets.{mentioned_in_set as held_names}
 use Rattle.liquid_syntax.specs.Templates.{partials_of, tree_of}
 use Rattle.liquid_syntax.specs.declared.partials.Partials.{Partials}
-use Rattle.liquid_uses.specs.Covered.{SeesAlone}
+use Rattle.liquid_uses.specs.Covered.{SeesDataAlone}
 use Rattle.liquid_uses.specs.Paths.{paths_in}
 use Rattle.liquid_c.specs.Calls.{partials_of_handle}
 use Rattle.liquid_c.specs.declared.content.Content.{Content}
@@ -39,7 +38,7 @@ pub record Covers (partials : List (Text × Nodes)) (nodes : Nodes) (uses : Uses
   where
     pub over : Partials
     pub same : partials_of over ≡ partials
-    pub alone : SeesAlone (uses_view uses) over nodes
+    pub alone : SeesDataAlone (uses_view uses) over nodes
 
 -- such uses, with their paths;  or memory ran out
 abbrev pub TellsPaths : List (Text × Nodes) → Nodes → Result Content Refusal → Type 0
@@ -56,27 +55,3 @@ abbrev pub IsAsking : Option Content → Option Content → Result Content Refus
 IsAsking (Some (content.Template t levels)) partials answer =
     PathsOver (partials_of_handle partials) (tree_of t) answer
 IsAsking _ partials answer = answer ≡ Err OtherHandle
-
--- ---- data with what is asked of them
-
--- the data in a handle, which is empty where the handle holds nothing
-abbrev pub pairs_of_handle : Option Content → Option Pairs
-pairs_of_handle None = Some no_pairs
-pairs_of_handle (Some (content.Data d)) = Some (pairs_view d.entries)
-pairs_of_handle (Some _) = None
-
--- a copy of the data, completed;  or memory ran out
-abbrev pub Completes : UsesByName → Pairs → Result Content Refusal → Type 0
-Completes uses ps (Ok (content.Data d)) =
-    pairs_view d.entries ≡ completed_pairs (members_view uses.entries) ps
-Completes uses ps (Ok (content.Fault e)) = e.kind ≡ Memory
-Completes uses ps _ = ⊥
-
-abbrev pub CompletesAny : UsesByName → Option Pairs → Result Content Refusal → Type 0
-CompletesAny uses (Some ps) answer = Completes uses ps answer
-CompletesAny uses None answer = answer ≡ Err OtherHandle
-
-abbrev pub IsCompletion : Option Content → Option Content → Result Content Refusal → Type 0
-IsCompletion «data» (Some (content.Paths uses it)) answer =
-    CompletesAny uses (pairs_of_handle «data») answer
-IsCompletion «data» _ answer = answer ≡ Err OtherHandle

@@ -1,6 +1,7 @@
 -- What calls make of what their handles hold.
 use Rattle.std.specs.Prelude.{◌≡◌, ◌⊎◌, ℕ, ◌-◌, ◌^◌, List, [], Option, Some, None, Result, Ok, Err}
 use Rattle.std.specs.Prelude.{Bool, not, ◌&&◌, MatchBool, ⊤, if◌then◌else◌, nat_eq, nat_lt}
+use Rattle.std.specs.Prelude.{option_map}
 use Rattle.std.specs.Str.{IsUtf8}
 use Rattle.liquid_model.specs.Answer.{Faulted}
 use Rattle.liquid_model.specs.Data.{Datum}
@@ -10,16 +11,19 @@ use Rattle.liquid_model.specs.ErrorKinds.{is_memory, number_of}
 use Rattle.liquid_model.specs.View.{pairs_view}
 use Rattle.liquid_model.specs.declared.error.ErrorKind.TheVariants.{Memory, Write}
 use Rattle.liquid_core.specs.Held.{held as map_held}
+use Rattle.liquid_core.specs.declared.missing_value.Missing.{Missing}
+use Rattle.liquid_core.specs.declared.missing_value.Missing.TheVariants.{IsFault, IsNil}
 use Rattle.liquid_evaluation.specs.Tree.{Nodes}
 use Rattle.liquid_language.specs.Entries.{put_entry}
 use Rattle.liquid_parser.specs.Parsing.{IsOnlyTree, HasNoTree, MayRefuse}
 use Rattle.liquid_syntax.specs.Templates.{template_nodes, tree_of, partials_of}
-use Rattle.liquid_language.specs.declared.language.Language.{Language}
+use Rattle.liquid_language.specs.declared.registry.Language.{Language}
 use Rattle.liquid_syntax.specs.declared.partials.Partials.{Partials}
 use Rattle.liquid_syntax.specs.declared.template.Template.{Template}
 use Rattle.liquid_engine.specs.LimitedPages.{IsPrefixOf}
-use Rattle.liquid_engine.specs.Pages.{page_over, page_view}
-use Rattle.liquid_tags.specs.Standard.{IsStandard}
+use Rattle.liquid_engine.specs.Pages.{page_by, page_view, strict_setting}
+use Rattle.liquid_engine.specs.declared.run_setting.RunSetting.{RunSetting}
+use Rattle.liquid_language.specs.Standard.{IsStandard}
 use Rattle.liquid_json.specs.Json.{data_of}
 use Rattle.liquid_c.specs.Levels.{levels_in, no_levels, greater_of, most_levels}
 use Rattle.liquid_c.specs.Numbers.{number_of_refusal}
@@ -29,8 +33,10 @@ use Rattle.liquid_c.specs.declared.levels.TemplateLevels.{TemplateLevels}
 use Rattle.liquid_c.specs.declared.handle_content.HandleContent.{HandleContent}
 use Rattle.liquid_c.specs.declared.handle_content.HandleContent.TheVariants.{Own, Shared}
 use Rattle.liquid_c.specs.declared.refusal.Refusal.{Refusal}
+use Rattle.liquid_c.specs.declared.render.Allowed.{Allowed}
+use Rattle.liquid_c.specs.declared.render.RenderLimits.{RenderLimits}
 use Rattle.liquid_c.specs.declared.refusal.Refusal.TheVariants.{SharedHandle, NoText, OtherHandle}
-use Rattle.liquid_c.specs.declared.refusal.Refusal.TheVariants.{TooManyLevels}
+use Rattle.liquid_c.specs.declared.refusal.Refusal.TheVariants.{TooManyLevels, NoSuchMissing}
 
 -- the standard language, or memory ran out
 abbrev pub IsLanguage : Result Content Refusal → Type 0
@@ -89,20 +95,20 @@ levels_of_handle (Some (content.Partials p levels)) = levels
 levels_of_handle _ = no_levels
 
 -- the page of these nodes, unless memory ran out
-abbrev pub ShowsNodes : Nodes → ℕ → Map Datum → List (Text × Nodes)
+abbrev pub ShowsNodes : Nodes → RunSetting → Map Datum → List (Text × Nodes)
     → Result Content Refusal → Type 0
-ShowsNodes nodes depth «data» partials (Ok (content.Page p)) =
-    page_view p ≡ page_over depth partials «data» nodes
-ShowsNodes nodes depth «data» partials (Ok (content.Fault e)) = e.kind ≡ Memory
-ShowsNodes nodes depth «data» partials _ = ⊥
+ShowsNodes nodes setting «data» partials (Ok (content.Page p)) =
+    page_view p ≡ page_by setting partials «data» nodes
+ShowsNodes nodes setting «data» partials (Ok (content.Fault e)) = e.kind ≡ Memory
+ShowsNodes nodes setting «data» partials _ = ⊥
 
 -- the same, or a beginning of its text where a limit ended it
-abbrev pub ShowsWithin : Nodes → ℕ → Map Datum → List (Text × Nodes)
+abbrev pub ShowsWithin : Nodes → RunSetting → Map Datum → List (Text × Nodes)
     → Result Content Refusal → Type 0
-ShowsWithin nodes depth «data» partials (Ok (content.Ended p limit)) =
+ShowsWithin nodes setting «data» partials (Ok (content.Ended p limit)) =
     ((page_view p).fault ≡ Some Write)
-    × IsPrefixOf (page_view p).text (page_over depth partials «data» nodes).text
-ShowsWithin nodes depth «data» partials answer = ShowsNodes nodes depth «data» partials answer
+    × IsPrefixOf (page_view p).text (page_by setting partials «data» nodes).text
+ShowsWithin nodes setting «data» partials answer = ShowsNodes nodes setting «data» partials answer
 
 -- R holds where data and partials are there, and else the call can't be
 abbrev pub OfBoth : Option (Map Datum) → Option (List (Text × Nodes))
@@ -113,13 +119,13 @@ OfBoth None _ R answer = answer ≡ Err OtherHandle
 OfBoth (Some «data») None R answer = answer ≡ Err OtherHandle
 
 -- a run that could reach too many levels isn't begun, and any other shows its page
-abbrev pub ShowsUnless : Bool → Bool → Nodes → ℕ → Map Datum → List (Text × Nodes)
+abbrev pub ShowsUnless : Bool → Bool → Nodes → RunSetting → Map Datum → List (Text × Nodes)
     → Result Content Refusal → Type 0
-ShowsUnless is_deep is_limited nodes depth «data» partials answer =
+ShowsUnless is_deep is_limited nodes setting «data» partials answer =
     MatchBool is_deep (answer ≡ Err TooManyLevels)
     (MatchBool is_limited
-    (ShowsWithin nodes depth «data» partials answer)
-    (ShowsNodes nodes depth «data» partials answer))
+    (ShowsWithin nodes setting «data» partials answer)
+    (ShowsNodes nodes setting «data» partials answer))
 
 -- what stands for no limit on bytes, or on turns: the greatest number of 64 bits
 abbrev pub any_number : ℕ
@@ -129,14 +135,15 @@ any_number = 2 ^ 64 - 1
 abbrev pub has_limit : ℕ → ℕ → Bool
 has_limit bytes turns = not (nat_eq bytes any_number && nat_eq turns any_number)
 
-abbrev pub IsRendering : ℕ → Bool → Option Content → Option Content → Option Content → ℕ
+abbrev pub IsRendering : Option Content → Option Content → Option Content → Allowed
     → Result Content Refusal → Type 0
-IsRendering bound is_limited (Some (content.Template t levels)) «data» partials depth answer =
+IsRendering (Some (content.Template t levels)) «data» partials allowed answer =
     OfBoth (data_of_handle «data») (partials_of_handle partials)
-    (ShowsUnless (nat_lt bound (most_levels depth levels (levels_of_handle partials)))
-    is_limited (tree_of t) depth)
+    (ShowsUnless
+    (nat_lt allowed.levels (most_levels allowed.setting.depth levels (levels_of_handle partials)))
+    (has_limit allowed.bytes allowed.turns) (tree_of t) allowed.setting)
     answer
-IsRendering bound is_limited _ «data» partials depth answer = answer ≡ Err OtherHandle
+IsRendering _ «data» partials allowed answer = answer ≡ Err OtherHandle
 
 -- the bound where a caller sets none
 abbrev pub usual_levels : ℕ
@@ -144,6 +151,35 @@ usual_levels = 400
 
 abbrev pub bound_of : ℕ → ℕ
 bound_of asked = if nat_eq asked 0 then usual_levels else asked
+
+-- what becomes of a missing value: a fault by 0, and nil by 1
+abbrev pub missing_numbered : ℕ → Option Missing
+missing_numbered asked = if nat_eq asked 0 then Some IsFault
+    else (if nat_eq asked 1 then Some IsNil else None)
+
+-- what a run may do where its caller sets nothing but the depth
+abbrev pub usually_allowed : ℕ → Allowed
+usually_allowed depth = record {
+  setting = strict_setting depth;
+  levels = usual_levels;
+  bytes = any_number;
+  turns = any_number;
+}
+
+-- what a run may do by these limits, where their number says something of missing values
+abbrev pub allowed_by_limits : ℕ → RenderLimits → Option Allowed
+allowed_by_limits depth limits = option_map (λ missing. record {
+  setting = record { depth = depth; missing = missing };
+  levels = bound_of limits.levels;
+  bytes = limits.bytes;
+  turns = limits.turns;
+}) (missing_numbered limits.missing)
+
+-- R holds of what a run may do, where that is known, and else the call can't be
+abbrev pub WhereAllowed : Option Allowed → (Allowed → Result Content Refusal → Type 0)
+    → Result Content Refusal → Type 0
+WhereAllowed (Some allowed) R answer = R allowed answer
+WhereAllowed None R answer = answer ≡ Err NoSuchMissing
 
 -- ---- a partial put in
 

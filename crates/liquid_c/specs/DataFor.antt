@@ -7,12 +7,13 @@ use Rattle.liquid_model.specs.Skipping.{AlikeKeys}
 use Rattle.liquid_model.specs.Texts.{Text}
 use Rattle.liquid_model.specs.UseViews.{uses_view}
 use Rattle.liquid_model.specs.View.{pairs_view}
-use Rattle.liquid_filter_base.specs.FilterAnswers.{FilterAnswer}
+use Rattle.liquid_model.specs.FilterAnswers.{FilterAnswer}
 use Rattle.liquid_core.specs.Held.{map_of}
+use Rattle.liquid_core.specs.declared.missing_value.Missing.{Missing}
 use Rattle.liquid_evaluation.specs.Tree.{Nodes}
 use Rattle.liquid_json.specs.Json.{data_of}
 use Rattle.liquid_engine.specs.HostedPages.{hosted_page}
-use Rattle.liquid_engine.specs.Pages.{page_over}
+use Rattle.liquid_engine.specs.Pages.{page_in}
 use Rattle.liquid_c.specs.Asked.{Covers, UsesByName}
 use Rattle.liquid_c.specs.Calls.{ForUtf8Text}
 use Rattle.liquid_c.specs.declared.content.Content.{Content}
@@ -20,14 +21,16 @@ use Rattle.liquid_c.specs.declared.content.Content.TheVariants as content
 use Rattle.liquid_c.specs.declared.refusal.Refusal.{Refusal}
 use Rattle.liquid_c.specs.declared.refusal.Refusal.TheVariants.{OtherHandle}
 
--- the page over the one data is that over the other, also with filters of a host
+-- the page over the one data is that over the other, whatever becomes of a missing value, also
+-- with filters of a host
 pub record SamePages (partials : List (Text × Nodes)) (nodes : Nodes) (whole read : Pairs) : Type 0
   where
-    pub page : (depth : ℕ) → page_over depth partials (map_of whole) nodes
-        ≡ page_over depth partials (map_of read) nodes
-    pub hosted : (named : Text → FilterAnswer) (depth : ℕ) →
-        hosted_page named depth partials (map_of whole) nodes
-        ≡ hosted_page named depth partials (map_of read) nodes
+    pub page : (missing : Missing) (depth : ℕ) →
+        page_in missing depth partials (map_of whole) nodes
+        ≡ page_in missing depth partials (map_of read) nodes
+    pub hosted : (missing : Missing) (named : Text → FilterAnswer) (depth : ℕ) →
+        hosted_page missing named depth partials (map_of whole) nodes
+        ≡ hosted_page missing named depth partials (map_of read) nodes
 
 -- the data are alike in what the uses ask, and each template with partials whose runs see no more
 -- shows the same pages over both

@@ -1,5 +1,6 @@
 -- Languages that differ from the standard one.
 use Rattle.std.specs.Prelude.{◌≡◌, ◌⊎◌, ℕ, List, [], Option, Some, None, Result, Ok, Err, codes}
+use Rattle.std.specs.Prelude.{true}
 use Rattle.std.specs.Str.{IsUtf8}
 use Rattle.liquid_model.specs.ErrorKinds.{number_of}
 use Rattle.liquid_model.specs.Maps.{insert, listed}
@@ -7,14 +8,15 @@ use Rattle.liquid_model.specs.Texts.{Text}
 use Rattle.liquid_model.specs.declared.error.ErrorKind.TheVariants.{Memory}
 use Rattle.liquid_core.specs.Environment.{bind_each}
 use Rattle.liquid_filters.specs.declared.kind.FilterKind.TheVariants.{JekyllSort}
+use Rattle.liquid_language.specs.HostTags.{numbers_of}
 use Rattle.liquid_language.specs.Languages.{kinds_of}
 use Rattle.liquid_language.specs.Registered.{registered_in}
-use Rattle.liquid_language.specs.declared.language.Language.{Language}
-use Rattle.liquid_language.specs.declared.language.TagKind.TheVariants.{JekyllInclude}
+use Rattle.liquid_language.specs.declared.registry.Language.{Language}
+use Rattle.liquid_language.specs.declared.registry.TagKind.TheVariants.{JekyllInclude}
 use Rattle.liquid_language.specs.declared.registered_filter.RegisteredFilter.TheVariants.{Host}
 use Rattle.liquid_language.specs.declared.registered_filter.RegisteredFilter.TheVariants.{Kind}
-use Rattle.liquid_tags.specs.Standard.{standard_tags, standard_blocks, standard_filters}
-use Rattle.liquid_tags.specs.Standard.{with_filters}
+use Rattle.liquid_language.specs.Standard.{standard_tags, standard_blocks, standard_filters}
+use Rattle.liquid_language.specs.Standard.{with_filters}
 use Rattle.liquid_c.specs.Numbers.{number_of_refusal}
 use Rattle.liquid_c.specs.declared.content.Content.{Content}
 use Rattle.liquid_c.specs.declared.content.Content.TheVariants as content
@@ -23,7 +25,7 @@ use Rattle.liquid_c.specs.declared.handle_content.HandleContent.TheVariants.{Own
 use Rattle.liquid_c.specs.declared.refusal.Refusal.{Refusal}
 use Rattle.liquid_c.specs.declared.refusal.Refusal.TheVariants.{SharedHandle, NoText, OtherHandle}
 
--- the standard language with Jekyll's `include` and `sort`
+-- the standard language with Jekyll's `include`, which takes a path, and `sort`
 pub record WithIncludeAndSort (l : Language) : Type 0 where
   pub tags : listed (kinds_of l.tags) ≡
       insert (bind_each standard_tags (listed [])) (codes "include") JekyllInclude
@@ -31,6 +33,8 @@ pub record WithIncludeAndSort (l : Language) : Type 0 where
   pub filters : listed (registered_in l.filters) ≡
       insert (with_filters (listed []) standard_filters) (codes "sort")
       (Kind JekyllSort)
+  pub include_paths : l.include_paths ≡ true
+  pub host_tags : numbers_of l.host_tags ≡ []
 
 -- that language, or memory ran out
 abbrev pub MakesIncludeAndSort : Result Content Refusal → Type 0
@@ -43,12 +47,14 @@ MakesIncludeAndSort _ = ⊥
 -- the new language has it at the name, with these numbers of arguments, and is else the old one
 abbrev pub IsWith : Text → ℕ → ℕ → Language → Language → Type 0
 IsWith name least most old new = (new.tags ≡ old.tags) × (new.blocks ≡ old.blocks)
+    × (new.host_tags ≡ old.host_tags) × (new.include_paths ≡ old.include_paths)
     × (listed (registered_in new.filters) ≡
     insert (listed (registered_in old.filters)) name (Host least most))
 
 -- the language is as it was
 abbrev pub IsSameLanguage : Language → Language → Type 0
 IsSameLanguage old new = (new.tags ≡ old.tags) × (new.blocks ≡ old.blocks)
+    × (new.host_tags ≡ old.host_tags) × (new.include_paths ≡ old.include_paths)
     × (registered_in new.filters ≡ registered_in old.filters)
 
 abbrev pub HoldsLanguage : (Language → Type 0) → Option HandleContent → Type 0

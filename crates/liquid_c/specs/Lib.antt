@@ -1,4 +1,5 @@
 pub mod Asked
+pub mod CalledNames
 pub mod Calls
 pub mod DataFor
 pub mod Hosted

@@ -7,7 +7,7 @@ use Rattle.liquid_model.specs.Data.{array, text}
 use Rattle.liquid_model.specs.Texts.{Text}
 use Rattle.liquid_model.specs.View.{items_of}
 use Rattle.liquid_model.specs.declared.error.ErrorKind.TheVariants.{Memory}
-use Rattle.liquid_jekyll_host_filters.specs.Json.{json_text}
+use Rattle.liquid_json.specs.JsonTexts.{json_text}
 use Rattle.liquid_evaluation.specs.Names.{mentioned, run_names}
 use Rattle.liquid_evaluation.specs.Tree.{Nodes}
 use Rattle.liquid_syntax.specs.NameSets.{mentioned_in_set as held_names}

@@ -6,9 +6,9 @@ use Rattle.std.specs.declared.alloc.Global.{Global}
 use Rattle.liquid_model.specs.Texts.{Text}
 use Rattle.liquid_model.specs.ErrorKinds.{name_of}
 use Rattle.liquid_model.specs.declared.error.Error.{Error}
-use Rattle.liquid_model.specs.declared.location.Location.{Location}
-use Rattle.liquid_model.specs.declared.location.Origin.{Origin}
-use Rattle.liquid_model.specs.declared.location.Origin.TheVariants.{Template, Partial, Data}
+use Rattle.liquid_model.specs.declared.origin.Location.{Location}
+use Rattle.liquid_model.specs.declared.origin.Origin.{Origin}
+use Rattle.liquid_model.specs.declared.origin.Origin.TheVariants.{Template, Partial, Data}
 use Rattle.liquid_c.specs.Numbers.{content_fault, text_of_handle}
 use Rattle.liquid_c.specs.declared.content.Content.{Content}
 

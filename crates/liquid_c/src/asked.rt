@@ -13,10 +13,10 @@ use crate::handle_content::held_content;
 use crate::named::list_of;
 use crate::refusal::{Refusal, store_result};
 use crate::render::partials_held;
-use liquid_answers::json_of;
 use liquid_core::{ErrorKind, Result as Answer, Uses};
+use liquid_json::json_of;
 use liquid_syntax::{Partials, Template};
-use liquid_uses::{paths_of, uses_of};
+use liquid_uses::{data_uses, paths_of};
 use std::alloc::Global;
 
 /// Finds what a template and the partials ask of data, as paths: a text of JSON, which is a list of
@@ -72,17 +72,17 @@ fn paths_result_over(
     let Some(partials) = partials else {
         return Err(Refusal::OtherHandle);
     };
-    match covering(alloc, template, partials) {
+    match asked_uses(alloc, template, partials) {
         Ok(uses) => Ok(paths_content(alloc, uses)),
         Err(fault) => Ok(Content::Fault(fault)),
     }
 }
 
-fn covering(alloc: Global, template: &Template, partials: &Partials) -> Answer<Uses>
+fn asked_uses(alloc: Global, template: &Template, partials: &Partials) -> Answer<Uses>
     ensures covers { IfOk result (Covers (partials_of partials.now) (tree_of template.now)) }
     ensures memory { IfErr result (λ e. e.kind ≡ ErrorKind.Memory) }
 {
-    uses_of(alloc, template, partials)
+    data_uses(alloc, template, partials)
 }
 
 /// The uses with their paths.

@@ -8,8 +8,8 @@ use crate::handle::Handle;
 use crate::levels::TemplateLevels;
 use crate::refusal::{Refusal, store_result};
 use liquid_json::data_from_json;
+use liquid_language::language;
 use liquid_syntax::Partials;
-use liquid_tags::language;
 use std::alloc::Global;
 
 /// Makes the standard language. 0, or `Memory`.

@@ -2,7 +2,7 @@
 ghost use Rattle.std.specs.Prelude.{◌≡◌, Ok, Some, option_map};
 ghost use Rattle.liquid_core.specs.Held.{held as map_held};
 ghost use Rattle.liquid_syntax.specs.Templates.{partials_of, tree_of};
-ghost use Rattle.liquid_c.specs.Calls.{OfBoth, bound_of};
+ghost use Rattle.liquid_c.specs.Calls.{OfBoth, WhereAllowed, allowed_by_limits};
 ghost use Rattle.liquid_c.specs.Hosted.{IsHosted, ShowsAnswered, ShowsUnlessDeep};
 ghost use Rattle.liquid_c.specs.ResultStored.{ResultStored};
 ghost use Rattle.liquid_c.specs.Shared.{shared_content};
@@ -12,11 +12,11 @@ use crate::handle::Handle;
 use crate::handle_content::held_content;
 use crate::refusal::{Refusal, store_result};
 use crate::render::{
-    Allowed, RenderLimits, allowed_by, data_held, empty_data, levels_held, limits_of, partials_held,
+    Allowed, RenderLimits, allowed_by, around, data_held, empty_data, levels_held, partials_held,
 };
 use liquid_answers::{Answered, Answers, render_page_answered};
 use liquid_core::Object;
-use liquid_engine::{LimitedPage, Surroundings};
+use liquid_engine::LimitedPage;
 use liquid_syntax::{Partials, Template};
 use std::alloc::Global;
 
@@ -34,10 +34,10 @@ pub extern "C" fn bikleinu_render_with(
     answers: &mut Handle,
     made: &mut Handle,
 ) -> u32
-    ensures rendered { ResultStored (IsHosted (bound_of limits.now.levels)
-        (shared_content template.old.held)
-        (shared_content «data».old.held) (shared_content partials.old.held) depth
-        (shared_content answers.old.held))
+    ensures rendered { ResultStored (WhereAllowed (allowed_by_limits depth limits.now)
+        (IsHosted (shared_content template.old.held)
+        (shared_content «data».old.held) (shared_content partials.old.held)
+        (shared_content answers.old.held)))
         result made.new.held }
     ensures template { template.new.held ≡ template.old.held }
     ensures data { «data».new.held ≡ «data».old.held }
@@ -75,14 +75,20 @@ struct CallContents<'h> {
     answers: Option<&'h Content>,
 }
 
-fn page(alloc: Global, contents: CallContents<'_>, allowed: Allowed) -> Result<Content, Refusal>
-    ensures { IsHosted allowed.levels
+fn page(
+    alloc: Global,
+    contents: CallContents<'_>,
+    allowed: Option<Allowed>,
+) -> Result<Content, Refusal>
+    ensures { WhereAllowed allowed (IsHosted
         (option_map (λ h. h.now) contents.entry.template)
         (option_map (λ h. h.now) contents.entry.«data»)
         (option_map (λ h. h.now) contents.entry.partials)
-        allowed.depth
-        (option_map (λ h. h.now) contents.entry.answers) result }
+        (option_map (λ h. h.now) contents.entry.answers)) result }
 {
+    let Some(allowed) = allowed else {
+        return Err(Refusal::NoSuchMissing);
+    };
     let Some(Content::Template(template, levels)) = contents.template else {
         return Err(Refusal::OtherHandle);
     };
@@ -93,7 +99,7 @@ fn page(alloc: Global, contents: CallContents<'_>, allowed: Allowed) -> Result<C
     let no_partials = Partials::new(alloc);
     let is_deep = levels.pass(
         levels_held(contents.partials),
-        allowed.depth,
+        allowed.setting.depth,
         allowed.levels,
     );
     shown(
@@ -126,7 +132,7 @@ fn shown(
         (option_map (λ d. map_held d.now) «data».entry)
         (option_map (λ p. partials_of p.now) partials.entry)
         (ShowsUnlessDeep is_deep hosted.entry.table.now
-        (tree_of hosted.entry.template.now) allowed.depth) result }
+        (tree_of hosted.entry.template.now) allowed.setting) result }
 {
     let Some(data) = data else {
         return Err(Refusal::OtherHandle);
@@ -149,13 +155,9 @@ fn answered(
     allowed: Allowed,
 ) -> Content
     ensures { ShowsAnswered hosted.entry.table.now (tree_of hosted.entry.template.now)
-        allowed.depth (map_held «data».now) (partials_of partials.now) (Ok result) }
+        allowed.setting (map_held «data».now) (partials_of partials.now) (Ok result) }
 {
-    let around = Surroundings {
-        partials,
-        depth: allowed.depth,
-        limits: limits_of(allowed),
-    };
+    let around = around(partials, allowed);
     match render_page_answered(alloc, hosted.template, hosted.table, around, data) {
         Ok(Answered::Page(LimitedPage { page, limit })) => match limit {
             None => Content::Page(page),

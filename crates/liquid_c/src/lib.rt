@@ -8,7 +8,6 @@
 
 mod answering;
 mod asked;
-mod completing;
 mod content;
 mod create_and_free;
 mod data_for;
@@ -19,6 +18,7 @@ mod insert;
 mod levels;
 mod named;
 mod parse;
+mod partial_names;
 mod raw_box;
 mod read;
 mod refusal;

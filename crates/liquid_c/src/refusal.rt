@@ -22,6 +22,8 @@ pub enum Refusal {
     NoSuchCall,
     /// What other handles share isn't changed.
     SharedHandle,
+    /// A number that says nothing of missing values.
+    NoSuchMissing,
 }
 
 impl Refusal {
@@ -35,6 +37,7 @@ impl Refusal {
             Refusal::TooManyLevels => 103,
             Refusal::NoSuchCall => 107,
             Refusal::SharedHandle => 108,
+            Refusal::NoSuchMissing => 109,
         }
     }
 }

@@ -14,11 +14,11 @@ use crate::handle_content::HandleContent;
 use crate::refusal::{Refusal, store_result};
 use liquid_core::{ErrorKind, Result as Answer};
 use liquid_filters::FilterKind;
-use liquid_language::{Language, TagKind};
-use liquid_tags::language;
+use liquid_language::{Language, TagKind, language};
 use std::alloc::Global;
 
-/// Makes Jekyll's language: the standard one with Jekyll's `include` and `sort`. 0, or `Memory`.
+/// Makes Jekyll's language: the standard one with Jekyll's `include`, which takes a path without
+/// quotes, and `sort`. 0, or `Memory`.
 #[unsafe(no_mangle)]
 pub extern "C" fn bikleinu_jekyll_language(alloc: Global, made: &mut Handle) -> u32
     ensures { ResultStored MakesIncludeAndSort result made.new.held }
@@ -42,6 +42,7 @@ fn with_include_and_sort(alloc: Global) -> Answer<Language>
     let mut language = language(alloc)?;
     let include = String::from_str(alloc, "include")?;
     language.tags.register(include, TagKind::JekyllInclude)?;
+    language.include_paths = true;
     let sort = String::from_str(alloc, "sort")?;
     language.filters.register(sort, FilterKind::JekyllSort)?;
     Ok(language)

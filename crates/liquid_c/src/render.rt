@@ -4,9 +4,10 @@ ghost use Rattle.liquid_model.specs.Maps.{empty};
 ghost use Rattle.liquid_core.specs.Held.{held as map_held};
 ghost use Rattle.liquid_syntax.specs.Templates.{partials_of, tree_of};
 ghost use Rattle.liquid_c.specs.Calls.{IsRendering, OfBoth, ShowsNodes, ShowsUnless, ShowsWithin};
-ghost use Rattle.liquid_c.specs.Calls.{bound_of, data_of_handle, has_limit, levels_of_handle};
+ghost use Rattle.liquid_c.specs.Calls.{WhereAllowed, allowed_by_limits, bound_of, data_of_handle};
+ghost use Rattle.liquid_c.specs.Calls.{has_limit, levels_of_handle, missing_numbered};
 ghost use Rattle.liquid_c.specs.inside.AskedLimits.{asked_limit};
-ghost use Rattle.liquid_c.specs.Calls.{partials_of_handle, usual_levels};
+ghost use Rattle.liquid_c.specs.Calls.{partials_of_handle, usually_allowed};
 ghost use Rattle.liquid_c.specs.ResultStored.{ResultStored};
 ghost use Rattle.liquid_c.specs.Shared.{shared_content};
 
@@ -15,8 +16,8 @@ use crate::handle::Handle;
 use crate::handle_content::held_content;
 use crate::levels::TemplateLevels;
 use crate::refusal::{Refusal, store_result};
-use liquid_core::Object;
-use liquid_engine::{LimitedPage, render_page, render_page_within};
+use liquid_core::{Missing, Object};
+use liquid_engine::{LimitedPage, RunSetting, Surroundings, render_page_by, render_page_within};
 use liquid_syntax::{Partials, Template};
 use std::alloc::Global;
 use std::collections::BTreeMap;
@@ -34,6 +35,8 @@ const ANY_NUMBER: u64 = u64::MAX;
 pub struct RenderLimits {
     /// How many levels it may reach; 0 for `USUAL_LEVELS`.
     levels: u32,
+    /// What becomes of a missing value: 0 a fault, and 1 nil.
+    missing: u32,
     /// How many bytes it may write; `ANY_NUMBER` for any number.
     bytes: u64,
     /// How many turns it may take; `ANY_NUMBER` for any number.
@@ -43,8 +46,8 @@ pub struct RenderLimits {
 /// What a run may do.
 #[derive(Clone, Copy, Drop)]
 pub(crate) struct Allowed {
-    /// How many partials it may nest.
-    pub(crate) depth: u32,
+    /// How it goes.
+    pub(crate) setting: RunSetting,
     /// How many levels it may reach.
     pub(crate) levels: u32,
     /// How many bytes it may write; `ANY_NUMBER` for any number.
@@ -69,26 +72,26 @@ pub extern "C" fn bikleinu_render(
     made: &mut Handle,
 ) -> u32
     ensures rendered { ResultStored
-        (IsRendering usual_levels false (shared_content template.old.held)
-        (shared_content «data».old.held)
-        (shared_content partials.old.held) depth)
+        (IsRendering (shared_content template.old.held) (shared_content «data».old.held)
+        (shared_content partials.old.held) (usually_allowed depth))
         result made.new.held }
     ensures template { template.new.held ≡ template.old.held }
     ensures data { «data».new.held ≡ «data».old.held }
     ensures partials { partials.new.held ≡ partials.old.held }
 {
     let allowed = Allowed {
-        depth,
+        setting: RunSetting::strict(depth),
         levels: USUAL_LEVELS,
         bytes: ANY_NUMBER,
         turns: ANY_NUMBER,
     };
-    let answer = render_handles(alloc, template, data, partials, allowed);
+    let answer = render_handles(alloc, template, data, partials, Some(allowed));
     store_result(alloc, answer, made)
 }
 
-/// The same, within limits of the caller's. A page that the limit on bytes ended answers 104, and
-/// one that the limit on turns ended 105: its text goes up to there.
+/// The same, within limits of the caller's, and with what they say of missing values: where their
+/// number says nothing of them the call answers 109. A page that the limit on bytes ended answers
+/// 104, and one that the limit on turns ended 105: its text goes up to there.
 #[unsafe(no_mangle)]
 pub extern "C" fn bikleinu_render_within(
     alloc: Global,
@@ -100,9 +103,9 @@ pub extern "C" fn bikleinu_render_within(
     made: &mut Handle,
 ) -> u32
     ensures rendered { ResultStored
-        (IsRendering (bound_of limits.now.levels) (has_limit limits.now.bytes limits.now.turns)
-        (shared_content template.old.held) (shared_content «data».old.held)
-        (shared_content partials.old.held) depth)
+        (WhereAllowed (allowed_by_limits depth limits.now)
+        (IsRendering (shared_content template.old.held) (shared_content «data».old.held)
+        (shared_content partials.old.held)))
         result made.new.held }
     ensures template { template.new.held ≡ template.old.held }
     ensures data { «data».new.held ≡ «data».old.held }
@@ -113,18 +116,29 @@ pub extern "C" fn bikleinu_render_within(
     store_result(alloc, answer, made)
 }
 
-/// What these limits allow.
-pub(crate) fn allowed_by(depth: u32, limits: &RenderLimits) -> Allowed
-    ensures depth { result.depth ≡ depth }
-    ensures levels { result.levels ≡ bound_of limits.now.levels }
-    ensures bytes { result.bytes ≡ limits.now.bytes }
-    ensures turns { result.turns ≡ limits.now.turns }
+/// What these limits allow, where their number says something of missing values.
+pub(crate) fn allowed_by(depth: u32, limits: &RenderLimits) -> Option<Allowed>
+    ensures { result ≡ allowed_by_limits depth limits.now }
 {
-    Allowed {
-        depth,
+    let missing = missing_numbered(limits.missing)?;
+    Some(Allowed {
+        setting: RunSetting { depth, missing },
         levels: bound_of(limits.levels),
         bytes: limits.bytes,
         turns: limits.turns,
+    })
+}
+
+fn missing_numbered(asked: u32) -> Option<Missing>
+    ensures { result ≡ missing_numbered asked }
+{
+    if asked == 0 {
+        return Some(Missing::IsFault);
+    }
+    if asked == 1 {
+        Some(Missing::IsNil)
+    } else {
+        None
     }
 }
 
@@ -140,12 +154,11 @@ fn render_handles(
     template: &mut Handle,
     data: &mut Handle,
     partials: &mut Handle,
-    allowed: Allowed,
+    allowed: Option<Allowed>,
 ) -> Result<Content, Refusal>
-    ensures rendered { IsRendering allowed.levels (has_limit allowed.bytes allowed.turns)
-        (shared_content template.old.held) (shared_content «data».old.held)
-        (shared_content partials.old.held)
-        allowed.depth result }
+    ensures rendered { WhereAllowed allowed
+        (IsRendering (shared_content template.old.held) (shared_content «data».old.held)
+        (shared_content partials.old.held)) result }
     ensures template { template.new.held ≡ template.old.held }
     ensures data { «data».new.held ≡ «data».old.held }
     ensures partials { partials.new.held ≡ partials.old.held }
@@ -171,20 +184,22 @@ fn page(
     template: Option<&Content>,
     data: Option<&Content>,
     partials: Option<&Content>,
-    allowed: Allowed,
+    allowed: Option<Allowed>,
 ) -> Result<Content, Refusal>
-    ensures { IsRendering allowed.levels (has_limit allowed.bytes allowed.turns)
+    ensures { WhereAllowed allowed (IsRendering
         (option_map (λ h. h.now) template.entry)
         (option_map (λ h. h.now) «data».entry)
-        (option_map (λ h. h.now) partials.entry)
-        allowed.depth result }
+        (option_map (λ h. h.now) partials.entry)) result }
 {
+    let Some(allowed) = allowed else {
+        return Err(Refusal::NoSuchMissing);
+    };
     let Some(Content::Template(template, levels)) = template else {
         return Err(Refusal::OtherHandle);
     };
     let no_data = empty_data(alloc);
     let no_partials = Partials::new(alloc);
-    let is_deep = levels.pass(levels_held(partials), allowed.depth, allowed.levels);
+    let is_deep = levels.pass(levels_held(partials), allowed.setting.depth, allowed.levels);
     page_within_levels(
         alloc,
         template,
@@ -208,7 +223,7 @@ fn page_within_levels(
         (option_map (λ d. map_held d.now) «data».entry)
         (option_map (λ p. partials_of p.now) partials.entry)
         (ShowsUnless is_deep (has_limit allowed.bytes allowed.turns)
-        (tree_of template.now) allowed.depth)
+        (tree_of template.now) allowed.setting)
         result }
 {
     let Some(data) = data else {
@@ -221,7 +236,7 @@ fn page_within_levels(
         return Err(Refusal::TooManyLevels);
     }
     if allowed.bytes == ANY_NUMBER && allowed.turns == ANY_NUMBER {
-        return Ok(unlimited_page(alloc, template, partials, allowed.depth, data));
+        return Ok(unlimited_page(alloc, template, partials, allowed.setting, data));
     }
     Ok(limited(alloc, template, partials, allowed, data))
 }
@@ -231,13 +246,13 @@ fn unlimited_page(
     alloc: Global,
     template: &Template,
     partials: &Partials,
-    depth: u32,
+    setting: RunSetting,
     data: &Object,
 ) -> Content
-    ensures { ShowsNodes (tree_of template.now) depth
+    ensures { ShowsNodes (tree_of template.now) setting
         (map_held «data».now) (partials_of partials.now) (Ok result) }
 {
-    match render_page(alloc, template, partials, depth, data) {
+    match render_page_by(alloc, template, partials, setting, data) {
         Ok(page) => Content::Page(page),
         Err(fault) => Content::Fault(fault),
     }
@@ -251,17 +266,10 @@ fn limited(
     allowed: Allowed,
     data: &Object,
 ) -> Content
-    ensures { ShowsWithin (tree_of template.now) allowed.depth
+    ensures { ShowsWithin (tree_of template.now) allowed.setting
         (map_held «data».now) (partials_of partials.now) (Ok result) }
 {
-    match render_page_within(
-        alloc,
-        template,
-        partials,
-        allowed.depth,
-        data,
-        limits_of(allowed),
-    ) {
+    match render_page_within(alloc, template, around(partials, allowed), data) {
         Ok(LimitedPage { page, limit }) => match limit {
             None => Content::Page(page),
             Some(limit) => Content::Ended(page, limit),
@@ -270,8 +278,24 @@ fn limited(
     }
 }
 
+/// What a template is rendered with beside its data.
+pub(crate) fn around(partials: &Partials, allowed: Allowed) -> Surroundings<'_>
+    ensures partials { result.partials.now ≡ partials.now }
+    ensures depth { result.depth ≡ allowed.setting.depth }
+    ensures missing { result.missing ≡ allowed.setting.missing }
+    ensures bytes { result.limits.bytes ≡ asked_limit allowed.bytes }
+    ensures turns { result.limits.turns ≡ asked_limit allowed.turns }
+{
+    Surroundings {
+        partials,
+        depth: allowed.setting.depth,
+        missing: allowed.setting.missing,
+        limits: limits_of(allowed),
+    }
+}
+
 /// The limits on bytes and turns.
-pub(crate) fn limits_of(allowed: Allowed) -> liquid_engine::Limits
+fn limits_of(allowed: Allowed) -> liquid_engine::Limits
     ensures bytes { result.bytes ≡ asked_limit allowed.bytes }
     ensures turns { result.turns ≡ asked_limit allowed.turns }
 {

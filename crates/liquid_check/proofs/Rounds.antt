@@ -5,7 +5,7 @@ use Rattle.std.specs.Prelude.{⊤}
 use Rattle.liquid_model.specs.ErrorKinds.{is_memory}
 use Rattle.liquid_model.specs.Texts.{Text}
 use Rattle.liquid_evaluation.specs.Tree.{Nodes}
-use Rattle.liquid_language.specs.declared.language.Language.{Language}
+use Rattle.liquid_language.specs.declared.registry.Language.{Language}
 use Rattle.liquid_parser.specs.Parsing.{HasNoTree, IsOfSource, IsOnlyTree}
 use Rattle.liquid_check.specs.Blanks.{blanked}
 use Rattle.liquid_check.specs.Rounds.{Found, IsRound, AreRounds, IsSilentAboutTemplates}

@@ -6,8 +6,8 @@ ghost use Rattle.liquid_check.specs.Blanks.{blank_for, blanked};
 use liquid_core::{Location, Result};
 use liquid_language::Language;
 use liquid_lexer::text_before;
+use liquid_model::past_byte;
 use liquid_warnings::past_piece;
-use liquid_words::past_byte;
 use std::alloc::{AllocError, Global};
 
 /// A source, cut in three.

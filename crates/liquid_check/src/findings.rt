@@ -8,7 +8,7 @@ use crate::faulty_piece::{Part, part_at};
 use crate::left_over::{LeftOver, Wrong};
 use liquid_core::{Error, ErrorKind, Result};
 use liquid_language::Language;
-use liquid_lexer::placed_piece;
+use liquid_lexer::{Style, placed_piece};
 use liquid_parser::parse;
 use liquid_syntax::Template;
 use std::alloc::Global;
@@ -130,7 +130,8 @@ fn wrong_at<'s>(alloc: Global, source: &'s str, start: usize, kind: ErrorKind) -
     ensures { IfErr result (λ e. e.kind ≡ ErrorKind.Memory) }
 {
     let from = source.get(start..).unwrap_or("");
-    let placed = placed_piece(alloc, from)?;
+    // the name alone is asked for, which each style reads alike
+    let placed = placed_piece(alloc, from, Style::Items)?;
     Ok(Wrong {
         kind,
         name: placed.name,

@@ -1,12 +1,18 @@
-//! Every fault of a template's source, and not the first alone; and all that is said of a template,
-//! in the order of its places.
+//! Every fault of a template's source, and not the first alone; all that is said of a template, in
+//! the order of its places; and the command `check`, which says it of files.
 #![tactic(auto)]
 
+mod command;
 mod faulty_piece;
+mod file_id;
+mod files;
 mod findings;
 mod left_over;
+mod paths;
+mod print;
 mod remarks;
 
+pub use command::{FaultTips, check};
 pub use findings::{Finding, Findings, MOST_FINDINGS, findings_of};
 pub use liquid_warnings::else_items;
 pub use remarks::remarks_of;

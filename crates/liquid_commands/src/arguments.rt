@@ -7,12 +7,17 @@ use std::alloc::{AllocError, Global};
 #[derive(Clone, Copy, Drop)]
 pub(crate) enum Argument {
     Template,
+    /// The template, whose text may be given in its place.
+    PageTemplate,
     PageData,
     Records,
+    Text,
     Paths,
     Data,
+    Define,
     Partials,
     Filters,
+    Assets,
     PageFile,
     FilePattern,
     Into,
@@ -20,12 +25,16 @@ pub(crate) enum Argument {
     MaxBytes,
     MaxTurns,
     RecordsFormat,
+    Delimiter,
+    Cells,
+    Names,
     Separator,
     From,
     Count,
     DryRun,
     NoFlush,
     Progress,
+    Quiet,
     ReportFormat,
     Warn,
     PathsFormat,
@@ -57,18 +66,28 @@ fn with_argument<'a>(
     command: Command<'a>,
     which: Argument,
 ) -> Result<Command<'a>, AllocError> {
-    command.arg(described(alloc, which))
+    let argument = described(alloc, which);
+    match which {
+        Argument::PageTemplate | Argument::Records => {
+            command.arg(argument.required_unless_present("text")?)
+        }
+        Argument::Template | Argument::Paths => command.arg(argument.required(true)),
+        _ => command.arg(argument),
+    }
 }
 
 fn described<'a>(alloc: Global, which: Argument) -> Arg<'a> {
     match which {
-        Argument::Template => options::template(alloc),
+        Argument::Template | Argument::PageTemplate => options::template(alloc),
         Argument::PageData => options::page_data(alloc),
         Argument::Records => options::records(alloc),
+        Argument::Text => options::text(alloc),
         Argument::Paths => options::paths(alloc),
         Argument::Data => options::data(alloc),
+        Argument::Define => options::define(alloc),
         Argument::Partials => options::partials(alloc),
         Argument::Filters => options::filters(alloc),
+        Argument::Assets => options::assets(alloc),
         Argument::PageFile => options::page_file(alloc),
         Argument::FilePattern => options::file_pattern(alloc),
         Argument::Into => options::into(alloc),
@@ -76,12 +95,16 @@ fn described<'a>(alloc: Global, which: Argument) -> Arg<'a> {
         Argument::MaxBytes => options::max_bytes(alloc),
         Argument::MaxTurns => options::max_turns(alloc),
         Argument::RecordsFormat => options::records_format(alloc),
+        Argument::Delimiter => options::delimiter(alloc),
+        Argument::Cells => options::cells(alloc),
+        Argument::Names => options::names(alloc),
         Argument::Separator => options::separator(alloc),
         Argument::From => options::from(alloc),
         Argument::Count => options::count(alloc),
         Argument::DryRun => options::dry_run(alloc),
         Argument::NoFlush => options::no_flush(alloc),
         Argument::Progress => options::progress(alloc),
+        Argument::Quiet => options::quiet(alloc),
         Argument::ReportFormat => options::report_format(alloc),
         Argument::Warn => options::warn(alloc),
         Argument::PathsFormat => options::paths_format(alloc),

@@ -2,15 +2,16 @@
 ghost use Rattle.std.specs.Prelude.{◌≡◌, option_map};
 ghost use Rattle.liquid_commands.specs.Words.{format_named, format_of};
 
+use crate::DiagnosticFormat;
 use crate::arguments::{Argument, command};
 use crate::forms::Forms;
 use crate::inputs::{
     WordFault, check_standard_input, count_from_standard_input, data_of, is_standard_input,
     partials_of,
 };
+use crate::values::{NamedValue, values_of};
 use crate::words::{DataFile, FilterSet, filter_set};
 use clap::{ArgMatches, Command};
-use liquid_diagnostics::DiagnosticFormat;
 use std::alloc::{AllocError, Global};
 
 /// A call of `check`.
@@ -20,6 +21,8 @@ pub struct CheckCall<'w> {
     pub paths: Vec<&'w str>,
     /// In the order in which the later wins.
     pub data: Vec<DataFile<'w>>,
+    /// After the files, in the order in which the later wins.
+    pub values: Vec<NamedValue<'w>>,
     /// How the data is read.
     pub forms: Forms<'w>,
     /// Folders, and files as NAME=FILE, in the order in which the later wins.
@@ -29,6 +32,8 @@ pub struct CheckCall<'w> {
     pub format: DiagnosticFormat,
     /// Whether outputs in attributes are looked at.
     pub attributes: bool,
+    /// Whether the counts are left out.
+    pub is_quiet: bool,
 }
 
 const ABOUT: &str = "Reports every fault of templates, and what is likely a mistake, without a run";
@@ -36,10 +41,12 @@ const ABOUT: &str = "Reports every fault of templates, and what is likely a mist
 const ARGUMENTS: &[Argument] = &[
     Argument::Paths,
     Argument::Data,
+    Argument::Define,
     Argument::Partials,
     Argument::Filters,
     Argument::ReportFormat,
     Argument::Warn,
+    Argument::Quiet,
     Argument::Decimals,
     Argument::Dates,
     Argument::Now,
@@ -53,18 +60,21 @@ pub(crate) fn check_command<'a>(alloc: Global) -> Result<Command<'a>, AllocError
 /// What the words of `check` ask for.
 pub fn check_call<'w>(alloc: Global, given: &ArgMatches<'w>) -> Result<CheckCall<'w>, WordFault> {
     let paths = paths_of(alloc, given)?;
-    let data = data_of(alloc, given, false)?;
+    let data = data_of(alloc, given, None)?;
+    let values = values_of(alloc, given)?;
     let partials = partials_of(alloc, given)?;
     let count = count_from_standard_input(&data, &partials).saturating_add(own_count(&paths));
     check_standard_input(count)?;
     Ok(CheckCall {
         paths,
         data,
+        values,
         forms: Forms::given(given),
         partials,
         filters: filter_set(given.get_str("filters")),
         format: format_of(given.get_str("format")),
         attributes: given.get_str("warn").is_some(),
+        is_quiet: given.get_flag("quiet"),
     })
 }
 

@@ -3,14 +3,15 @@ use clap::{Arg, ArgAction, value_parser};
 use std::alloc::Global;
 
 pub(crate) fn template<'a>(alloc: Global) -> Arg<'a> {
-    word(alloc, "TEMPLATE", "The template; - is standard input").required(true)
+    word(alloc, "TEMPLATE", "The template; - is standard input")
 }
 
 pub(crate) fn page_data<'a>(alloc: Global) -> Arg<'a> {
     word(
         alloc,
         "DATA",
-        "The data, a JSON object, or TOML where its name ends in .toml; - is standard input",
+        "The data, a JSON object, or TOML or YAML where its name ends in .toml, .yml or .yaml; - \
+         is standard input",
     )
 }
 
@@ -18,9 +19,19 @@ pub(crate) fn records<'a>(alloc: Global) -> Arg<'a> {
     word(
         alloc,
         "RECORDS",
-        "The records: a JSON object on each line, or CSV; - is standard input",
+        "The records: a table, a JSON object on each line, or a JSON list; - is standard input",
     )
-    .required(true)
+}
+
+pub(crate) fn text<'a>(alloc: Global) -> Arg<'a> {
+    option(
+        alloc,
+        "text",
+        "TEXT",
+        "The text of the template, in place of its file; the data or the records come first then",
+    )
+    .short('t')
+    .allow_hyphen_values(true)
 }
 
 pub(crate) fn paths<'a>(alloc: Global) -> Arg<'a> {
@@ -29,7 +40,6 @@ pub(crate) fn paths<'a>(alloc: Global) -> Arg<'a> {
         "PATH",
         "Templates, and folders of which every file below is one; - is standard input",
     )
-    .required(true)
     .num_args(1..)
 }
 
@@ -38,10 +48,21 @@ pub(crate) fn data<'a>(alloc: Global) -> Arg<'a> {
         alloc,
         "data",
         "[NAME=]FILE",
-        "More data, a JSON object, or TOML where FILE ends in .toml: its members are added, \
+        "More data, a JSON object, or TOML or YAML as FILE ends: its members are added, \
          or it stands under NAME; the later wins",
     )
     .short('d')
+    .action(ArgAction::Append)
+}
+
+pub(crate) fn define<'a>(alloc: Global) -> Arg<'a> {
+    option(
+        alloc,
+        "define",
+        "NAME=TEXT|NAME:=JSON",
+        "A value of the data, a text or any JSON, after all files; the later wins",
+    )
+    .short('D')
     .action(ArgAction::Append)
 }
 
@@ -62,9 +83,18 @@ pub(crate) fn filters<'a>(alloc: Global) -> Arg<'a> {
         alloc,
         "filters",
         "SET",
-        "Reads templates as those of Jekyll or Shopify, with the filters that these call",
+        "Adds the filters over decimals, or reads templates as those of Jekyll or Shopify",
     )
     .value_parser(SETS)
+}
+
+pub(crate) fn assets<'a>(alloc: Global) -> Arg<'a> {
+    option(
+        alloc,
+        "assets",
+        "URL",
+        "What stands before the files of the theme with --filters shopify, in place of /assets/",
+    )
 }
 
 pub(crate) fn page_file<'a>(alloc: Global) -> Arg<'a> {
@@ -102,17 +132,18 @@ pub(crate) fn missing<'a>(alloc: Global) -> Arg<'a> {
         alloc,
         "missing",
         "VALUE",
-        "What the template asks for and the data lack: a fault, or nil, which writes nothing",
+        "What becomes of a value that is missing: a fault, or nil, which writes nothing",
     )
     .value_parser(MISSING)
     .default_value("fault")
 }
 
 pub(crate) fn max_bytes<'a>(alloc: Global) -> Arg<'a> {
-    number(
+    option(
         alloc,
         "max-bytes",
-        "Ends a page that would write more bytes of text",
+        "N",
+        "Ends a page that would write or make more bytes, as 65536, 64KiB or 10MB",
     )
 }
 
@@ -129,9 +160,44 @@ pub(crate) fn records_format<'a>(alloc: Global) -> Arg<'a> {
         alloc,
         "records-format",
         "FORMAT",
-        "How RECORDS are written: by default csv where the name ends in .csv, else jsonl",
+        "How RECORDS are written: by default as the name ends, .csv, .tsv or .jsonl, \
+         and else as the text begins",
     )
     .value_parser(RECORDS_FORMATS)
+}
+
+pub(crate) fn delimiter<'a>(alloc: Global) -> Arg<'a> {
+    option(
+        alloc,
+        "delimiter",
+        "CHAR",
+        "What parts the cells of a table: one character, or tab, comma, semicolon; \
+         by default as the first row has it",
+    )
+    .allow_hyphen_values(true)
+}
+
+pub(crate) fn cells<'a>(alloc: Global) -> Arg<'a> {
+    option(
+        alloc,
+        "cells",
+        "HOW",
+        "How the cells of a table are read: typed (the default) makes whole numbers, true, false \
+         and empty cells what they say, text keeps each as a text",
+    )
+    .value_parser(CELLS)
+}
+
+pub(crate) fn names<'a>(alloc: Global) -> Arg<'a> {
+    option(
+        alloc,
+        "names",
+        "HOW",
+        "How the columns of a table are named: as written, or snake, so that First name is \
+         first_name",
+    )
+    .value_parser(NAMES)
+    .default_value("written")
 }
 
 pub(crate) fn separator<'a>(alloc: Global) -> Arg<'a> {
@@ -172,6 +238,15 @@ pub(crate) fn progress<'a>(alloc: Global) -> Arg<'a> {
         "progress",
         "Prints each second how many pages there are",
     )
+}
+
+pub(crate) fn quiet<'a>(alloc: Global) -> Arg<'a> {
+    flag(
+        alloc,
+        "quiet",
+        "Prints no counts and no notes on standard error",
+    )
+    .short('q')
 }
 
 pub(crate) fn report_format<'a>(alloc: Global) -> Arg<'a> {
@@ -235,13 +310,19 @@ pub(crate) fn now<'a>(alloc: Global) -> Arg<'a> {
 }
 
 /// The names of the sets of filters.
-const SETS: &[&str] = &["jekyll", "shopify"];
+const SETS: &[&str] = &["decimals", "jekyll", "shopify"];
 
 /// What a missing value may be.
 const MISSING: &[&str] = &["fault", "nil"];
 
 /// How records may be written.
-const RECORDS_FORMATS: &[&str] = &["csv", "jsonl"];
+const RECORDS_FORMATS: &[&str] = &["csv", "json", "jsonl"];
+
+/// How the cells of a table may be read.
+const CELLS: &[&str] = &["text", "typed"];
+
+/// How the columns of a table may be named.
+const NAMES: &[&str] = &["written", "snake"];
 
 /// How a report may be written, the format without a word first.
 const REPORT_FORMATS: &[&str] = &["text", "json", "github"];

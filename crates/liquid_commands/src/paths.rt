@@ -1,6 +1,7 @@
 //! The words of `paths`.
 use crate::arguments::{Argument, command};
 use crate::inputs::{Inputs, WordFault, inputs_of};
+use crate::template_word::placed_in;
 use clap::{ArgMatches, Command};
 use std::alloc::{AllocError, Global};
 
@@ -41,7 +42,7 @@ pub fn paths_call<'w>(alloc: Global, given: &ArgMatches<'w>) -> Result<PathsCall
         _ => PathsFormat::Text,
     };
     Ok(PathsCall {
-        inputs: inputs_of(alloc, given, None)?,
+        inputs: inputs_of(alloc, given, placed_in(given, "DATA")?, None)?,
         format,
     })
 }

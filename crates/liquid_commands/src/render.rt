@@ -1,8 +1,11 @@
 //! The words of `render`.
 use crate::arguments::{Argument, command};
 use crate::inputs::{Inputs, WordFault, inputs_of, out_of};
-use crate::words::{Missing, missing_of};
+use crate::sizes::max_bytes_in;
+use crate::template_word::placed_in;
+use crate::words::missing_of;
 use clap::{ArgMatches, Command};
+use liquid_core::Missing;
 use std::alloc::{AllocError, Global};
 
 /// A call of `render`.
@@ -13,15 +16,19 @@ pub struct RenderCall<'w> {
     /// How many bytes of text the page may have, and how many turns it may take.
     pub max_bytes: Option<u64>,
     pub max_turns: Option<u64>,
+    /// What becomes of a missing value.
     pub missing: Missing,
 }
 
 const ARGUMENTS: &[Argument] = &[
-    Argument::Template,
+    Argument::PageTemplate,
     Argument::PageData,
+    Argument::Text,
     Argument::Data,
+    Argument::Define,
     Argument::Partials,
     Argument::Filters,
+    Argument::Assets,
     Argument::PageFile,
     Argument::Missing,
     Argument::MaxBytes,
@@ -38,10 +45,11 @@ pub(crate) fn render_command<'a>(alloc: Global) -> Result<Command<'a>, AllocErro
 
 /// What the words of `render` ask for.
 pub fn render_call<'w>(alloc: Global, given: &ArgMatches<'w>) -> Result<RenderCall<'w>, WordFault> {
+    let placed = placed_in(given, "DATA")?;
     Ok(RenderCall {
-        inputs: inputs_of(alloc, given, None)?,
+        inputs: inputs_of(alloc, given, placed, None)?,
         out: out_of(given)?,
-        max_bytes: given.get_one::<u64>("max-bytes"),
+        max_bytes: max_bytes_in(given)?,
         max_turns: given.get_one::<u64>("max-turns"),
         missing: missing_of(given.get_str("missing")),
     })

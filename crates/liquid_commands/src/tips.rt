@@ -1,8 +1,8 @@
 //! What is said where a file stands in the place of a command.
-ghost use Rattle.std.specs.Prelude.{◌≡◌};
+ghost use Rattle.std.specs.Prelude.{◌≡◌, option_map};
 ghost use Rattle.std.specs.List.{list_all, list_any};
 ghost use Rattle.liquid_commands.specs.Words.{is_plain_word, is_plain_byte, is_path_byte};
-ghost use Rattle.liquid_commands.specs.Words.{is_template_path};
+ghost use Rattle.liquid_commands.specs.Words.{habit_tip, is_template_path};
 
 use crate::commands::program;
 use clap::Error;
@@ -28,6 +28,32 @@ fn with_tip(alloc: Global, word: &str, words: &[String]) -> Result<String, Alloc
     format!(in alloc;
         "unrecognized subcommand '{word}'\n\n  tip: to render a template, write '{call}'"
     )
+}
+
+/// What is wrong where an option isn't known and a word of the call is one that other programs
+/// have, with the option for it. None where there is no such word. `AllocError` where there is no
+/// room for it, and nowhere else.
+pub fn option_fault(alloc: Global, words: &[String]) -> Result<Option<Error>, AllocError> {
+    for word in words {
+        let word = word.as_str();
+        if let Some(tip) = habit_tip(word) {
+            let message = format!(in alloc; "unexpected argument '{word}' found\n\n  tip: {tip}")?;
+            let fault = program(alloc)?.error(ErrorKind::UnknownArgument, message.as_str())?;
+            return Ok(Some(fault));
+        }
+    }
+    Ok(None)
+}
+
+/// What stands here for an option that other programs have. It takes no memory.
+pub fn habit_tip(word: &str) -> Option<&'static str>
+    ensures { option_map (λ t. t.now) result ≡ habit_tip word.now }
+{
+    match word {
+        "--var" | "--set" | "--arg" => Some("-D NAME=TEXT gives a value"),
+        "-v" => Some("-V prints the version"),
+        _ => None,
+    }
 }
 
 fn no_command(alloc: Global, message: &str) -> Result<Error, AllocError> {

@@ -1,11 +1,12 @@
 //! What single words mean.
 ghost use Rattle.std.specs.Prelude.{◌≡◌, Some, codes, option_map, true};
-ghost use Rattle.liquid_commands.specs.Words.{are_in_csv, data_file, file_view, filter_set};
+ghost use Rattle.liquid_commands.specs.Words.{data_file, file_view, filter_set};
 ghost use Rattle.liquid_commands.specs.Words.{has_ending, is_selected, is_yaml, leaves_folder};
-ghost use Rattle.liquid_commands.specs.Words.{missing_of};
+ghost use Rattle.liquid_commands.specs.Words.{assets_fault, is_template_name, missing_of};
 ghost use Rattle.liquid_commands.specs.Words.{gap_of, gap_of_path, gap_text, split_at_equals};
-ghost use Rattle.liquid_commands.specs.Words.{set_named, split_view};
+ghost use Rattle.liquid_commands.specs.Words.{out_file, set_named, split_view};
 
+use liquid_core::Missing;
 use std::fmt;
 
 /// A file of data, with the name that it is given in a template, where it has one.
@@ -18,24 +19,16 @@ pub struct DataFile<'w> {
 /// A set of filters.
 #[derive(Clone, Copy, Drop)]
 pub enum FilterSet {
+    Decimals,
     Jekyll,
     Shopify,
-}
-
-/// What a name or a member that is missing in the data is.
-#[derive(Clone, Copy, Drop)]
-pub enum Missing {
-    /// A fault of the page that asks for it.
-    Fault,
-    /// Nil.
-    Nil,
 }
 
 /// A word FILE or NAME=FILE, which is parted at the first `=`. It takes no memory.
 pub fn data_file(word: &str) -> DataFile<'_>
     ensures { file_view result ≡ data_file word.now }
 {
-    match named_file(word) {
+    match split_at_equals(word) {
         Some((name, path)) => DataFile {
             name: Some(name),
             path,
@@ -47,20 +40,22 @@ pub fn data_file(word: &str) -> DataFile<'_>
     }
 }
 
-/// The texts before and after the first `=`.
-fn named_file(word: &str) -> Option<(&str, &str)>
+/// The texts before and after the first `=`. It takes no memory.
+pub(crate) fn split_at_equals(word: &str) -> Option<(&str, &str)>
     ensures { split_view result ≡ split_at_equals word.now }
 {
     word.split_once('=')
 }
 
-/// What a word FILE or NAME=FILE lacks.
+/// What the word after an option lacks.
 #[derive(Clone, Copy, Debug, Drop)]
 pub enum Gap {
     /// Nothing stands before its `=`.
     Name,
     /// There is no path.
     Path,
+    /// It gives no value to a name.
+    Value,
 }
 
 /// What is to be said of it.
@@ -71,6 +66,7 @@ impl fmt::Display for Gap {
         f.write_str(match self {
             Gap::Name => "there is no name before `=`; write NAME=FILE",
             Gap::Path => "there is no path; write a path, or NAME=FILE",
+            Gap::Value => "it gives no name a value; write -D NAME=TEXT or -D NAME:=JSON",
         })
     }
 }
@@ -79,7 +75,7 @@ impl fmt::Display for Gap {
 pub fn gap_of(word: &str) -> Option<Gap>
     ensures { result ≡ gap_of word.now }
 {
-    match named_file(word) {
+    match split_at_equals(word) {
         Some(("", _)) => Some(Gap::Name),
         Some((_, path)) => gap_of_path(path),
         None => gap_of_path(word),
@@ -112,6 +108,7 @@ fn set_named(name: &str) -> Option<FilterSet>
     match name {
         "jekyll" => Some(FilterSet::Jekyll),
         "shopify" => Some(FilterSet::Shopify),
+        "decimals" => Some(FilterSet::Decimals),
         _ => None,
     }
 }
@@ -121,8 +118,19 @@ pub fn missing_of(word: Option<&str>) -> Missing
     ensures { result ≡ missing_of (option_map (λ w. w.now) word.entry) }
 {
     match word {
-        Some("nil") => Missing::Nil,
-        _ => Missing::Fault,
+        Some("nil") => Missing::IsNil,
+        _ => Missing::IsFault,
+    }
+}
+
+/// The file that a word after `--out` names, where it names one: `-` is standard output, as where
+/// no word is given. It takes no memory.
+pub fn out_file(word: Option<&str>) -> Option<&str>
+    ensures { option_map (λ w. w.now) result ≡ out_file (option_map (λ w. w.now) word.entry) }
+{
+    match word {
+        Some("-") => None,
+        word => word,
     }
 }
 
@@ -147,14 +155,18 @@ pub fn leaves_folder(pattern: &str) -> bool
     false
 }
 
-/// Whether records are a table in CSV: as the format says, and where none is given, by the end of
-/// their path. It takes no memory.
-pub fn are_in_csv(format: Option<&str>, path: &str) -> bool
-    ensures { result ≡ are_in_csv (option_map (λ f. f.now) format.entry) path.now }
+/// What is wrong with an address of assets beside this set of filters, where something is: no other
+/// set than Shopify's has assets, and the name of a file follows a `/`. It takes no memory.
+pub fn assets_fault(set: Option<FilterSet>, address: &str) -> Option<&'static str>
+    ensures { option_map (λ m. m.now) result ≡ assets_fault set address.now }
 {
-    match format {
-        Some(format) => format == "csv",
-        None => ends_in(path, ".csv"),
+    match set {
+        Some(FilterSet::Shopify) => if ends_in(address, "/") {
+            None
+        } else {
+            Some("the address after --assets has no `/` at its end")
+        },
+        _ => Some("--assets is for Shopify's filters: write --filters shopify"),
     }
 }
 
@@ -165,14 +177,21 @@ pub fn is_toml(path: &str) -> bool
     ends_in(path, ".toml")
 }
 
-/// Whether a file of data is named as YAML, which isn't read. It takes no memory.
+/// Whether a file is named as a template, by the end of its path. It takes no memory.
+pub fn is_template_name(path: &str) -> bool
+    ensures { result ≡ is_template_name path.now }
+{
+    ends_in(path, ".liquid") || ends_in(path, ".html")
+}
+
+/// Whether a file of data is read as YAML, by the end of its path. It takes no memory.
 pub fn is_yaml(path: &str) -> bool
     ensures { result ≡ is_yaml path.now }
 {
     ends_in(path, ".yaml") || ends_in(path, ".yml")
 }
 
-fn ends_in(path: &str, ending: &str) -> bool
+pub(crate) fn ends_in(path: &str, ending: &str) -> bool
     ensures { result ≡ has_ending ending.now path.now }
 {
     let bytes = path.as_bytes();

@@ -9,7 +9,7 @@ use Rattle.liquid_model.specs.ErrorKinds.{IsKindOrMemory, is_memory, is_refusal,
 use Rattle.liquid_model.specs.declared.error.Error.{Error}
 use Rattle.liquid_model.specs.declared.error.ErrorKind.{ErrorKind}
 use Rattle.liquid_model.specs.declared.error.ErrorKind.TheVariants.{InvalidInput, Memory, Write, Unclosed, BadItem, NumberLiteral, FloatLiteral, StateWord, UnknownTag, UnknownFilter, FilterArguments, Expected, MissingEnd, TooNested}
-use Rattle.liquid_filter_base.specs.FilterAnswers.{AnswersIf, AnswersOrMemory}
+use Rattle.liquid_model.specs.FilterAnswers.{AnswersIf, AnswersOrMemory}
 use Rattle.liquid_core.specs.Hosts.{last_named, of_host}
 
 -- ---- the last of a name

@@ -26,7 +26,7 @@ use Rattle.liquid_core.specs.LoopFrames.{loop_name, loop_object, item_of, scope_
 use Rattle.liquid_core.specs.declared.frame.Scope.TheVariants as variants
 use Rattle.liquid_core.specs.declared.frame.LoopFrame.{LoopFrame}
 use Rattle.liquid_core.specs.declared.frame.Scope.{Scope}
-use Rattle.liquid_core.specs.States.{data_held, value_below_loops, IsPlain, layers_of, environment_of, new_layers, with_scope_popped, with_scope_pushed, with_frame_at, enclosing_scopes, layers_with, with_interrupt, with_changed, with_assigned, with_cycle}
+use Rattle.liquid_core.specs.States.{data_held, value_below_loops, IsPlain, layers_of, environment_of, new_layers, with_missing, with_scope_popped, with_scope_pushed, with_frame_at, enclosing_scopes, layers_with, with_interrupt, with_changed, with_assigned, with_cycle}
 use Rattle.std.proofs.lemmas.List.{reverse-append, length-append}
 use Rattle.std.proofs.Math.Seq.{take-append_seam}
 use Rattle.std.proofs.lemmas.Slice.Eq.{bytes_eq-Decides}
@@ -91,9 +91,9 @@ pub turn_off : (ss : List Scope) (t : LoopFrame) → without_innermost (ss ++ va
 turn_off ss t = all_but_last ss (variants.LoopFrame t)
 
 pub popped : (s t : State) (o : Option (BTreeMap (String Global) Value)) → s.frames.items ≡ [] → t.frames ≡ s.frames → s.scopes.items ≡ t.scopes.items ++ option_to_list o → (0 < length s.scopes.items → IsSome o)
-    → t.assigned ≡ s.assigned → t.counters ≡ s.counters → t.«data» ≡ s.«data» → t.interrupt ≡ s.interrupt → t.cycles ≡ s.cycles → t.changed ≡ s.changed → layers_of t ≡ with_scope_popped (layers_of s)
+    → t.assigned ≡ s.assigned → t.counters ≡ s.counters → t.«data» ≡ s.«data» → t.interrupt ≡ s.interrupt → t.cycles ≡ s.cycles → t.changed ≡ s.changed → t.missing ≡ s.missing → layers_of t ≡ with_scope_popped (layers_of s)
 unfolding layers_of
-popped s t o n m e v a b c d f g =
+popped s t o n m e v a b c d f g k =
     let plain : scope_maps t.frames.items (reverse (map held t.scopes.items)) ≡ reverse (map held t.scopes.items) = ap (λ l. scope_maps l (reverse (map held t.scopes.items))) (ap (λ v. v.items) m ∙ n) in
     let before : scope_maps s.frames.items (reverse (map held s.scopes.items)) ≡ reverse (map held s.scopes.items) = ap (λ l. scope_maps l (reverse (map held s.scopes.items))) n in
     λ i. record {
@@ -102,12 +102,13 @@ popped s t o n m e v a b c d f g =
       counters = held (b i);
       globals = data_held (c i);
       registers = record { interrupt = d i; cycles = (λ group. get_by_text (f i) group); changed = option_map string_bytes (g i) };
+      missing = k i;
     }
 
 pub popped_turn : (s t : State) (o : Option Scope) → s.frames.items ≡ t.frames.items ++ option_to_list o → IsSome o → t.scopes ≡ s.scopes
-    → t.assigned ≡ s.assigned → t.counters ≡ s.counters → t.«data» ≡ s.«data» → t.interrupt ≡ s.interrupt → t.cycles ≡ s.cycles → t.changed ≡ s.changed → layers_of t ≡ with_scope_popped (layers_of s)
+    → t.assigned ≡ s.assigned → t.counters ≡ s.counters → t.«data» ≡ s.«data» → t.interrupt ≡ s.interrupt → t.cycles ≡ s.cycles → t.changed ≡ s.changed → t.missing ≡ s.missing → layers_of t ≡ with_scope_popped (layers_of s)
 unfolding layers_of
-popped_turn s t o e v m a b c d f g =
+popped_turn s t o e v m a b c d f g k =
     let outer : reverse (map held t.scopes.items) ≡ reverse (map held s.scopes.items) = ap (λ v. reverse (map held v.items)) m in
     λ i. record {
       scopes = (ap (scope_maps t.frames.items) outer ∙ enclosing_turns s.frames.items t.frames.items o (reverse (map held s.scopes.items)) e v) i;
@@ -115,15 +116,16 @@ popped_turn s t o e v m a b c d f g =
       counters = held (b i);
       globals = data_held (c i);
       registers = record { interrupt = d i; cycles = (λ group. get_by_text (f i) group); changed = option_map string_bytes (g i) };
+      missing = k i;
     }
 
 -- ---- pushes
 
 pub pushed_turn : (s t : State) (x : Scope) → t.frames.items ≡ s.frames.items ++ x ∷ [] → t.scopes ≡ s.scopes
-    → t.assigned ≡ s.assigned → t.counters ≡ s.counters → t.«data» ≡ s.«data» → t.interrupt ≡ s.interrupt → t.cycles ≡ s.cycles → t.changed ≡ s.changed
+    → t.assigned ≡ s.assigned → t.counters ≡ s.counters → t.«data» ≡ s.«data» → t.interrupt ≡ s.interrupt → t.cycles ≡ s.cycles → t.changed ≡ s.changed → t.missing ≡ s.missing
     → layers_of t ≡ with_scope_pushed (scope_map x (environment_of s).local) (layers_of s)
 unfolding layers_of
-pushed_turn s t x e m a b c d f g =
+pushed_turn s t x e m a b c d f g k =
     let outer : reverse (map held t.scopes.items) ≡ reverse (map held s.scopes.items) = ap (λ v. reverse (map held v.items)) m in
     λ i. record {
       scopes = (ap (scope_maps t.frames.items) outer ∙ ap (λ l. scope_maps l (reverse (map held s.scopes.items))) e ∙ standing_last s.frames.items x (reverse (map held s.scopes.items))) i;
@@ -131,13 +133,14 @@ pushed_turn s t x e m a b c d f g =
       counters = held (b i);
       globals = data_held (c i);
       registers = record { interrupt = d i; cycles = (λ group. get_by_text (f i) group); changed = option_map string_bytes (g i) };
+      missing = k i;
     }
 
 pub pushed_scope : (s t : State) (x : BTreeMap (String Global) Value) → s.frames.items ≡ [] → t.frames ≡ s.frames → t.scopes.items ≡ s.scopes.items ++ x ∷ []
-    → t.assigned ≡ s.assigned → t.counters ≡ s.counters → t.«data» ≡ s.«data» → t.interrupt ≡ s.interrupt → t.cycles ≡ s.cycles → t.changed ≡ s.changed
+    → t.assigned ≡ s.assigned → t.counters ≡ s.counters → t.«data» ≡ s.«data» → t.interrupt ≡ s.interrupt → t.cycles ≡ s.cycles → t.changed ≡ s.changed → t.missing ≡ s.missing
     → layers_of t ≡ with_scope_pushed (held x) (layers_of s)
 unfolding layers_of
-pushed_scope s t x n m e a b c d f g =
+pushed_scope s t x n m e a b c d f g k =
     let plain : scope_maps t.frames.items (reverse (map held t.scopes.items)) ≡ reverse (map held t.scopes.items) = ap (λ l. scope_maps l (reverse (map held t.scopes.items))) (ap (λ v. v.items) m ∙ n) in
     let before : scope_maps s.frames.items (reverse (map held s.scopes.items)) ≡ reverse (map held s.scopes.items) = ap (λ l. scope_maps l (reverse (map held s.scopes.items))) n in
     λ i. record {
@@ -146,25 +149,27 @@ pushed_scope s t x n m e a b c d f g =
       counters = held (b i);
       globals = data_held (c i);
       registers = record { interrupt = d i; cycles = (λ group. get_by_text (f i) group); changed = option_map string_bytes (g i) };
+      missing = k i;
     }
 
 -- nothing changed
 pub unchanged : (s t : State) → t.frames.items ≡ s.frames.items → t.scopes.items ≡ s.scopes.items
-    → t.assigned ≡ s.assigned → t.counters ≡ s.counters → t.«data» ≡ s.«data» → t.interrupt ≡ s.interrupt → t.cycles ≡ s.cycles → t.changed ≡ s.changed → layers_of t ≡ layers_of s
+    → t.assigned ≡ s.assigned → t.counters ≡ s.counters → t.«data» ≡ s.«data» → t.interrupt ≡ s.interrupt → t.cycles ≡ s.cycles → t.changed ≡ s.changed → t.missing ≡ s.missing → layers_of t ≡ layers_of s
 unfolding layers_of
-unchanged s t m n a b c d f g = λ i. record {
+unchanged s t m n a b c d f g k = λ i. record {
   scopes = scope_maps (m i) (reverse (map held (n i)));
   assigned = held (a i);
   counters = held (b i);
   globals = data_held (c i);
   registers = record { interrupt = d i; cycles = (λ group. get_by_text (f i) group); changed = option_map string_bytes (g i) };
+  missing = k i;
 }
 
 -- the parts of a state without loops
 pub taken_apart : (s : State) (p : Parts) → s.frames.items ≡ [] → p.scopes ≡ s.scopes
-    → p.assigned ≡ s.assigned → p.counters ≡ s.counters → p.interrupt ≡ s.interrupt → p.cycles ≡ s.cycles → p.changed ≡ s.changed → layers_with p (data_held s.«data») ≡ layers_of s
+    → p.assigned ≡ s.assigned → p.counters ≡ s.counters → p.interrupt ≡ s.interrupt → p.cycles ≡ s.cycles → p.changed ≡ s.changed → p.missing ≡ s.missing → layers_with p (data_held s.«data») ≡ layers_of s
 unfolding layers_of
-taken_apart s p n m a b d f g =
+taken_apart s p n m a b d f g k =
     let plain : scope_maps s.frames.items (reverse (map held s.scopes.items)) ≡ reverse (map held s.scopes.items) = ap (λ l. scope_maps l (reverse (map held s.scopes.items))) n in
     λ i. record {
       scopes = (ap (λ v. reverse (map held v.items)) m ∙ sym plain) i;
@@ -172,21 +177,22 @@ taken_apart s p n m a b d f g =
       counters = held (b i);
       globals = data_held s.«data»;
       registers = record { interrupt = d i; cycles = (λ group. get_by_text (f i) group); changed = option_map string_bytes (g i) };
+      missing = k i;
     }
 
 pub put_together : (s : State) (p : Parts) → s.frames.items ≡ [] → s.scopes ≡ p.scopes
-    → s.assigned ≡ p.assigned → s.counters ≡ p.counters → s.interrupt ≡ p.interrupt → s.cycles ≡ p.cycles → s.changed ≡ p.changed → layers_of s ≡ layers_with p (data_held s.«data»)
-put_together s p n m a b d f g = sym (taken_apart s p n (sym m) (sym a) (sym b) (sym d) (sym f) (sym g))
+    → s.assigned ≡ p.assigned → s.counters ≡ p.counters → s.interrupt ≡ p.interrupt → s.cycles ≡ p.cycles → s.changed ≡ p.changed → s.missing ≡ p.missing → layers_of s ≡ layers_with p (data_held s.«data»)
+put_together s p n m a b d f g k = sym (taken_apart s p n (sym m) (sym a) (sym b) (sym d) (sym f) (sym g) (sym k))
 
 -- a loop at its next item binds what it binds there
 next_map : (t u : LoopFrame) (local : Map Datum) → IsNext t u → frame_map_at u u.at local ≡ frame_map_at t (t.at + 1) local
 next_map t u local n = λ i. loop_scope (loop_name (n.kind i)) (loop_object (n.kind i) (n.at i) (n.count i) local) (n.name i).now (item_of (n.items i) (place_of (n.reversed i) (n.from i) (n.count i) (n.at i)))
 
 pub advanced : (s n : State) (before : List Scope) (t u : LoopFrame) → EndsIn s.frames.items before t → EndsIn n.frames.items before u → IsNext t u → n.scopes ≡ s.scopes
-    → n.assigned ≡ s.assigned → n.counters ≡ s.counters → n.«data» ≡ s.«data» → n.interrupt ≡ s.interrupt → n.cycles ≡ s.cycles → n.changed ≡ s.changed
+    → n.assigned ≡ s.assigned → n.counters ≡ s.counters → n.«data» ≡ s.«data» → n.interrupt ≡ s.interrupt → n.cycles ≡ s.cycles → n.changed ≡ s.changed → n.missing ≡ s.missing
     → layers_of n ≡ with_frame_at t (t.at + 1) (layers_of s)
 unfolding layers_of
-advanced s n before t u old new next m a b c d f g =
+advanced s n before t u old new next m a b c d f g k =
     let outer = reverse (map held s.scopes.items) in
     let same : reverse (map held n.scopes.items) ≡ outer = ap (λ v. reverse (map held v.items)) m in
     let was : scope_maps s.frames.items outer ≡ frame_map_at t t.at (local_of (scope_maps before outer)) ∷ scope_maps before outer = ap (λ l. scope_maps l outer) old ∙ standing_last before (variants.LoopFrame t) outer in
@@ -199,6 +205,7 @@ advanced s n before t u old new next m a b c d f g =
       counters = held (b i);
       globals = data_held (c i);
       registers = record { interrupt = d i; cycles = (λ group. get_by_text (f i) group); changed = option_map string_bytes (g i) };
+      missing = k i;
     }
 
 -- ---- looking up
@@ -281,7 +288,7 @@ counter_of s q = refl
 
 -- ---- a new state
 
-pub all_empty : (s : State) → s.frames.items ≡ [] → s.scopes.items ≡ [] → s.assigned.entries ≡ [] → s.counters.entries ≡ [] → s.interrupt ≡ None → s.cycles.entries ≡ [] → s.changed ≡ None → layers_of s ≡ new_layers (data_held s.«data»)
+pub all_empty : (s : State) → s.frames.items ≡ [] → s.scopes.items ≡ [] → s.assigned.entries ≡ [] → s.counters.entries ≡ [] → s.interrupt ≡ None → s.cycles.entries ≡ [] → s.changed ≡ None → layers_of s ≡ with_missing s.missing (new_layers (data_held s.«data»))
 unfolding layers_of map_of empty
 all_empty s n a b c d e f = λ i. record {
   scopes = scope_maps (n i) (reverse (map held (a i)));
@@ -289,6 +296,7 @@ all_empty s n a b c d e f = λ i. record {
   counters = map_of (pairs_view (c i));
   globals = data_held s.«data»;
   registers = record { interrupt = d i; cycles = (λ group. entry_of (is_at (λ k. slice_cmp nat_cmp group (string_bytes k))) (e i)); changed = option_map string_bytes (f i) };
+  missing = s.missing;
 }
 
 -- ---- registers, which callers read and set as fields
@@ -323,6 +331,7 @@ assigned_set s m name v h = λ i. record {
   counters = held s.counters;
   globals = data_held s.«data»;
   registers = record { interrupt = s.interrupt; cycles = (λ group. get_by_text s.cycles group); changed = option_map string_bytes s.changed };
+  missing = s.missing;
 }
 
 -- where the map of the assigned variables has no entry of a name, none was assigned
@@ -342,4 +351,5 @@ cycle_set s m group index h = λ i. record {
   counters = held s.counters;
   globals = data_held s.«data»;
   registers = record { interrupt = s.interrupt; cycles = fun_ext (λ q. btree_map_updates_text group s.cycles m (Some index) h q) i; changed = option_map string_bytes s.changed };
+  missing = s.missing;
 }

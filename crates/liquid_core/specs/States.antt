@@ -16,6 +16,8 @@ use Rattle.liquid_core.specs.declared.state.Parts.{Parts}
 use Rattle.liquid_core.specs.declared.state.Data.{Data}
 use Rattle.liquid_core.specs.declared.state.Data.TheVariants.{Own, Borrowed}
 use Rattle.liquid_core.specs.declared.interrupt.Interrupt.{Interrupt}
+use Rattle.liquid_core.specs.declared.missing_value.Missing.{Missing}
+use Rattle.liquid_core.specs.declared.missing_value.Missing.TheVariants.{IsFault}
 
 abbrev pub data_held : Data → Map Datum
 data_held (Own object) = held object
@@ -29,6 +31,8 @@ pub record Layers : Type 0 where
   -- the data of the run
   pub globals : Map Datum
   pub registers : Registers
+  -- what becomes of a missing value
+  pub missing : Missing
 
 unfoldable pub layers_of : State → Layers
 layers_of s = record {
@@ -41,6 +45,7 @@ layers_of s = record {
     cycles = (λ group. get_by_text s.cycles group);
     changed = option_map string_bytes s.changed;
   };
+  missing = s.missing;
 }
 
 -- the scopes as one map
@@ -51,6 +56,7 @@ merged_layers l = record {
   counters = l.counters;
   globals = l.globals;
   registers = l.registers;
+  missing = l.missing;
 }
 
 abbrev pub environment_of : State → Environment
@@ -64,7 +70,12 @@ new_layers globals = record {
   counters = empty;
   globals = globals;
   registers = new_registers;
+  missing = IsFault;
 }
+
+-- a state in which a missing value is this
+abbrev pub with_missing : Missing → Layers → Layers
+with_missing missing l = record l { missing = missing }
 
 -- ---- changes
 
@@ -140,4 +151,5 @@ layers_with p globals = record {
     cycles = (λ group. get_by_text p.cycles group);
     changed = option_map string_bytes p.changed;
   };
+  missing = p.missing;
 }

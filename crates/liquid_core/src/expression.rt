@@ -13,7 +13,7 @@ ghost use Rattle.liquid_model.specs.View.{view};
 ghost use Rattle.liquid_model.specs.Answer.{Answers, IsValueOrMemory, TakesNoMemory};
 ghost use Rattle.liquid_model.specs.Cow.{cow_view};
 ghost use Rattle.liquid_model.specs.Errors.{BeginsUnlessMemory, without_value_front};
-ghost use Rattle.liquid_core.specs.Expressions.{value_of, required};
+ghost use Rattle.liquid_core.specs.Expressions.{value_of, required, sought};
 ghost use Rattle.liquid_core.specs.ExpressionView.{expression_view, steps_view, variable_view};
 ghost use Rattle.liquid_core.specs.States.{environment_of, loops_of, FindsLoop};
 ghost use Rattle.liquid_core.specs.Resolved.{resolved_view, IsAmong, IsHeld};
@@ -23,6 +23,7 @@ ghost use Rattle.liquid_model.specs.declared.error.ErrorKind.TheVariants.{Unknow
 
 use crate::frame::LoopFrame;
 use crate::missing::{Words, words_of, words_of_variable};
+use crate::missing_value::Missing;
 use crate::resolved::{DirectValue, Resolved};
 use crate::spelled::{Spelled, SpelledPath};
 use crate::state::State;
@@ -76,8 +77,8 @@ impl Expression {
         valued(alloc, expression_value(self, state))
     }
 
-    /// The same, or `UnknownVariable` where the expression has no value. That fault takes memory
-    /// too.
+    /// The same, or `UnknownVariable` where the expression has no value, unless a missing value is
+    /// nil in this state. That fault takes memory too.
     pub fn evaluate<'a>(&'a self, alloc: Global, state: &'a State<'_>) -> Result<ValueCow<'a>>
         ensures value { Answers cow_view result (required (expression_view self.now)
             (environment_of state.now)) }
@@ -90,7 +91,24 @@ impl Expression {
     {
         match valued(alloc, expression_value(self, state))? {
             Some(value) => Ok(value),
-            None => Err(self.without_value(alloc, state)),
+            None => match state.missing() {
+                Missing::IsNil => Ok(ValueCow::Owned(Value::Nil)),
+                Missing::IsFault => Err(self.without_value(alloc, state)),
+            },
+        }
+    }
+
+    /// The same, with `None` in place of that nil.
+    pub fn sought<'a>(&'a self, alloc: Global, state: &'a State<'_>) -> Result<Option<ValueCow<'a>>>
+        ensures { Answers (λ r. option_map cow_view r) result (sought (expression_view self.now)
+            (environment_of state.now)) }
+    {
+        match valued(alloc, expression_value(self, state))? {
+            Some(value) => Ok(Some(value)),
+            None => match state.missing() {
+                Missing::IsNil => Ok(None),
+                Missing::IsFault => Err(self.without_value(alloc, state)),
+            },
         }
     }
 
@@ -135,7 +153,10 @@ impl Expression {
     {
         match expression_value(self, state) {
             Some(resolved) => Ok(resolved),
-            None => Err(self.without_value(alloc, state)),
+            None => match state.missing() {
+                Missing::IsNil => Ok(Resolved::Local(Found::Nil)),
+                Missing::IsFault => Err(self.without_value(alloc, state)),
+            },
         }
     }
 
@@ -189,7 +210,8 @@ impl Variable {
         valued(alloc, variable_value(self, state))
     }
 
-    /// The same, or `UnknownVariable` where the variable has no value. That fault takes memory too.
+    /// The same, or `UnknownVariable` where the variable has no value, unless a missing value is
+    /// nil in this state. That fault takes memory too.
     pub fn evaluate<'a>(&'a self, alloc: Global, state: &'a State<'_>) -> Result<ValueCow<'a>>
         ensures value { Answers cow_view result
             (required (variable_view self.now) (environment_of state.now)) }
@@ -202,7 +224,10 @@ impl Variable {
     {
         match valued(alloc, variable_value(self, state))? {
             Some(value) => Ok(value),
-            None => Err(self.without_value(alloc, state)),
+            None => match state.missing() {
+                Missing::IsNil => Ok(ValueCow::Owned(Value::Nil)),
+                Missing::IsFault => Err(self.without_value(alloc, state)),
+            },
         }
     }
 

@@ -9,11 +9,10 @@ ghost use Rattle.liquid_model.specs.ErrorKinds.{IsKindOrMemory};
 ghost use Rattle.liquid_model.specs.View.{view};
 ghost use Rattle.liquid_model.specs.declared.error.ErrorKind.{ErrorKind};
 ghost use Rattle.liquid_model.specs.declared.error.ErrorKind.TheVariants.{Unsupported};
-ghost use Rattle.liquid_filter_base.specs.FilterAnswers.{AnswersIf, FilterAnswer, AnswersOrMemory};
+ghost use Rattle.liquid_model.specs.FilterAnswers.{AnswersIf, FilterAnswer, AnswersOrMemory};
 ghost use Rattle.liquid_core.specs.Hosts.{host_answer, last_named, of_host};
 
-use liquid_filter_base::Filter;
-use liquid_model::{Error, ErrorKind, Result, Value};
+use liquid_model::{Error, ErrorKind, Filter, Result, Value};
 use std::alloc::Global;
 
 /// Filters of the host, by name. Of two with one name the later counts.

@@ -12,6 +12,7 @@ mod interrupt;
 pub mod laws;
 mod loop_object;
 mod missing;
+mod missing_value;
 mod resolved;
 mod similar_name;
 mod spelled;
@@ -23,11 +24,11 @@ pub use expression::{Expression, Variable};
 pub use frame::{Columns, Items, LoopFrame, LoopKind, Scope};
 pub use host_filters::{HostFilters, NamedFilters};
 pub use interrupt::Interrupt;
-pub use liquid_filter_base::Filter;
 pub use liquid_model::{
-    Error, ErrorKind, Found, ItemUse, Location, Object, Origin, Quoted, Result, Use, Uses, Value,
-    ValueCow, copy_items, excerpt, line_of, look_up, member_of, store, whole_of,
+    Error, ErrorKind, Filter, Found, ItemUse, Location, Object, Origin, Quoted, Result, Use, Uses,
+    Value, ValueCow, copy_items, excerpt, line_of, look_up, member_of, store, value_size, whole_of,
 };
+pub use missing_value::Missing;
 pub use resolved::{DirectValue, Resolved, Scopes};
 pub use similar_name::{SimilarName, more_similar};
 pub use spelled::Spelled;

@@ -5,8 +5,9 @@ use Rattle.liquid_model.specs.Texts.{◌else◌}
 use Rattle.liquid_model.specs.Data.{Datum}
 use Rattle.liquid_model.specs.Maps.{Map, empty, merged}
 use Rattle.liquid_model.specs.declared.error.Error.{Error}
-use Rattle.liquid_core.specs.Environment.{Environment, new_environment, new_registers}
-use Rattle.liquid_core.specs.States.{Layers, merged_layers, new_layers, with_scope_pushed}
+use Rattle.liquid_core.specs.Environment.{Environment, own_environment}
+use Rattle.liquid_core.specs.declared.missing_value.Missing.{Missing}
+use Rattle.liquid_core.specs.States.{Layers, merged_layers, new_layers, with_missing, with_scope_pushed}
 use Rattle.liquid_core.specs.declared.interrupt.Interrupt.{Interrupt}
 use Rattle.liquid_engine.specs.Performs.{Meets, Performs}
 use Rattle.liquid_engine.specs.inside.Partials.{left_with}
@@ -44,11 +45,7 @@ over_none : (names : Map Datum) → merged names empty ≡ names
 unfolding merged empty
 over_none names = fun_ext (λ name. none_else (names name))
 
-with_local : Map Datum → Environment
-with_local names = record { local = names; assigned = empty; counters = empty; globals = empty; registers = new_registers }
-
 -- a new state with one scope
-pub own_environment : (names globals : Map Datum) (l : Layers) → l ≡ with_scope_pushed names (new_layers globals) → globals ≡ empty → merged_layers l ≡ new_environment names
-unfolding with_local
-own_environment names globals l is none =
-    ap merged_layers is ∙ ap (λ g. merged_layers (with_scope_pushed names (new_layers g))) none ∙ ap with_local (over_none names)
+pub state_of_own : (missing : Missing) (names globals : Map Datum) (l : Layers) → l ≡ with_scope_pushed names (with_missing missing (new_layers globals)) → globals ≡ empty → merged_layers l ≡ own_environment missing names
+state_of_own missing names globals l is none =
+    ap merged_layers is ∙ ap (λ g. merged_layers (with_scope_pushed names (with_missing missing (new_layers g)))) none ∙ ap (own_environment missing) (over_none names)

@@ -77,4 +77,5 @@ cycles_same s m is = λ i. record {
   counters = held s.counters;
   globals = (layers_of s).globals;
   registers = record { interrupt = s.interrupt; cycles = (λ group. entry_of (is_at (λ k. slice_cmp nat_cmp group (string_bytes k))) (is i)); changed = option_map string_bytes s.changed };
+  missing = s.missing;
 }

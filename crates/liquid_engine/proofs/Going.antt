@@ -159,7 +159,7 @@ pub kept_on : (names : List Text) (setting : Setting) (s t u : State) → Keeps 
 kept_on names setting s t u h k N within inside =
     let a = h N within inside in
     let b = k N within inside in
-    record { scopes = b.scopes ∙ a.scopes; globals = b.globals ∙ a.globals; assigned = λ q o. b.assigned q o ∙ a.assigned q o; counters = λ q o. b.counters q o ∙ a.counters q o }
+    record { scopes = b.scopes ∙ a.scopes; globals = b.globals ∙ a.globals; assigned = λ q o. b.assigned q o ∙ a.assigned q o; counters = λ q o. b.counters q o ∙ a.counters q o; missing = b.missing ∙ a.missing }
 
 pub kept_step : (setting : Setting) (depth : ℕ) (ns : List Node) (from at to : ℕ) (start here : Configuration) (s t u : State) (f : Forest Maker) → IsForestAt ns from f to → Going setting depth ns from at to start here → at < to
     → NodeKeeps setting ns at t u → Keeps (nodes_names (nodes_of f)) setting s t → Keeps (nodes_names (nodes_of f)) setting s u

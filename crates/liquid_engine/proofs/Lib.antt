@@ -4,6 +4,7 @@ pub mod BorrowedData
 pub mod Bound
 pub mod CaseChoices
 pub mod Cases
+pub mod ChainBytes
 pub mod Choices
 pub mod Counting
 pub mod Cycles
@@ -12,6 +13,7 @@ pub mod HostedPages
 pub mod Interrupts
 pub mod ItemRuns
 pub mod Joined
+pub mod LenientPages
 pub mod LimitedPages
 pub mod LoopItems
 pub mod LoopMeanings

@@ -11,7 +11,7 @@ use Rattle.liquid_model.specs.Texts.{Text, ◌else◌}
 use Rattle.liquid_model.specs.declared.error.Error.{Error}
 use Rattle.liquid_model.specs.declared.error.ErrorKind.{ErrorKind}
 use Rattle.liquid_model.specs.declared.error.ErrorKind.TheVariants.{Memory, TooDeep, UnknownPartial}
-use Rattle.liquid_core.specs.Environment.{Environment, Names, local_of, new_environment}
+use Rattle.liquid_core.specs.Environment.{Environment, Names, local_of, own_environment}
 use Rattle.liquid_core.specs.Expression.{Expression}
 use Rattle.liquid_core.specs.States.{Layers, merged_layers, enclosing_scopes, with_scope_popped, with_scope_pushed}
 use Rattle.liquid_core.specs.declared.interrupt.Interrupt.{Interrupt}
@@ -27,7 +27,7 @@ use Rattle.liquid_meaning.specs.Runs as runs
 use Rattle.liquid_meaning.specs.Runs.{Nothing, Outcome, Run, apart, done, evaluate, fault, go_on, with_scope}
 use Rattle.liquid_meaning.specs.Within.{Within}
 use Rattle.liquid_meaning.proofs.Rules.{include_rule, jekyll_rule, render_rule}
-use Rattle.liquid_filter_base.specs.FilterAnswers.{FilterAnswer}
+use Rattle.liquid_model.specs.FilterAnswers.{FilterAnswer}
 use Rattle.liquid_evaluation.specs.Evaluation.{answers_with}
 use Rattle.liquid_engine.specs.declared.context.RunContext.{RunContext}
 use Rattle.liquid_engine.specs.inside.Engine.{nodes_meant, setting_of}
@@ -235,6 +235,23 @@ apart_ends : (own : Environment) (e : Environment) → apart_in own (fault TooDe
 unfolding fault evaluate
 apart_ends own e = refl
 
+-- a run apart is one in an environment of the same constant: evaluating leaves that as it is
+module _ (setting : Setting) (over : List (Text × Datum) → Map Datum) where
+  abbrev own_over : Environment → List (Text × Datum) → Environment
+  own_over e pairs = own_environment e.missing (over pairs)
+
+  apart_at : (depth : ℕ) (e : Environment) (b : Result (List (Text × Datum)) ErrorKind) (look : Result tree.Nodes ErrorKind)
+      → go_on (λ pairs. runs.◌>>=◌ (evaluate (λ e. look)) (λ partial. apart (over pairs) (deeper_meaning setting depth partial))) [] e b
+      ≡ go_on (λ pairs. runs.◌>>=◌ (evaluate (λ e. look)) (λ partial. apart_in (own_over e pairs) (deeper_meaning setting depth partial))) [] e b
+  unfolding go_on evaluate runs.◌>>=◌ apart
+  apart_at depth e (Ok pairs) (Ok partial) = refl
+  apart_at depth e (Ok pairs) (Err kind) = refl
+  apart_at depth e (Err kind) look = refl
+
+  looked_apart : (bindings : tree.Bindings) (look : Result tree.Nodes ErrorKind) (depth : ℕ) (e : Environment) → looked over apart setting depth bindings look e ≡ runs.◌>>=◌ (evaluate (entry_of (own_over e) look depth bindings)) (inside (own_over e) apart_in setting) e
+  unfolding evaluate runs.◌>>=◌
+  looked_apart bindings look depth e = apart_at depth e (bound_values bindings e) look ∙ looked_is (own_over e) apart_in setting apart_ends bindings look depth e
+
 module _ (setting : Setting) (depth : ℕ) (x : Expression) (bindings : tree.Bindings) where
   abbrev included : Map Datum × (Text × (tree.Nodes × ℕ)) → Run Nothing
   included s = with_scope s.0 (nodes_meant setting s.1.1.1 s.1.1.0)
@@ -270,8 +287,8 @@ module _ (setting : Setting) (depth : ℕ) (x : Expression) (bindings : tree.Bin
   unfolding evaluate runs.◌>>=◌ apart go_on
   render_is e =
       (λ i. render_rule setting (deeper_meaning setting depth) x bindings i e)
-      ∙ named_at after_it (λ name. entry_of render_environment (render_partial setting.partials name) depth bindings e) (λ name. looked render_environment apart_in setting depth bindings (render_partial setting.partials name)) (inside render_environment apart_in setting) e (λ kind. refl)
-      (λ name. looked_is render_environment apart_in setting apart_ends bindings (render_partial setting.partials name) depth e) (partial_name_text x e)
+      ∙ named_at after_it (λ name. entry_of (render_environment e.missing) (render_partial setting.partials name) depth bindings e) (λ name. looked pairs_scope apart setting depth bindings (render_partial setting.partials name)) (inside (render_environment e.missing) apart_in setting) e (λ kind. refl)
+      (λ name. looked_apart setting pairs_scope bindings (render_partial setting.partials name) depth e) (partial_name_text x e)
 
   pub render_refused : (e : Error) (p : Configuration) → Faulted e.kind (render_entry setting.partials depth x bindings p.environment) → Performs (Err e) (node_meaning setting (deeper_meaning setting depth) (tree.render x None bindings)) p p
   render_refused e p h = refused_by unit (node_meaning setting (deeper_meaning setting depth) (tree.render x None bindings)) (render_entry setting.partials depth x bindings) rendered p (render_is p.environment) e h
@@ -310,15 +327,15 @@ module _ (setting : Setting) (depth : ℕ) (name : Text) (bindings : tree.Bindin
 
   -- a `render .. for` at one of its items, which has these names over the pairs
   module _ (names : Map Datum) where
-    abbrev item_names : List (Text × Datum) → Environment
-    item_names pairs = new_environment (merged names (pairs_scope pairs))
+    abbrev item_names : List (Text × Datum) → Map Datum
+    item_names pairs = merged names (pairs_scope pairs)
 
     abbrev item_rendered : Environment × (tree.Nodes × ℕ) → Run (Option Interrupt)
     item_rendered s = apart_in s.0 (nodes_meant setting s.1.1 s.1.0)
 
     item_is : (e : Environment) → render_apart setting (deeper_meaning setting depth) name bindings names e ≡ runs.◌>>=◌ (evaluate (item_entry setting.partials depth name bindings names)) item_rendered e
-    unfolding apart
-    item_is e = looked_is item_names apart_in setting apart_ends bindings (render_partial setting.partials name) depth e
+    unfolding apart bound_values evaluate runs.◌>>=◌
+    item_is e = looked_apart setting item_names bindings (render_partial setting.partials name) depth e
 
     pub item_refused : (e : Error) (p : Configuration) → Faulted e.kind (item_entry setting.partials depth name bindings names p.environment) → Meets (λ (i : Option Interrupt). i) (Err e) (render_apart setting (deeper_meaning setting depth) name bindings names) p p
     item_refused e p h = refused_by (λ (i : Option Interrupt). i) (render_apart setting (deeper_meaning setting depth) name bindings names) (item_entry setting.partials depth name bindings names) item_rendered p (item_is p.environment) e h
@@ -346,7 +363,7 @@ kept_around N scope l p q m pushed kept popped = subst (LayersKept N l) (sym pop
     on : (p : Layers) → p ≡ with_scope_pushed scope l → LayersKept N p q → LayersKept N l (with_scope_popped q)
     on p is k =
         let s : LayersKept N (with_scope_pushed scope l) q = subst (λ z. LayersKept N z q) is k in
-        record { scopes = ap enclosing_scopes s.scopes; globals = s.globals; assigned = s.assigned; counters = s.counters }
+        record { scopes = ap enclosing_scopes s.scopes; globals = s.globals; assigned = s.assigned; counters = s.counters; missing = s.missing }
 
 -- a run over a scope that was pushed before it and is popped after it
 pub partial_met : (scope : Map Datum) (r : Result (Unit {0}) Error) (m : Run Nothing) (s t : Sink) (l p q z : Layers) → p ≡ with_scope_pushed scope l → q.scopes ≡ p.scopes → z ≡ with_scope_popped q
@@ -356,7 +373,7 @@ partial_met scope r m s t l p q z pushed kept popped h =
     let inside : Performs r m (record { sink = s; environment = merged_layers (with_scope_pushed scope l) }) (record { sink = t; environment = merged_layers q }) =
     subst (λ y. Performs r m (record { sink = s; environment = merged_layers y }) (record { sink = t; environment = merged_layers q })) pushed h in
     let loc : local_of l.scopes ≡ local_of (enclosing_scopes q.scopes) = sym (ap (λ x. local_of (enclosing_scopes x)) (kept ∙ ap (λ y. y.scopes) pushed)) in
-    let with_local : Map Datum → Environment = λ x. record { local = x; assigned = q.assigned; counters = q.counters; globals = q.globals; registers = q.registers } in
+    let with_local : Map Datum → Environment = λ x. record { local = x; assigned = q.assigned; counters = q.counters; globals = q.globals; registers = q.registers; missing = q.missing } in
     let back : with_local (local_of l.scopes) ≡ merged_layers z = ap with_local loc ∙ sym (ap merged_layers popped) in
     subst (λ g. Performs r (with_scope scope m) (record { sink = s; environment = merged_layers l }) (record { sink = t; environment = g })) back
     (scope_met unit r scope m s t (merged_layers l) (merged_layers q) inside)

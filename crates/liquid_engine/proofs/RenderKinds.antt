@@ -10,7 +10,7 @@ use Rattle.liquid_model.specs.ErrorKinds.{is_memory, is_refusal, number_of}
 use Rattle.liquid_model.specs.declared.error.Error.{Error}
 use Rattle.liquid_model.specs.declared.error.ErrorKind.{ErrorKind}
 use Rattle.liquid_model.specs.declared.error.ErrorKind.TheVariants.{InvalidInput, Unsupported, Memory, Write}
-use Rattle.liquid_filter_base.specs.FilterAnswers.{FilterAnswer}
+use Rattle.liquid_model.specs.FilterAnswers.{FilterAnswer}
 use Rattle.liquid_core.specs.Hosts.{as_of_run, host_answer, last_named, named_by, of_host}
 use Rattle.liquid_core.specs.declared.host_filters.HostFilters.{HostFilters}
 use Rattle.liquid_evaluation.specs.Evaluation.{answers_with}

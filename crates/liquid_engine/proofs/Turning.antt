@@ -238,7 +238,7 @@ enclosing_after_advance t k l n is = ap with_scope_popped is
 -- ---- what is kept
 
 pub kept_inside : (N : Names) (p q : Layers) → LayersKept N p q → LayersKept N (with_scope_popped p) (with_scope_popped q)
-kept_inside N p q k = record { scopes = ap enclosing_scopes k.scopes; globals = k.globals; assigned = k.assigned; counters = k.counters }
+kept_inside N p q k = record { scopes = ap enclosing_scopes k.scopes; globals = k.globals; assigned = k.assigned; counters = k.counters; missing = k.missing }
 
 -- a further turn: l at the start, p before it, q after its body, w after the interrupt was cleared
 pub kept_turn : (N : Names) (l p q w : Layers) → LayersKept N (with_scope_popped l) (with_scope_popped p) → LayersKept N p q → w ≡ with_interrupt None q → LayersKept N (with_scope_popped l) (with_scope_popped w)

@@ -3,7 +3,7 @@ use Rattle.std.proofs.Common.{◌≡◌, [], Bool, true, false, Result, Ok, Err,
 use Rattle.std.specs.Prelude.{MatchBool, ⊤}
 use Rattle.liquid_model.specs.declared.error.Error.{Error}
 use Rattle.liquid_model.specs.declared.error.ErrorKind.{ErrorKind}
-use Rattle.liquid_model.specs.declared.error.ErrorKind.TheVariants.{Write}
+use Rattle.liquid_model.specs.declared.error.ErrorKind.TheVariants.{Memory, Write}
 use Rattle.liquid_model.specs.ErrorKinds.{IsKindOrMemory, is_memory}
 use Rattle.liquid_core.specs.Environment.{Environment}
 use Rattle.liquid_engine.specs.Failures.{OneFailed}
@@ -22,6 +22,10 @@ refused_cut {V} e s u kind failed buffer contents = record { cause = on (is_memo
     on : (b : Bool) → is_memory e.kind ≡ b → MatchBool b ⊤ (Write ≡ e.kind) → IsCut {V = V} (Err e) s.failures u.failures
     on true is k = inl (memory_of e.kind is, inr failed)
     on false is k = inr (sym k, failed)
+
+-- want of memory before anything was written
+pub memory_cut : {V : Type 0} (e : Error) (s : Sink) → e.kind ≡ Memory → Cut {V = V} (Err e) [] s s
+memory_cut e s is = record { cause = inl (is, inl refl); adds = part-of_none s s [] (Adds-nil s) }
 
 -- a run that may not begin has written a beginning of its text: nothing
 pub may_not_begin : {V : Type 0} (e : Error) (m : Run Nothing) (s u : Sink) (before after : Environment) → Cut {V = V} (Err e) [] s u → Performs (Err e) m (record { sink = s; environment = before }) (record { sink = u; environment = after })

@@ -3,6 +3,7 @@ pub mod CountedParts
 pub mod Failures
 pub mod Forloop
 pub mod HostedPages
+pub mod LenientPages
 pub mod LimitedPages
 pub mod LimitedParts
 pub mod Limits

@@ -4,7 +4,7 @@ use Rattle.liquid_model.specs.ErrorKinds.{number_of}
 use Rattle.liquid_model.specs.declared.error.Error.{Error}
 use Rattle.liquid_model.specs.declared.error.ErrorKind.{ErrorKind}
 use Rattle.liquid_core.specs.Environment.{Names, Environment, cut}
-use Rattle.liquid_filter_base.specs.FilterAnswers.{FilterAnswer}
+use Rattle.liquid_model.specs.FilterAnswers.{FilterAnswer}
 use Rattle.liquid_evaluation.specs.Names.{run_names, mentioned}
 use Rattle.liquid_evaluation.specs.Tree.{Nodes}
 use Rattle.liquid_engine.specs.Sinks.{Adds}

@@ -9,7 +9,7 @@ use Rattle.liquid_model.specs.Texts.{Text}
 use Rattle.liquid_model.specs.Data.{Datum}
 use Rattle.liquid_model.specs.Maps.{Map}
 use Rattle.liquid_core.specs.Environment.{Environment}
-use Rattle.liquid_filter_base.specs.FilterAnswers.{FilterAnswer}
+use Rattle.liquid_model.specs.FilterAnswers.{FilterAnswer}
 use Rattle.liquid_core.specs.Hosts.{named_by}
 use Rattle.liquid_core.specs.Held.{held}
 use Rattle.liquid_core.specs.States.{Layers, layers_of, environment_of}

@@ -10,13 +10,14 @@ use Rattle.liquid_meaning.specs.Isolation.{HoldsOutside}
 use Rattle.liquid_meaning.specs.Meaning.{Setting}
 use Rattle.liquid_meaning.specs.Within.{Within}
 
--- the scopes and the data as they were, and the assigned variables and the counters under each name
--- that is not in N
+-- the scopes, the data and what becomes of a missing value as they were, and the assigned variables
+-- and the counters under each name that is not in N
 pub record LayersKept (N : Names) (old new : Layers) : Type 0 where
   pub scopes : new.scopes ≡ old.scopes
   pub globals : new.globals ≡ old.globals
   pub assigned : HoldsOutside N old.assigned new.assigned
   pub counters : HoldsOutside N old.counters new.counters
+  pub missing : new.missing ≡ old.missing
 
 -- for every set of names that has these and those of the partials
 abbrev pub Keeps : List Text → Setting → State → State → Type 0

@@ -1,3 +1,4 @@
+pub mod ChainBytes
 pub mod Changed
 pub mod Choices
 pub mod Counters

@@ -3,7 +3,8 @@ ghost use Rattle.std.specs.Prelude.{◌≡◌, ℕ, List, Option, None, true, fa
 ghost use Rattle.std.specs.Io.{WritesAtMost};
 ghost use Rattle.std.specs.Io.KnownBytes.{WriteAppends};
 ghost use Rattle.liquid_engine.specs.Failures.{failures_after, OneFailed};
-ghost use Rattle.liquid_engine.specs.Limits.{TakesBytes, TakesTurns, WriteTakes, unlimited};
+ghost use Rattle.liquid_engine.specs.Limits.{TakesBytes, TakesTurns, WriteTakes, is_within_limit};
+ghost use Rattle.liquid_engine.specs.Limits.{unlimited};
 ghost use Rattle.liquid_engine.specs.declared.limits.Limits.{Limits};
 
 use std::io;
@@ -42,6 +43,17 @@ pub trait CountedWrite {
     fn counts_turns(&self) -> bool
         ensures free { result ≡ false → (left self.now).turns ≡ None };
 
+    /// Whether a run has to ask for the bytes of the values that it makes. Where it needn't, there
+    /// is no limit on bytes.
+    fn counts_bytes(&self) -> bool
+        ensures free { result ≡ false → (left self.now).bytes ≡ None };
+
+    /// Whether this many bytes are left, of which none is taken. Where they aren't, `room` refuses
+    /// them.
+    fn has_room(&self, bytes: usize) -> bool
+        ensures full { result ≡ false →
+            is_within_limit bytes (left self.now).bytes ≡ false };
+
     /// Whether a run may go on for this many turns, which it asks before each node: one for the
     /// node, and one for each filter, comparison, value of a `when` and pair of a partial that is
     /// written in it. A list without nodes asks for one.
@@ -53,8 +65,8 @@ pub trait CountedWrite {
             OneFailed (failure_count self.old) (failure_count self.new) }
         ensures kept { result ≡ false → left self.new ≡ left self.old };
 
-    /// Whether a run may add this many bytes to a text that it holds in a buffer, as the body of a
-    /// `capture` or an `ifchanged`. A run asks before it adds them.
+    /// Whether a run may hold this many bytes more: of a text that goes into a buffer, as the body
+    /// of a `capture` or an `ifchanged`, of a filter's answer, or of a value that `assign` stores.
     fn room(&mut self, bytes: usize) -> bool
         ensures same { contents self.new ≡ contents self.old }
         ensures goes_on { result ≡ true → failure_count self.new ≡ failure_count self.old }
@@ -125,6 +137,16 @@ impl<W: Write> CountedWrite for Counted<W> {
         false
     }
 
+    fn counts_bytes(&self) -> bool {
+        false
+    }
+
+    fn has_room(&self, _: usize) -> bool
+        ensures granted { result ≡ true }
+    {
+        true
+    }
+
     fn turns(&mut self, _: u64) -> bool
         // it grants each, so that nothing ends a run but a write that fails, and want of memory
         ensures granted { result ≡ true }
@@ -162,6 +184,16 @@ impl CountedWrite for NoWriter {
 
     fn counts_turns(&self) -> bool {
         false
+    }
+
+    fn counts_bytes(&self) -> bool {
+        false
+    }
+
+    fn has_room(&self, _: usize) -> bool
+        ensures granted { result ≡ true }
+    {
+        true
     }
 
     fn turns(&mut self, _: u64) -> bool

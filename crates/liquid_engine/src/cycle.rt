@@ -83,6 +83,6 @@ fn out_of_bounds(alloc: Global) -> Error
     Error::new(
         alloc,
         ErrorKind::CycleBounds,
-        "the group of the `cycle` stands at a place where it has no value",
+        "the group is past this `cycle`'s last value; give each `cycle` of a group the same values",
     )
 }

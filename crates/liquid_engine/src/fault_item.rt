@@ -3,8 +3,10 @@
 ghost use Rattle.liquid_model.specs.ErrorKinds.{IsKindOrMemory};
 
 use crate::fault_tag::{item_of_case, item_of_cycle, item_of_for, item_of_other, item_of_tablerow};
-use liquid_core::{Error, ErrorKind, Expression, NamedFilters, Quoted, Result, State, Value};
-use liquid_syntax::{Atom, Condition, FilterChain, Node, PieceItem, apply_filters};
+use liquid_core::{
+    Error, ErrorKind, Expression, Missing, NamedFilters, Quoted, Result, State, Value,
+};
+use liquid_syntax::{Atom, Condition, FilterChain, Node, PieceItem};
 use std::alloc::{AllocError, Global};
 
 /// The item of a node that its fault of this kind is about.
@@ -95,7 +97,7 @@ fn end_of(alloc: Global, atom: &Atom, state: &State<'_>) -> Result<AtomEnd> {
             let Some(right) = right.try_evaluate(alloc, state)? else {
                 return Ok(AtomEnd::Fails(1));
             };
-            match operator.holds(alloc, left.as_value(), right.as_value()) {
+            match operator.holds(alloc, left.as_value(), right.as_value(), state.missing()) {
                 Ok(holds) => Ok(end_by(holds)),
                 Err(fault) => unless_refused(fault, AtomEnd::Fails(0)),
             }
@@ -141,7 +143,7 @@ fn item_of_chain<H: NamedFilters>(
         if let Some(argument) = first_missing(alloc, &stored.arguments, state)? {
             return Ok(PieceItem::Argument(index, argument));
         }
-        value = match apply_filters(alloc, value, &[stored.call(host)], state) {
+        value = match stored.apply(alloc, &value, state, host) {
             Ok(next) => next,
             Err(fault) => return unless_refused(fault, PieceItem::Filter(index)),
         };
@@ -150,7 +152,7 @@ fn item_of_chain<H: NamedFilters>(
     Ok(PieceItem::Whole)
 }
 
-/// The index of the first expression that has no value.
+/// The index of the first expression that has no value, where that is a fault.
 pub(crate) fn first_missing(
     alloc: Global,
     expressions: &[Expression],
@@ -164,12 +166,16 @@ pub(crate) fn first_missing(
     Ok(None)
 }
 
+/// Whether an expression has no value, where that is a fault.
 pub(crate) fn is_missing(
     alloc: Global,
     expression: &Expression,
     state: &State<'_>,
 ) -> Result<bool> {
-    Ok(expression.try_evaluate(alloc, state)?.is_none())
+    match state.missing() {
+        Missing::IsNil => Ok(false),
+        Missing::IsFault => Ok(expression.try_evaluate(alloc, state)?.is_none()),
+    }
 }
 
 /// The fault of a node. Where a chain ended at its first filter, which refused the nil of a missing

@@ -1,7 +1,7 @@
 //! Which item of a tag a fault is about: of loops, of `case` and `cycle`, and of tags that run a
 //! partial.
 use crate::fault_item::{first_missing, is_missing};
-use liquid_core::{ErrorKind, Expression, Result, State, Value};
+use liquid_core::{ErrorKind, Expression, Missing, Result, State, Value};
 use liquid_syntax::{
     Arm, Binding, Each, For, Node, PieceItem, RangeExpression, TableRow, WindowExpression,
 };
@@ -102,14 +102,15 @@ fn item_of_window(
     Ok(PieceItem::Whole)
 }
 
-/// Whether a loop goes over the value of an expression.
+/// Whether a loop goes over the value of an expression. Where a missing value is nil, it goes over
+/// none.
 fn has_items(alloc: Global, expression: &Expression, state: &State<'_>) -> Result<bool> {
     Ok(match expression.try_evaluate(alloc, state)? {
         Some(found) => matches!(
             found.as_value(),
             Value::Nil | Value::Array(_) | Value::Object(_)
         ),
-        None => false,
+        None => is_lenient(state),
     })
 }
 
@@ -121,11 +122,20 @@ fn is_no_amount(alloc: Global, given: &Option<Expression>, state: &State<'_>) ->
     }
 }
 
+/// Whether an expression has a whole number. Where a missing value is nil, it may also be that.
 fn is_whole(alloc: Global, expression: &Expression, state: &State<'_>) -> Result<bool> {
     Ok(match expression.try_evaluate(alloc, state)? {
-        Some(found) => found.as_value().to_integer().is_some(),
-        None => false,
+        Some(found) => match found.as_value() {
+            Value::Nil => is_lenient(state),
+            value => value.to_integer().is_some(),
+        },
+        None => is_lenient(state),
     })
+}
+
+/// Whether a missing value is nil.
+fn is_lenient(state: &State<'_>) -> bool {
+    matches!(state.missing(), Missing::IsNil)
 }
 
 /// The value of a `cycle` without a value. The index of its group has moved on by one.

@@ -1,33 +1,25 @@
 //! Pages of runs with filters of a host.
-ghost use Rattle.std.specs.Prelude.{◌≡◌, [], IfErr, IfOk, length, string_bytes};
+ghost use Rattle.std.specs.Prelude.{◌≡◌, [], IfErr, IfOk, None, length, string_bytes};
 ghost use Rattle.liquid_core.specs.Held.{held};
 ghost use Rattle.liquid_core.specs.States.{environment_of, loops_of};
 ghost use Rattle.liquid_syntax.specs.Templates.{partials_of, tree_of};
 ghost use Rattle.liquid_engine.specs.HostedPages.{EndsOtherwise, hosted_page};
 ghost use Rattle.liquid_engine.specs.LimitedPages.{PageWithin};
+ghost use Rattle.liquid_engine.specs.Limits.{unlimited};
+ghost use Rattle.liquid_engine.specs.Pages.{shown};
 ghost use Rattle.liquid_engine.specs.Performs.{Performs};
 ghost use Rattle.liquid_engine.specs.inside.Engine.{with_writer, nodes_in};
 
 use crate::borrowed_data::run_with_borrowed_data;
 use crate::context::{Places, RunContext};
 use crate::counted::{CountedWrite, NoWriter};
-use crate::limits::{Limited, Limits};
+use crate::limits::{Limited, are_none};
 use crate::output::Output;
 use crate::rendered_page::{LimitedPage, page_of_end, state_over};
+use crate::surroundings::Surroundings;
 use liquid_core::{ErrorKind, NamedFilters, Object, Result, State};
-use liquid_syntax::{Partials, Template};
+use liquid_syntax::Template;
 use std::alloc::Global;
-
-/// What a template is rendered with beside its data and the filters of a host.
-#[derive(Clone, Copy, Drop)]
-pub struct Surroundings<'p> {
-    /// The partials.
-    pub partials: &'p Partials,
-    /// How many partials may be nested.
-    pub depth: u32,
-    /// What the run may take.
-    pub limits: Limits,
-}
 
 /// The page of a template in a new run over this data, with filters of a host and within limits.
 /// The data is borrowed, so that nothing of it is copied.
@@ -42,24 +34,49 @@ pub fn render_hosted_page<H: NamedFilters>(
     around: Surroundings<'_>,
     data: &Object,
 ) -> Result<LimitedPage>
-    ensures page { IfOk result (λ p. PageWithin (hosted_page (H.named host.now)
-        around.entry.depth (partials_of around.entry.partials.now) (held «data».now)
-        (tree_of template.now)) p) }
+    ensures page { IfOk result (λ p. PageWithin (hosted_page around.entry.missing
+        (H.named host.now) around.entry.depth (partials_of around.entry.partials.now)
+        (held «data».now) (tree_of template.now)) p) }
+    // without limits none ends it
+    ensures free { around.entry.limits ≡ unlimited → IfOk result (λ p. p.limit ≡ None) }
     ensures ended { IfOk result (λ p. EndsOtherwise p.page) }
     ensures memory { IfErr result (λ e. e.kind ≡ ErrorKind.Memory) }
 {
-    let mut state = state_over(alloc, data);
+    let mut state = state_over(alloc, around.missing, data);
     let context = RunContext {
         partials: around.partials,
         host,
         depth: around.depth,
         places: Places::of(template),
     };
+    if are_none(around.limits) {
+        return hosted_without_limits(alloc, template, &context, &mut state);
+    }
     let mut writer = Limited::new(NoWriter, around.limits);
     let (text, answer) = text_with(alloc, template, &context, &mut writer, &mut state);
     let limit = writer.ended_by();
     let page = page_of_end(text, answer)?;
     Ok(LimitedPage { page, limit })
+}
+
+/// The page of a template in a run that no limit ends.
+fn hosted_without_limits<H: NamedFilters>(
+    alloc: Global,
+    template: &Template,
+    context: &RunContext<'_, H>,
+    state: &mut State<'_>,
+) -> Result<LimitedPage>
+    requires plain { length (loops_of state.old) ≡ 0 }
+    ensures page { IfOk result (λ p. PageWithin
+        (shown (nodes_in H.named context.now (tree_of template.now) (environment_of state.old)))
+        p) }
+    ensures free { IfOk result (λ p. p.limit ≡ None) }
+    ensures ended { IfOk result (λ p. EndsOtherwise p.page) }
+    ensures memory { IfErr result (λ e. e.kind ≡ ErrorKind.Memory) }
+{
+    let (text, answer) = text_with(alloc, template, context, &mut NoWriter, state);
+    let page = page_of_end(text, answer)?;
+    Ok(LimitedPage { page, limit: None })
 }
 
 /// Runs the nodes of a template into a buffer, while the writer grants it. The text, up to the

@@ -4,7 +4,7 @@ ghost use Rattle.liquid_model.specs.Answer.{Answers, IsValueOrMemory};
 ghost use Rattle.liquid_model.specs.Data.{Datum};
 ghost use Rattle.liquid_model.specs.Maps.{Map, empty, insert, merged};
 ghost use Rattle.liquid_model.specs.View.{view};
-ghost use Rattle.liquid_core.specs.Environment.{new_environment};
+ghost use Rattle.liquid_core.specs.Environment.{own_environment};
 ghost use Rattle.liquid_core.specs.ExpressionView.{expression_view};
 ghost use Rattle.liquid_core.specs.Held.{held};
 ghost use Rattle.liquid_core.specs.States.{environment_of};
@@ -18,7 +18,7 @@ ghost use Rattle.liquid_engine.specs.inside.Given.{given_map};
 use crate::context::RunContext;
 use crate::partial::{Entered, pairs_scope, partial_name, partial_rendered};
 use liquid_core::{
-    Expression, Interrupt, Items, LoopFrame, LoopKind, Object, Result, State, Value,
+    Expression, Interrupt, Items, LoopFrame, LoopKind, Missing, Object, Result, State, Value,
 };
 use liquid_evaluation::LoopItems;
 use liquid_syntax::{Binding, Each};
@@ -70,7 +70,7 @@ pub(crate) fn enter_render<'d, H>(
     let names = given_names(alloc, bindings, state)?;
     let partial = partial_rendered(alloc, context.partials, called.as_str())?;
     let context = context.deeper(alloc, partial)?;
-    let own = given_state(alloc, names)?;
+    let own = given_state(alloc, names, state.missing())?;
     let inner = Entered { partial, context };
     Ok((called, Apart { inner, own }))
 }
@@ -90,22 +90,27 @@ fn given_names<'d>(alloc: Global, bindings: &'d [Binding], state: &State<'d>) ->
 }
 
 /// A state that holds these names alone.
-fn given_state<'d>(alloc: Global, names: Given<'d>) -> Result<State<'d>>
+fn given_state<'d>(alloc: Global, names: Given<'d>, missing: Missing) -> Result<State<'d>>
     ensures { IsValueOrMemory environment_of result
-        (new_environment (given_map names.entry)) }
+        (own_environment missing (given_map names.entry)) }
 {
     match names {
-        Given::Names(names) => isolated_state(alloc, names),
-        Given::Borrowed(name, value) => state_with_borrowed(alloc, name, value),
+        Given::Names(names) => isolated_state(alloc, names, missing),
+        Given::Borrowed(name, value) => state_with_borrowed(alloc, name, value, missing),
     }
 }
 
 /// A state that holds this name alone, whose value is borrowed.
-fn state_with_borrowed<'d>(alloc: Global, name: &'d str, value: &'d Value) -> Result<State<'d>>
+fn state_with_borrowed<'d>(
+    alloc: Global,
+    name: &'d str,
+    value: &'d Value,
+    missing: Missing,
+) -> Result<State<'d>>
     ensures { IsValueOrMemory environment_of result
-        (new_environment (insert empty name.now (view value.now))) }
+        (own_environment missing (insert empty name.now (view value.now))) }
 {
-    let mut own = State::isolated(alloc, BTreeMap::new(alloc));
+    let mut own = State::isolated(alloc, BTreeMap::new(alloc), missing);
     if let Err(fault) = own.push_borrowed(name, value) {
         drop(own);
         return Err(fault);
@@ -135,7 +140,7 @@ pub(crate) fn enter_render_item<'d, H>(
     let names = pairs_scope(alloc, bindings, state)?;
     let partial = partial_rendered(alloc, context.partials, name)?;
     let context = context.deeper(alloc, partial)?;
-    let own = state_at(alloc, names, item)?;
+    let own = state_at(alloc, names, item, state.missing())?;
     let inner = Entered { partial, context };
     Ok(Apart { inner, own })
 }
@@ -152,10 +157,10 @@ pub(crate) fn left_by(answer: Result<()>, own: &State<'_>) -> Result<Option<Inte
 
 /// A state that holds these names alone.
 #[inline(never)]
-fn isolated_state<'d>(alloc: Global, names: Object) -> Result<State<'d>>
-    ensures { IsValueOrMemory environment_of result (new_environment (held names)) }
+fn isolated_state<'d>(alloc: Global, names: Object, missing: Missing) -> Result<State<'d>>
+    ensures { IsValueOrMemory environment_of result (own_environment missing (held names)) }
 {
-    let mut own = State::isolated(alloc, BTreeMap::new(alloc));
+    let mut own = State::isolated(alloc, BTreeMap::new(alloc), missing);
     if let Err(fault) = own.push_scope(names) {
         drop(own);
         return Err(fault);
@@ -164,13 +169,18 @@ fn isolated_state<'d>(alloc: Global, names: Object) -> Result<State<'d>>
 }
 
 /// A state that holds these names, and over them a loop of `render` at one of its items.
-fn state_at<'d>(alloc: Global, names: Object, item: &EachItem<'d>) -> Result<State<'d>>
+fn state_at<'d>(
+    alloc: Global,
+    names: Object,
+    item: &EachItem<'d>,
+    missing: Missing,
+) -> Result<State<'d>>
     requires item { item.now.at < item.now.source.now.count }
     requires within { item.now.source.now.count ≤ 9223372036854775807 }
     ensures { IsValueOrMemory environment_of result
-        (new_environment (merged (item_scope item.now) (held names))) }
+        (own_environment missing (merged (item_scope item.now) (held names))) }
 {
-    let mut own = isolated_state(alloc, names)?;
+    let mut own = isolated_state(alloc, names, missing)?;
     if let Err(fault) = own.push_frame(frame_at(item)) {
         drop(own);
         return Err(fault);

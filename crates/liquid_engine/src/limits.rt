@@ -1,4 +1,4 @@
-//! Limits on a run: how many bytes of text it may write, and how many turns it may take.
+//! Limits on a run: how many bytes it may write and hold, and how many turns it may take.
 ghost use Rattle.std.specs.Prelude.{◌≡◌, length, IsErr, None, true, false};
 ghost use Rattle.std.specs.Io.{WritesAtMost};
 ghost use Rattle.std.specs.Io.KnownBytes.{WriteAppends};
@@ -6,7 +6,7 @@ ghost use Rattle.liquid_engine.specs.Failures.{failures_after, OneFailed};
 ghost use Rattle.liquid_engine.specs.LimitedParts.{limited_inner, limited_left, refusals};
 ghost use Rattle.liquid_engine.specs.LimitedParts.{failures_of, reached, Refuses};
 ghost use Rattle.liquid_engine.specs.Limits.{is_within_limit, Takes, TakesBytes, TakesTurns};
-ghost use Rattle.liquid_engine.specs.Limits.{WriteTakes};
+ghost use Rattle.liquid_engine.specs.Limits.{unlimited, WriteTakes};
 ghost use Rattle.liquid_engine.specs.declared.limits.LimitReached.TheVariants.{Bytes, Turns};
 
 use crate::counted::CountedWrite;
@@ -15,8 +15,11 @@ use std::io;
 /// What a run may take at most. `None` is no limit, and by default there is none.
 #[derive(Clone, Copy, Debug, Default)]
 pub struct Limits {
-    /// How many bytes of text it may write: to its writer or its page, and into the bodies of
-    /// `capture` and `ifchanged`. So a captured text that is written later counts twice.
+    /// How many bytes it may write and hold: those of each text that it writes, to its writer, its
+    /// page or the body of a `capture` or an `ifchanged`, of each answer of a filter, and of each
+    /// value that `assign` stores. A list or a map takes the bytes of its parts, and 32 more for
+    /// each item or pair. So what a filter answers takes its bytes again where it is written or
+    /// assigned, and so does a captured text that is written.
     pub bytes: Option<u64>,
     /// How many turns it may take. Each node takes one when it runs, and one more for each filter,
     /// each comparison of a condition, each value of a `when` and each pair of a partial that is
@@ -27,7 +30,8 @@ pub struct Limits {
 /// The limit that ended a run.
 #[derive(Clone, Copy, Debug)]
 pub enum LimitReached {
-    /// A text was longer than the bytes that were left. Nothing of that text was written.
+    /// A text or a value took more than the bytes that were left. Nothing of that text was written,
+    /// and the value wasn't stored.
     Bytes,
     /// The turns that were left were fewer than a node takes. It didn't run.
     Turns,
@@ -147,6 +151,20 @@ impl<W: CountedWrite> CountedWrite for Limited<W> {
         }
     }
 
+    fn counts_bytes(&self) -> bool
+        ensures free { result ≡ false → (limited_left self.now).bytes ≡ None }
+    {
+        self.left.bytes.is_some() || self.writer.counts_bytes()
+    }
+
+    // by its own limit: what the writer grants is asked for as it is taken
+    fn has_room(&self, bytes: usize) -> bool
+        ensures full { result ≡ false →
+            is_within_limit bytes (limited_left self.now).bytes ≡ false }
+    {
+        is_left(self.left.bytes, bytes as u64)
+    }
+
     fn turns(&mut self, count: u64) -> bool
         ensures same { W.contents (limited_inner self.new) ≡ W.contents (limited_inner self.old) }
         ensures goes_on { result ≡ true → failures_of W.failure_count self.new
@@ -202,6 +220,13 @@ impl<W: CountedWrite> CountedWrite for Limited<W> {
         self.left.bytes = less(self.left.bytes, bytes as u64);
         true
     }
+}
+
+/// Whether there is no limit.
+pub(crate) fn are_none(limits: Limits) -> bool
+    ensures { limits ≡ unlimited → result ≡ true }
+{
+    limits.bytes.is_none() && limits.turns.is_none()
 }
 
 /// Whether at least `count` are left. Without a limit that is always so.

@@ -4,16 +4,18 @@ ghost use Rattle.std.specs.Option.{option_map};
 ghost use Rattle.std.specs.String.{string_bytes};
 ghost use Rattle.liquid_engine.specs.Failures.{OneFailed};
 ghost use Rattle.liquid_engine.specs.Performs.{Cut, WritesText};
-ghost use Rattle.liquid_engine.specs.Limits.{TakesBytes, TakesTurns};
+ghost use Rattle.liquid_engine.specs.Limits.{TakesBytes, TakesTurns, is_within_limit};
 ghost use Rattle.liquid_engine.specs.inside.Puts.{Puts};
 ghost use Rattle.liquid_engine.specs.Sinks.{sink_of};
 ghost use Rattle.liquid_engine.specs.declared.output.Put.TheVariants.{All};
 ghost use Rattle.liquid_model.specs.ErrorKinds.{IsKindOrMemory};
+ghost use Rattle.liquid_model.specs.ValueSizes.{counted_size, value_size};
+ghost use Rattle.liquid_model.specs.View.{view};
 ghost use Rattle.liquid_model.specs.declared.error.ErrorKind.TheVariants.{Write};
 
 use crate::counted::CountedWrite;
 use crate::write_all::write_all;
-use liquid_core::{Error, ErrorKind, Result};
+use liquid_core::{Error, ErrorKind, Result, Value, value_size};
 use std::alloc::{AllocError, Global};
 use std::mem;
 
@@ -94,6 +96,56 @@ impl<'w, W: CountedWrite> Output<'w, W> {
         self.writer.counts_turns()
     }
 
+    /// Whether the writer has to be asked for the bytes of values. Else there is no limit on them.
+    pub fn counts_bytes(&self) -> bool
+        ensures { result ≡ false → (W.left self.now.writer.now).bytes ≡ None }
+    {
+        self.writer.counts_bytes()
+    }
+
+    /// Whether the writer has room for this many bytes. It takes none of it.
+    pub fn has_room(&self, bytes: usize) -> bool
+        ensures { result ≡ false →
+            is_within_limit bytes (W.left self.now.writer.now).bytes ≡ false }
+    {
+        self.writer.has_room(bytes)
+    }
+
+    /// Needs room for this many bytes, of which it takes none: `Write` where the writer has less.
+    pub fn need_room(&mut self, alloc: Global, bytes: usize) -> Result<()>
+        ensures goes_on { OnOk result (sink_of W.contents W.failure_count self.new ≡
+            sink_of W.contents W.failure_count self.old) }
+        ensures kept { OnOk result (W.left self.new.writer.now ≡ W.left self.old.writer.now) }
+        ensures refused { OnErr result (Cut result []
+            (sink_of W.contents W.failure_count self.old)
+            (sink_of W.contents W.failure_count self.new)) }
+        ensures same_writer { self.new.writer.ghost_name ≡ self.old.writer.ghost_name }
+    {
+        // where they aren't left, they are refused, and so nothing is taken here
+        if self.has_room(bytes) || self.writer.room(bytes) {
+            return Ok(());
+        }
+        Err(refused_value(alloc))
+    }
+
+    /// Takes the bytes of a value of the writer's limit: `Write` where it refuses them. Where
+    /// nothing limits them, they aren't counted.
+    pub fn take_value(&mut self, alloc: Global, value: &Value) -> Result<()>
+        ensures goes_on { OnOk result (sink_of W.contents W.failure_count self.new ≡
+            sink_of W.contents W.failure_count self.old) }
+        ensures takes { OnOk result (TakesBytes (counted_size (value_size (view value.now)))
+            (W.left self.old.writer.now) (W.left self.new.writer.now)) }
+        ensures refused { OnErr result (Cut result []
+            (sink_of W.contents W.failure_count self.old)
+            (sink_of W.contents W.failure_count self.new)) }
+        ensures same_writer { self.new.writer.ghost_name ≡ self.old.writer.ghost_name }
+    {
+        if !self.counts_bytes() || self.writer.room(value_size(value)) {
+            return Ok(());
+        }
+        Err(refused_value(alloc))
+    }
+
     /// Asks the writer whether the run may go on for this many turns: `Write` where it refuses.
     pub fn turns(&mut self, alloc: Global, count: u64) -> Result<Turns>
         ensures goes_on { OnOk result (sink_of W.contents W.failure_count self.new ≡
@@ -145,6 +197,18 @@ fn not_written(alloc: Global) -> Error
         alloc,
         ErrorKind::Write,
         "the writer failed, or took nothing of what was left to write",
+    )
+}
+
+/// The fault of a writer that doesn't grant the bytes of a value.
+#[inline(never)]
+fn refused_value(alloc: Global) -> Error
+    ensures { IsKindOrMemory Write result.kind }
+{
+    Error::new(
+        alloc,
+        ErrorKind::Write,
+        "the writer left fewer bytes than a filter's answer or an assigned value takes",
     )
 }
 

@@ -1,14 +1,18 @@
 //! Runs of text, outputs and `assign`.
-ghost use Rattle.std.specs.Prelude.{◌≡◌, OnOk};
-ghost use Rattle.liquid_core.specs.States.{loops_of};
+ghost use Rattle.std.specs.Prelude.{◌≡◌, ◌+◌, IfOk, OnOk};
+ghost use Rattle.liquid_model.specs.ValueSizes.{counted_size, value_size};
+ghost use Rattle.liquid_core.specs.States.{environment_of, loops_of};
 ghost use Rattle.liquid_evaluation.specs.ChainView.{chain_view};
+ghost use Rattle.liquid_evaluation.specs.Evaluation.{answers_with, chain_value};
 ghost use Rattle.liquid_evaluation.specs.Names.{node_names};
 ghost use Rattle.liquid_evaluation.specs.Tree as tree;
+ghost use Rattle.liquid_engine.specs.inside.ChainBytes.{chain_bytes};
 ghost use Rattle.liquid_engine.specs.inside.Engine.{setting_of, node_in};
-ghost use Rattle.liquid_engine.specs.Limits.{Takes};
+ghost use Rattle.liquid_engine.specs.Limits.{Takes, TakesBytes};
 ghost use Rattle.liquid_engine.specs.StateKept.{Keeps};
 ghost use Rattle.liquid_engine.specs.Performs.{Performs, configuration_of};
 
+use crate::chain_within::chain_within;
 use crate::context::RunContext;
 use crate::counted::CountedWrite;
 use crate::output::Output;
@@ -105,11 +109,11 @@ fn run_chain<W: CountedWrite, H: NamedFilters>(
         state.old state.new }
     ensures loops { loops_of state.new ≡ loops_of state.old }
 {
-    let value = chain.evaluate_cow(alloc, state, context.host)?;
+    let value = chain_within(alloc, chain, context.host, out, state)?;
     push_value(alloc, value.as_value(), out)
 }
 
-/// Sets an assigned variable to a chain's value.
+/// Sets an assigned variable to a chain's value, which takes its bytes.
 #[inline(never)]
 pub(crate) fn run_assign<W: CountedWrite, H: NamedFilters>(
     alloc: Global,
@@ -123,11 +127,19 @@ pub(crate) fn run_assign<W: CountedWrite, H: NamedFilters>(
         (node_in H.named context.now (tree.assign name.now (chain_view chain.now)))
         (configuration_of W.contents W.failure_count out.old state.old)
         (configuration_of W.contents W.failure_count out.new state.new) }
+    // of a writer with a limit it takes what the filters make, and the bytes of what is stored
+    ensures takes { OnOk result (IfOk (chain_value (answers_with (H.named context.now.host.now))
+        (chain_view chain.now) (environment_of state.old)) (λ d. TakesBytes
+        (chain_bytes (answers_with (H.named context.now.host.now)) (chain_view chain.now)
+        (environment_of state.old) + counted_size (value_size d))
+        (W.left out.old.writer.now) (W.left out.new.writer.now))) }
     ensures same_writer { out.new.writer.ghost_name ≡ out.old.writer.ghost_name }
     ensures kept { Keeps (node_names (tree.assign name.now (chain_view chain.now)))
         (setting_of H.named context.now) state.old state.new }
     ensures loops { loops_of state.new ≡ loops_of state.old }
 {
-    let value = chain.evaluate_by(alloc, state, context.host)?;
+    let found = chain_within(alloc, chain, context.host, out, state)?;
+    out.take_value(alloc, found.as_value())?;
+    let value = found.into_owned(alloc)?;
     state.assign(alloc, name, value)
 }

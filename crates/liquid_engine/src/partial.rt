@@ -200,6 +200,14 @@ pub(crate) fn partial_rendered<'p>(
     longer.push_str(".liquid")?;
     match partials.get(longer.as_str()) {
         Some(partial) => Ok(partial),
-        None => Err(unknown(alloc, partials, name)),
+        None => Err(unknown(alloc, partials, refused_of(partials, name, longer.as_str()))),
+    }
+}
+
+/// The one of two names that is refused, or else the first.
+fn refused_of<'n>(partials: &Partials, name: &'n str, longer: &'n str) -> &'n str {
+    match (partials.refusal(name), partials.refusal(longer)) {
+        (None, Some(_)) => longer,
+        _ => name,
     }
 }

@@ -35,9 +35,9 @@ pub trait Renderable {
     ///
     /// `Memory` where a growth was refused, and `Write` where the writer failed or took nothing of
     /// what was left; then a beginning of the text is written, and no failed write is tried again.
-    /// Any other kind is the first fault's. After any answer the scopes, the data, the partials and
-    /// the depth are as before, and so is each name that neither the template nor a partial
-    /// mentions.
+    /// Any other kind is the first fault's. After any answer the scopes, the data, the partials,
+    /// the depth and what becomes of a missing value are as before, and so is each name that
+    /// neither the template nor a partial mentions.
     fn render_to<W: CountedWrite>(
         &self,
         alloc: Global,

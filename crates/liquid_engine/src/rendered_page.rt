@@ -1,19 +1,22 @@
 //! Pages: what a template shows in a run of its own, with how that run ended.
-ghost use Rattle.std.specs.Prelude.{◌≡◌, [], false, IfErr, IfOk, option_map, string_bytes};
+ghost use Rattle.std.specs.Prelude.{◌≡◌, [], false, IfErr, IfOk, None, option_map, string_bytes};
 ghost use Rattle.liquid_model.specs.Answer.{IsValueOrMemory};
 ghost use Rattle.liquid_model.specs.ErrorKinds.{is_memory};
 ghost use Rattle.liquid_core.specs.Held.{held};
-ghost use Rattle.liquid_core.specs.States.{layers_of, loops_of, new_layers};
+ghost use Rattle.liquid_core.specs.States.{layers_of, loops_of, new_layers, with_missing};
 ghost use Rattle.liquid_syntax.specs.Templates.{partials_of, tree_of};
 ghost use Rattle.liquid_engine.specs.HostedPages.{EndsOtherwise};
 ghost use Rattle.liquid_engine.specs.LimitedPages.{PageWithin};
-ghost use Rattle.liquid_engine.specs.Pages.{ended_page, page_over, page_view};
+ghost use Rattle.liquid_engine.specs.Limits.{unlimited};
+ghost use Rattle.liquid_engine.specs.Pages.{ended_page, page_by, page_in, page_over, page_view};
 
 use crate::counted::NoWriter;
-use crate::limits::{LimitReached, Limited, Limits};
+use crate::limits::{LimitReached, Limited, are_none};
 use crate::render::{text_beside, text_of_run};
+use crate::run_setting::RunSetting;
 use crate::runtime::Runtime;
-use liquid_core::{Data, Error, ErrorKind, Object, Result, State};
+use crate::surroundings::Surroundings;
+use liquid_core::{Data, Error, ErrorKind, Missing, Object, Result, State};
 use liquid_syntax::{Partials, Template};
 use std::alloc::Global;
 use std::collections::BTreeMap;
@@ -40,7 +43,7 @@ impl Page {
 }
 
 /// The page of a template in a new run over this data, without filters of a host. The data is
-/// borrowed, so that nothing of it is copied.
+/// borrowed, so that nothing of it is copied. A missing value is a fault.
 ///
 /// A fault is the page's end, and the page has the text up to there. The answer is `Memory` where a
 /// growth was refused, and no other kind.
@@ -54,11 +57,25 @@ pub fn render_page(
     ensures { IsValueOrMemory page_view result (page_over depth (partials_of partials.now)
         (held «data».now) (tree_of template.now)) }
 {
+    render_page_by(alloc, template, partials, RunSetting::strict(depth), data)
+}
+
+/// The page of a template as of [render_page], in a run that goes by this setting.
+pub fn render_page_by(
+    alloc: Global,
+    template: &Template,
+    partials: &Partials,
+    setting: RunSetting,
+    data: &Object,
+) -> Result<Page>
+    ensures { IsValueOrMemory page_view result (page_by setting (partials_of partials.now)
+        (held «data».now) (tree_of template.now)) }
+{
     let mut runtime = Runtime {
-        state: state_over(alloc, data),
+        state: state_over(alloc, setting.missing, data),
         partials: Some(partials),
         host: None,
-        depth,
+        depth: setting.depth,
     };
     let (text, answer) = text_of_run(alloc, template, &mut runtime);
     page_of_end(text, answer)
@@ -74,41 +91,67 @@ pub struct LimitedPage {
     pub limit: Option<LimitReached>,
 }
 
-/// The page of a template as of [render_page], within limits.
+/// The page of a template as of [render_page], within limits, where a missing value is what is
+/// said of it.
 ///
 /// Where no limit is reached it is the whole page. Else it has a beginning of its text, and tells
 /// which limit ended it. The answer is `Memory` where a growth was refused, and no other kind.
 pub fn render_page_within(
     alloc: Global,
     template: &Template,
-    partials: &Partials,
-    depth: u32,
+    around: Surroundings<'_>,
     data: &Object,
-    limits: Limits,
 ) -> Result<LimitedPage>
-    ensures page { IfOk result (λ p. PageWithin
-        (page_over depth (partials_of partials.now) (held «data».now) (tree_of template.now)) p) }
+    ensures page { IfOk result (λ p. PageWithin (page_in around.entry.missing around.entry.depth
+        (partials_of around.entry.partials.now) (held «data».now) (tree_of template.now)) p) }
+    // without limits none ends it
+    ensures free { around.entry.limits ≡ unlimited → IfOk result (λ p. p.limit ≡ None) }
     ensures memory { IfErr result (λ e. e.kind ≡ ErrorKind.Memory) }
 {
+    if are_none(around.limits) {
+        return page_without_limits(alloc, template, around, data);
+    }
     let mut runtime = Runtime {
-        state: state_over(alloc, data),
-        partials: Some(partials),
+        state: state_over(alloc, around.missing, data),
+        partials: Some(around.partials),
         host: None,
-        depth,
+        depth: around.depth,
     };
-    let mut writer = Limited::new(NoWriter, limits);
+    let mut writer = Limited::new(NoWriter, around.limits);
     let (text, answer) = text_beside(alloc, template, &mut writer, &mut runtime);
     let limit = writer.ended_by();
     let page = page_of_end(text, answer)?;
     Ok(LimitedPage { page, limit })
 }
 
-/// A new state over borrowed data. It takes no memory.
-pub(crate) fn state_over<'d>(alloc: Global, data: &'d Object) -> State<'d>
-    ensures layers { layers_of result ≡ new_layers (held «data».now) }
+/// The page of [render_page_within], whatever the limits are.
+fn page_without_limits(
+    alloc: Global,
+    template: &Template,
+    around: Surroundings<'_>,
+    data: &Object,
+) -> Result<LimitedPage>
+    ensures page { IfOk result (λ p. PageWithin (page_in around.entry.missing around.entry.depth
+        (partials_of around.entry.partials.now) (held «data».now) (tree_of template.now)) p) }
+    ensures free { IfOk result (λ p. p.limit ≡ None) }
+    ensures memory { IfErr result (λ e. e.kind ≡ ErrorKind.Memory) }
+{
+    let setting = RunSetting {
+        depth: around.depth,
+        missing: around.missing,
+    };
+    let page = render_page_by(alloc, template, around.partials, setting, data)?;
+    Ok(LimitedPage { page, limit: None })
+}
+
+/// A new state over borrowed data, in which a missing value is this. It takes no memory.
+pub(crate) fn state_over<'d>(alloc: Global, missing: Missing, data: &'d Object) -> State<'d>
+    ensures layers { layers_of result ≡ with_missing missing (new_layers (held «data».now)) }
     ensures loops { loops_of result ≡ [] }
 {
-    let (parts, none) = State::new(alloc, BTreeMap::new(alloc)).into_parts();
+    let mut empty = State::new(alloc, BTreeMap::new(alloc));
+    empty.set_missing(missing);
+    let (parts, none) = empty.into_parts();
     drop(none);
     State::from_parts(alloc, parts, Data::Borrowed(data))
 }

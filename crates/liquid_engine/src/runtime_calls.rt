@@ -9,7 +9,7 @@ ghost use Rattle.liquid_core.specs.Expressions.{value_along, begins_with_text};
 ghost use Rattle.liquid_model.specs.Maps.{empty};
 ghost use Rattle.liquid_core.specs.Held.{held};
 ghost use Rattle.liquid_core.specs.States.{layers_of, new_layers, with_assigned, with_counter};
-ghost use Rattle.liquid_core.specs.States.{with_scope_pushed, with_scope_popped};
+ghost use Rattle.liquid_core.specs.States.{with_missing, with_scope_pushed, with_scope_popped};
 ghost use Rattle.liquid_model.specs.View.{view};
 ghost use Rattle.liquid_model.specs.declared.error.ErrorKind.TheVariants.{UnknownVariable};
 ghost use Rattle.liquid_syntax.specs.Templates.{partials_of};
@@ -21,7 +21,7 @@ ghost use Rattle.liquid_engine.specs.RuntimeView.{partials_in, depth_in, globals
 ghost use Rattle.liquid_engine.specs.RuntimeView.{depth_for, named_for};
 
 use crate::runtime::{DEFAULT_DEPTH, Runtime, RuntimeBuilder};
-use liquid_core::{HostFilters, Object, Result, State, Value, ValueCow};
+use liquid_core::{HostFilters, Missing, Object, Result, State, Value, ValueCow};
 use liquid_syntax::Partials;
 use std::alloc::Global;
 use std::collections::BTreeMap;
@@ -103,7 +103,7 @@ impl<'p> RuntimeBuilder<'p> {
         }
     }
 
-    /// The runtime. It takes no memory.
+    /// The runtime, in which a missing value is a fault. It takes no memory.
     pub fn build(self, alloc: Global) -> Runtime<'p>
         ensures layers { layers_in result ≡ new_layers (globals_for self.entry) }
         ensures partials { partials_in result ≡ partials_for self.entry }
@@ -128,6 +128,21 @@ impl<'p> Runtime<'p> {
         &self.state
     }
 
+    /// What becomes of a missing value.
+    pub fn missing(&self) -> Missing
+        ensures { result ≡ (layers_in self.now).missing }
+    {
+        self.state.missing()
+    }
+
+    /// Sets what becomes of a missing value in the runs from here on. It takes no memory.
+    pub fn set_missing(&mut self, missing: Missing)
+        ensures set { layers_in self.new ≡ with_missing missing (layers_in self.old) }
+        ensures same { SettingKept self.old self.new }
+    {
+        self.state.set_missing(missing)
+    }
+
     /// What a path leads to, as `State::try_get`. Its only fault is `Memory`, and it takes memory
     /// only for the text of a first step that is no text itself.
     pub fn try_get<'a>(&'a self, alloc: Global, path: &[Value]) -> Result<Option<ValueCow<'a>>>
@@ -138,8 +153,8 @@ impl<'p> Runtime<'p> {
         self.state.try_get(alloc, path)
     }
 
-    /// The same, or `UnknownVariable` where the path leads to nothing: that fault's message takes
-    /// memory too.
+    /// The same, or `UnknownVariable` where the path leads to nothing, also where a missing value
+    /// is nil: that fault's message takes memory too.
     pub fn get<'a>(&'a self, alloc: Global, path: &[Value]) -> Result<ValueCow<'a>>
         ensures value { Answers cow_view result
             (ok_or (value_along (environment_in self.now) (map view path.now)) UnknownVariable) }

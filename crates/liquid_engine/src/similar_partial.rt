@@ -1,5 +1,5 @@
-//! The fault of a partial that doesn't exist, and which one may be meant. That is looked for only
-//! where a run ends by that fault.
+//! The fault of a partial that doesn't exist: why it is refused, or else which one may be meant.
+//! That is looked for only where a run ends by that fault.
 ghost use Rattle.liquid_model.specs.ErrorKinds.{IsKindOrMemory};
 
 use liquid_core::{Error, ErrorKind, Quoted, more_similar};
@@ -15,6 +15,13 @@ pub(crate) fn unknown(alloc: Global, partials: &Partials, name: &str) -> Error
         return Error::new(alloc, ErrorKind::UnknownPartial, words);
     }
     let quoted = Quoted { text: name };
+    if let Some(fault) = partials.refusal(name) {
+        return Error::formatted(
+            alloc,
+            ErrorKind::UnknownPartial,
+            format_args!("the partial `{quoted}` is refused: {fault}"),
+        );
+    }
     let Ok(meant) = meant_by(alloc, partials, name) else {
         return Error::from(AllocError);
     };

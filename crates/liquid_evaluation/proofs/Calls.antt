@@ -15,14 +15,14 @@ use Rattle.liquid_model.specs.Fallible.{◌>>=◌}
 use Rattle.liquid_core.specs.Expression as tree
 use Rattle.liquid_core.specs.Environment.{Environment}
 use Rattle.liquid_core.specs.Expressions.{value_of, required, all_required}
-use Rattle.liquid_filter_base.specs.FilterAnswers.{AnswersIf}
+use Rattle.liquid_model.specs.FilterAnswers.{AnswersIf}
 use Rattle.liquid_core.specs.DirectValues.{DirectlyIs}
 use Rattle.liquid_core.specs.declared.resolved.DirectValue.{DirectValue}
 use Rattle.liquid_core.specs.declared.resolved.DirectValue.TheVariants.{Held, Number, Truth, Loop, Nothing, Unknown}
 use Rattle.liquid_evaluation.specs.Calls.{Call, applied}
 use Rattle.liquid_evaluation.specs.DirectValues.{ChainDirectlyIs}
 use Rattle.liquid_evaluation.specs.Tree.{FilterCall, Chain}
-use Rattle.liquid_evaluation.specs.Evaluation.{FilterAnswers, entry_value, call_by, calls_by, chain_value}
+use Rattle.liquid_evaluation.specs.Evaluation.{FilterAnswers, answers_in, entry_value, call_by, calls_by, chain_value}
 
 -- a fault met first is the fault of the whole
 pub faulted_then : {A B : Type 0} (kind : ErrorKind) (a : Result A ErrorKind) (f : A → Result B ErrorKind) → Faulted kind a → Faulted kind (a >>= f)
@@ -219,15 +219,15 @@ unfolding applied
 filters_end answers f all e xs i d h so_far = so_far ∙ ap (λ y. applied (calls_by answers (map f y)) d e) (drop_all i xs h)
 
 -- the chain once its entry has a value, and where it has none
-pub chain_from : (answers : FilterAnswers) (chain : Chain) (e : Environment) (d : Datum) → entry_value (value_of chain.entry e) chain.filters ≡ Ok d
-    → chain_value answers chain e ≡ applied (calls_by answers chain.filters) d e
+pub chain_from : (answers : FilterAnswers) (chain : Chain) (e : Environment) (d : Datum) → entry_value e.missing (value_of chain.entry e) chain.filters ≡ Ok d
+    → chain_value answers chain e ≡ applied (calls_by (answers_in e.missing answers) chain.filters) d e
 unfolding chain_value
-chain_from answers chain e d h = ap (λ r. r >>= (λ y. applied (calls_by answers chain.filters) y e)) h
+chain_from answers chain e d h = ap (λ r. r >>= (λ y. applied (calls_by (answers_in e.missing answers) chain.filters) y e)) h
 
-pub chain_faulted : (answers : FilterAnswers) (chain : Chain) (e : Environment) (kind : ErrorKind) → Faulted kind (entry_value (value_of chain.entry e) chain.filters)
+pub chain_faulted : (answers : FilterAnswers) (chain : Chain) (e : Environment) (kind : ErrorKind) → Faulted kind (entry_value e.missing (value_of chain.entry e) chain.filters)
     → Faulted kind (chain_value answers chain e)
 unfolding chain_value
-chain_faulted answers chain e kind h = faulted_then kind (entry_value (value_of chain.entry e) chain.filters) (λ y. applied (calls_by answers chain.filters) y e) h
+chain_faulted answers chain e kind h = faulted_then kind (entry_value e.missing (value_of chain.entry e) chain.filters) (λ y. applied (calls_by (answers_in e.missing answers) chain.filters) y e) h
 
 -- ---- a chain without filters
 
@@ -237,7 +237,7 @@ nothing_applied answers d e = refl
 
 its_entry : (answers : FilterAnswers) (chain : Chain) (e : Environment) (d : Datum) → chain.filters ≡ [] → Some d ≡ value_of chain.entry e → chain_value answers chain e ≡ Ok d
 its_entry answers chain e d none h =
-    chain_from answers chain e d (sym (ap (λ o. entry_value o chain.filters) h)) ∙ ap (λ fs. applied (calls_by answers fs) d e) none ∙ nothing_applied answers d e
+    chain_from answers chain e d (sym (ap (λ o. entry_value e.missing o chain.filters) h)) ∙ ap (λ fs. applied (calls_by (answers_in e.missing answers) fs) d e) none ∙ nothing_applied (answers_in e.missing answers) d e
 
 pub directly_of : (n : DirectValue) (chain : Chain) (e : Environment) → chain.filters ≡ [] → DirectlyIs n (value_of chain.entry e) None → ChainDirectlyIs n chain e
 directly_of (Held v) chain e none h = λ answers. its_entry answers chain e (view v.now) none h

@@ -12,6 +12,7 @@ use Rattle.std.proofs.lemmas.Bool.Decides.{Decides-eqb}
 use Rattle.std.proofs.lemmas.Slice.Eq.{starts_is}
 use Rattle.std.proofs.lemmas.Bool.{or_left, or_right}
 use Rattle.liquid_model.specs.Texts.{Text}
+use Rattle.liquid_core.specs.declared.missing_value.Missing.{Missing}
 use Rattle.liquid_evaluation.specs.Evaluation.{contains, occurs_in}
 
 begins : (n s : Text) → starts_with nat_eq s n ≡ true → HasSubslice s n
@@ -54,9 +55,9 @@ any_viewed test [] = refl
 any_viewed test (v ∷ vs) = ap (λ b. test (view v) || b) (any_viewed test vs)
 
 -- what `contains` of a list answers
-pub item_held : (r : Bool) (left right : Value) (items : Vec Value Global) (vs : List Value) → left ≡ Array items → vs ≡ items.items → r ≡ list_any (λ v. same (view v) (view right)) vs
-    → contains (view left) (view right) ≡ Ok r
-item_held r left right items vs is same_items held =
-    ap (λ v. contains (view v) (view right)) is
-    ∙ ap (λ d. contains d (view right)) (view-Array items)
+pub item_held : (missing : Missing) (r : Bool) (left right : Value) (items : Vec Value Global) (vs : List Value) → left ≡ Array items → vs ≡ items.items → r ≡ list_any (λ v. same (view v) (view right)) vs
+    → contains missing (view left) (view right) ≡ Ok r
+item_held missing r left right items vs is same_items held =
+    ap (λ v. contains missing (view v) (view right)) is
+    ∙ ap (λ d. contains missing d (view right)) (view-Array items)
     ∙ ap Ok (sym (held ∙ ap (λ l. list_any (λ v. same (view v) (view right)) l) same_items ∙ any_viewed (λ d. same d (view right)) items.items))

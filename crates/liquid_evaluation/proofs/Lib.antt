@@ -1,5 +1,7 @@
 pub mod Calls
+pub mod Comparisons
 pub mod Contains
+pub mod Forgiveness
 pub mod ItemPlaces
 pub mod RangeParts
 pub mod Ranges

@@ -1,7 +1,7 @@
 -- The filters by which a stored chain is run: how many arguments each takes, and what it answers.
 use Rattle.std.specs.Prelude.{ℕ, Bool, true}
 use Rattle.liquid_model.specs.Texts.{Text}
-use Rattle.liquid_filter_base.specs.FilterAnswers.{FilterAnswer}
+use Rattle.liquid_model.specs.FilterAnswers.{FilterAnswer}
 use Rattle.liquid_filters.specs.Kinds.{kind_counts, kind_answer}
 use Rattle.liquid_evaluation.specs.declared.any_filter.AnyFilter.{AnyFilter}
 use Rattle.liquid_evaluation.specs.declared.any_filter.AnyFilter.TheVariants.{Kind, Host}

@@ -15,8 +15,7 @@ pub record Call : Type 0 where
   pub answers : Datum → List Datum → Result Datum ErrorKind
   pub arguments : List Expression
 
--- the arguments of each are evaluated from left to right before it, and a missing one is
--- UnknownVariable
+-- the arguments of each are evaluated from left to right before it
 unfoldable pub applied : List Call → Datum → Environment → Result Datum ErrorKind
 applied [] d e = Ok d
 applied (call ∷ calls) d e = do

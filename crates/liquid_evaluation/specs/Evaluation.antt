@@ -11,19 +11,23 @@ use Rattle.std.specs.Ordering.{is_lt, is_gt, is_le, is_ge}
 use Rattle.std.specs.List.{starts_with, list_any}
 use Rattle.liquid_model.specs.Texts.{Text}
 use Rattle.liquid_model.specs.Data.{Datum, Pairs, nil, number, array, object, text_of, truthy}
+use Rattle.liquid_model.specs.Data.{no_items}
 use Rattle.liquid_model.specs.Data.{scalar}
 use Rattle.liquid_model.specs.Lists.{list_of, pair_lists}
 use Rattle.liquid_model.specs.Order.{same}
 use Rattle.liquid_model.specs.Compare.{compare}
 use Rattle.liquid_model.specs.Find.{value_at}
 use Rattle.liquid_model.specs.declared.error.ErrorKind.{ErrorKind}
-use Rattle.liquid_model.specs.declared.error.ErrorKind.TheVariants.{UnknownVariable}
 use Rattle.liquid_model.specs.declared.error.ErrorKind.TheVariants.{UnexpectedValue, RangeTooLong}
+use Rattle.liquid_model.specs.declared.error.ErrorKind.TheVariants.{InvalidInput}
 use Rattle.liquid_model.specs.Fallible.{◌>>=◌}
 use Rattle.liquid_core.specs.Expression.{Expression}
 use Rattle.liquid_core.specs.Environment.{Environment}
-use Rattle.liquid_core.specs.Expressions.{value_of, required, needed_whole}
-use Rattle.liquid_filter_base.specs.FilterAnswers.{FilterAnswer}
+use Rattle.liquid_core.specs.Expressions.{value_of, forgiven, if_missing, required, sought}
+use Rattle.liquid_core.specs.Expressions.{sought_whole, needed_whole}
+use Rattle.liquid_core.specs.declared.missing_value.Missing.{Missing}
+use Rattle.liquid_core.specs.declared.missing_value.Missing.TheVariants.{IsFault, IsNil}
+use Rattle.liquid_model.specs.FilterAnswers.{FilterAnswer}
 use Rattle.liquid_filters.specs.Kinds.{kind_answer}
 use Rattle.liquid_evaluation.specs.declared.comparison.ComparisonOperator.{ComparisonOperator}
 use Rattle.liquid_evaluation.specs.declared.comparison.ComparisonOperator.TheVariants.{Equals}
@@ -49,11 +53,33 @@ abbrev pub answers_with : (Text → FilterAnswer) → FilterAnswers
 answers_with named (existing kind) = kind_answer kind
 answers_with named (hosted name) = named name
 
--- a missing entry is nil before a filter, and UnknownVariable without one
-abbrev pub entry_value : Option Datum → List FilterCall → Result Datum ErrorKind
-entry_value (Some d) calls = Ok d
-entry_value None [] = Err UnknownVariable
-entry_value None (call ∷ calls) = Ok nil
+-- a refused input
+abbrev pub refuses_input : Result Datum ErrorKind → Bool
+refuses_input (Err InvalidInput) = true
+refuses_input _ = false
+
+-- the first answer, or the second where the first refuses the input
+abbrev pub accepted : Result Datum ErrorKind → Result Datum ErrorKind → Result Datum ErrorKind
+accepted first second = cond (refuses_input first) second first
+
+-- where nil is refused as the input, an empty list is given in its place, and where that is refused
+-- too, 0
+abbrev pub accepting_nil : FilterAnswer → FilterAnswer
+accepting_nil answers nil arguments = accepted (answers nil arguments)
+    (accepted (answers (array no_items) arguments) (answers (number (pos 0)) arguments))
+accepting_nil answers d arguments = answers d arguments
+
+-- so answers each filter that exists where a missing value is nil; a host's are left alone
+abbrev pub answers_in : Missing → FilterAnswers → FilterAnswers
+answers_in IsFault answers filter = answers filter
+answers_in IsNil answers (existing kind) = accepting_nil (answers (existing kind))
+answers_in IsNil answers (hosted name) = answers (hosted name)
+
+-- a missing entry is nil before a filter, and any missing value without one
+abbrev pub entry_value : Missing → Option Datum → List FilterCall → Result Datum ErrorKind
+entry_value missing (Some d) calls = Ok d
+entry_value missing None [] = if_missing nil missing
+entry_value missing None (call ∷ calls) = Ok nil
 
 -- a chain's filter with what it answers, and all of them
 abbrev pub call_by : FilterAnswers → FilterCall → Call
@@ -65,8 +91,8 @@ calls_by answers = map (call_by answers)
 -- the entry, then the filters in order
 unfoldable pub chain_value : FilterAnswers → Chain → Environment → Result Datum ErrorKind
 chain_value answers chain e = do
-  entry ← entry_value (value_of chain.entry e) chain.filters
-  applied (calls_by answers chain.filters) entry e
+  entry ← entry_value e.missing (value_of chain.entry e) chain.filters
+  applied (calls_by (answers_in e.missing answers) chain.filters) entry e
 
 -- ---- conditions
 
@@ -84,22 +110,36 @@ occurs_in s (c ∷ t) = starts_with nat_eq (c ∷ t) s || occurs_in s t
 abbrev pub has_key : Pairs → Datum → Bool
 has_key ps d = scalar d && is_some (value_at (text_of d) ps)
 
--- nil on the left is refused; a list has an equal item; a map has a scalar's text as a key; a
--- scalar's text has the text of d in it
-abbrev pub contains : Datum → Datum → Result Bool ErrorKind
-contains nil d = Err UnexpectedValue
-contains (array ds) d = Ok (list_any (λ item. same item d) (list_of ds))
-contains (object ps) d = Ok (has_key ps d)
-contains c d = Ok (occurs_in (text_of d) (text_of c))
+-- nil on the left is refused, or has nothing where a missing value is nil; a list has an equal
+-- item; a map has a scalar's text as a key; a scalar's text has the text of d in it
+abbrev pub contains : Missing → Datum → Datum → Result Bool ErrorKind
+contains missing nil d = forgiven UnexpectedValue false missing
+contains missing (array ds) d = Ok (list_any (λ item. same item d) (list_of ds))
+contains missing (object ps) d = Ok (has_key ps d)
+contains missing c d = Ok (occurs_in (text_of d) (text_of c))
 
-unfoldable pub comparison_truth : ComparisonOperator → Datum → Datum → Result Bool ErrorKind
-comparison_truth Equals l r = Ok (same l r)
-comparison_truth NotEquals l r = Ok (not (same l r))
-comparison_truth LessThan l r = Ok (order_passes is_lt (compare l r))
-comparison_truth GreaterThan l r = Ok (order_passes is_gt (compare l r))
-comparison_truth LessThanEquals l r = Ok (order_passes is_le (compare l r))
-comparison_truth GreaterThanEquals l r = Ok (order_passes is_ge (compare l r))
-comparison_truth Contains l r = contains l r
+unfoldable pub comparison_truth : Missing → ComparisonOperator → Datum → Datum →
+    Result Bool ErrorKind
+comparison_truth missing Equals l r = Ok (same l r)
+comparison_truth missing NotEquals l r = Ok (not (same l r))
+comparison_truth missing LessThan l r = Ok (order_passes is_lt (compare l r))
+comparison_truth missing GreaterThan l r = Ok (order_passes is_gt (compare l r))
+comparison_truth missing LessThanEquals l r = Ok (order_passes is_le (compare l r))
+comparison_truth missing GreaterThanEquals l r = Ok (order_passes is_ge (compare l r))
+comparison_truth missing Contains l r = contains missing l r
+
+-- where a side is missing, `==` and `!=` compare nil in its place, and the others are false
+abbrev pub truth_beside_missing : ComparisonOperator → Datum → Datum → Bool
+truth_beside_missing Equals l r = same l r
+truth_beside_missing NotEquals l r = not (same l r)
+truth_beside_missing _ l r = false
+
+abbrev pub truth_of_found : Missing → ComparisonOperator → Option Datum → Option Datum →
+    Result Bool ErrorKind
+truth_of_found missing comparison (Some l) (Some r) = comparison_truth missing comparison l r
+truth_of_found missing comparison (Some l) None = Ok (truth_beside_missing comparison l nil)
+truth_of_found missing comparison None (Some r) = Ok (truth_beside_missing comparison nil r)
+truth_of_found missing comparison None None = Ok (truth_beside_missing comparison nil nil)
 
 -- a missing value is false
 abbrev pub bare_truth : Option Datum → Bool
@@ -110,9 +150,9 @@ bare_truth (Some d) = truthy d
 unfoldable pub atom_truth : Atom → Environment → Result Bool ErrorKind
 atom_truth (bare x) e = Ok (bare_truth (value_of x e))
 atom_truth (compared left comparison right) e = do
-  l ← required left e
-  r ← required right e
-  comparison_truth comparison l r
+  l ← sought left e
+  r ← sought right e
+  truth_of_found e.missing comparison l r
 
 -- atoms joined by `and`: up to the first that is false
 unfoldable pub all_true : List Atom → Environment → Result Bool ErrorKind
@@ -165,12 +205,11 @@ source_items (counted first last) e = do
   b ← needed_whole last e
   not_too_long (count_to a b) (numbers_from a (count_to a b))
 
--- a limit, an offset or a number of columns, where one is given: a whole number
+-- a limit, an offset or a number of columns, where one is given: a whole number. A missing one and
+-- nil are as none where they aren't a fault
 unfoldable pub amount : Option Expression → Environment → Result (Option ℤ) ErrorKind
 amount None e = Ok None
-amount (Some x) e = do
-  n ← needed_whole x e
-  Ok (Some n)
+amount (Some x) e = sought_whole x e
 
 -- a negative number counts as huge
 abbrev pub count_within_limit : ℕ → ℤ → ℕ
@@ -207,7 +246,7 @@ selected_items window ds e = do
 
 -- ---- the pairs of a tag
 
--- each pair's name and value, evaluated in order; a missing value is UnknownVariable
+-- each pair's name and value, evaluated in order
 unfoldable pub bound_values : Bindings → Environment → Result (List (Text × Datum)) ErrorKind
 bound_values [] e = Ok []
 bound_values (b ∷ bs) e = do

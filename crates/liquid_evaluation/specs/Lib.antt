@@ -9,6 +9,7 @@ pub mod Groups
 pub mod ItemLists
 pub mod Laws
 pub mod Names
+pub mod PartialCalls
 pub mod Ranges
 pub mod SourceView
 pub mod StoredFilters

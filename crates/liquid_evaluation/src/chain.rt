@@ -1,5 +1,5 @@
 //! Chains of filters, as a template holds them.
-ghost use Rattle.std.specs.Prelude.{◌≡◌, [], IsTrue, length};
+ghost use Rattle.std.specs.Prelude.{◌≡◌, [], ◌∷◌, IsTrue, length, pos};
 ghost use Rattle.liquid_model.specs.ErrorKinds.{IsKindOrMemory};
 ghost use Rattle.liquid_evaluation.specs.StoredFilters.{stored_counts};
 
@@ -7,8 +7,8 @@ use crate::any_filter::AnyFilter;
 use crate::filter_call::{FilterCall, apply_one};
 use crate::stored_filter::StoredFilter;
 use liquid_core::{
-    DirectValue, Error, Expression, HostFilters, NamedFilters, Quoted, Result, State, Value,
-    ValueCow,
+    DirectValue, Error, ErrorKind, Expression, HostFilters, Missing, NamedFilters, Quoted, Result,
+    State, Value, ValueCow,
 };
 use std::alloc::Global;
 
@@ -32,10 +32,16 @@ impl Drop for ChainFilter {
 
 impl ChainFilter {
     ghost use Rattle.liquid_evaluation.specs.AnyFilters.{any_answer, any_counts};
-    ghost use Rattle.liquid_evaluation.specs.Calls.{call_of};
+    ghost use Rattle.liquid_model.specs.Answer.{Answers};
+    ghost use Rattle.liquid_model.specs.Data.{array, no_items, number};
+    ghost use Rattle.liquid_model.specs.View.{view};
+    ghost use Rattle.liquid_core.specs.States.{environment_of};
+    ghost use Rattle.liquid_evaluation.specs.Calls.{applied, call_of};
     ghost use Rattle.liquid_evaluation.specs.ChainView.{chain_filter_view};
     ghost use Rattle.liquid_evaluation.specs.DirectValues.{ChainDirectlyIs};
-    ghost use Rattle.liquid_evaluation.specs.Evaluation.{answers_with, call_by};
+    ghost use Rattle.liquid_evaluation.specs.Evaluation.{accepted, answers_in, answers_with};
+    ghost use Rattle.liquid_evaluation.specs.Evaluation.{call_by};
+    ghost use Rattle.liquid_evaluation.specs.inside.Forgiveness.{forgives_nil};
 
     /// The call by which the filter is run on its arguments, whose number it accepts.
     pub fn call<'h, H: NamedFilters>(&'h self, host: &'h H) -> FilterCall<'h, AnyFilter<'h, H>>
@@ -51,6 +57,118 @@ impl ChainFilter {
             filter,
             args: self.arguments.as_slice(),
         }
+    }
+
+    /// What the filter makes of the input, by its arguments, which are taken from left to right.
+    ///
+    /// The faults are those of an argument, and the filter's. Where a missing value is nil in this
+    /// state, a filter that isn't the host's and refuses nil as its input is given an empty list in
+    /// its place, and where it refuses that too, 0.
+    #[inline]
+    pub fn apply<H: NamedFilters>(
+        &self,
+        alloc: Global,
+        input: &Value,
+        state: &State<'_>,
+        host: &H,
+    ) -> Result<Value>
+        ensures { Answers view result
+            (applied (call_by (answers_in (environment_of state.now).missing
+            (answers_with (H.named host.now))) (chain_filter_view self.now) ∷ [])
+            (view input.now) (environment_of state.now)) }
+    {
+        match apply_one(alloc, input, &self.call(host), state) {
+            Ok(answer) => Ok(answer),
+            Err(fault) => match fault.kind {
+                ErrorKind::InvalidInput => {
+                    if self.forgives_nil(input, state.missing()) {
+                        self.apply_instead(alloc, state, host)
+                    } else {
+                        Err(fault)
+                    }
+                }
+                _ => Err(fault),
+            },
+        }
+    }
+
+    /// `apply`, where the message of a fault begins with the filter's name, as a chain has it.
+    pub fn apply_named<H: NamedFilters>(
+        &self,
+        alloc: Global,
+        input: &Value,
+        state: &State<'_>,
+        host: &H,
+    ) -> Result<Value>
+        ensures value { Answers view result
+            (applied (call_by (answers_in (environment_of state.now).missing
+            (answers_with (H.named host.now))) (chain_filter_view self.now) ∷ [])
+            (view input.now) (environment_of state.now)) }
+    {
+        match self.apply(alloc, input, state, host) {
+            Ok(answer) => Ok(answer),
+            Err(fault) => Err(of_filter(alloc, self.filter.name(), fault)),
+        }
+    }
+
+    /// Whether something is given in the place of a refused nil.
+    fn forgives_nil(&self, input: &Value, missing: Missing) -> bool
+        ensures { result ≡ forgives_nil missing (chain_filter_view self.now).filter
+            (view input.now) }
+    {
+        match missing {
+            Missing::IsFault => false,
+            Missing::IsNil => match &self.filter {
+                StoredFilter::Host(_) => false,
+                StoredFilter::Kind(_) => match input {
+                    Value::Nil => true,
+                    _ => false,
+                },
+            },
+        }
+    }
+
+    /// What the filter makes of an empty list, or of 0 where it refuses that.
+    #[inline(never)]
+    fn apply_instead<H: NamedFilters>(
+        &self,
+        alloc: Global,
+        state: &State<'_>,
+        host: &H,
+    ) -> Result<Value>
+        ensures { Answers view result (accepted
+            (applied (call_by (answers_with (H.named host.now)) (chain_filter_view self.now) ∷ [])
+            (array no_items) (environment_of state.now))
+            (applied (call_by (answers_with (H.named host.now)) (chain_filter_view self.now) ∷ [])
+            (number (pos 0)) (environment_of state.now))) }
+    {
+        let list = Value::Array(Vec::new(alloc));
+        let answer = apply_one(alloc, &list, &self.call(host), state);
+        drop(list);
+        match answer {
+            Ok(answer) => Ok(answer),
+            Err(fault) => match fault.kind {
+                ErrorKind::InvalidInput => self.apply_to_zero(alloc, state, host),
+                _ => Err(fault),
+            },
+        }
+    }
+
+    /// What the filter makes of 0.
+    fn apply_to_zero<H: NamedFilters>(
+        &self,
+        alloc: Global,
+        state: &State<'_>,
+        host: &H,
+    ) -> Result<Value>
+        ensures { Answers view result
+            (applied (call_by (answers_with (H.named host.now)) (chain_filter_view self.now) ∷ [])
+            (number (pos 0)) (environment_of state.now)) }
+    {
+        let zero = Value::Integer(0);
+        let answer = apply_one(alloc, &zero, &self.call(host), state);
+        drop(zero);
+        answer
     }
 }
 
@@ -85,7 +203,8 @@ impl FilterChain {
     /// The value of the chain: that of its entry, through its filters in order.
     ///
     /// A missing entry is nil before a filter, and `UnknownVariable` without one; so is a missing
-    /// argument of a filter.
+    /// argument of a filter. Both are nil where a missing value is nil in this state, and there a
+    /// filter may be given something in the place of a nil that it refuses (`ChainFilter::apply`).
     /// A filter's fault ends the chain, and its message begins with the filter's name, as does that
     /// of an argument. A filter of the host is `Unsupported` where `host` has none of its name that
     /// takes the number of arguments in the chain. `Memory` where a growth was refused.
@@ -134,10 +253,7 @@ impl FilterChain {
     {
         let mut value = self.evaluate_entry(alloc, state)?;
         for stored in &self.filters {
-            value = match apply_one(alloc, value.as_value(), &stored.call(host), state) {
-                Ok(next) => ValueCow::Owned(next),
-                Err(fault) => return Err(of_filter(alloc, stored.filter.name(), fault)),
-            };
+            value = ValueCow::Owned(stored.apply_named(alloc, value.as_value(), state, host)?);
         }
         Ok(value)
     }
@@ -154,15 +270,18 @@ impl FilterChain {
         }
     }
 
-    /// The entry's value, or nil where it is missing before a filter.
-    fn evaluate_entry<'a>(&'a self, alloc: Global, state: &'a State<'_>) -> Result<ValueCow<'a>>
+    /// The value of the entry, which the first filter is given: nil where it is missing before a
+    /// filter. It takes memory only where it is the whole object of a loop, or for a fault.
+    pub fn evaluate_entry<'a>(&'a self, alloc: Global, state: &'a State<'_>) -> Result<ValueCow<'a>>
         ensures value { Answers cow_view result
-            (entry_value (value_of (chain_view self.now).entry (environment_of state.now))
+            (entry_value (environment_of state.now).missing
+            (value_of (chain_view self.now).entry (environment_of state.now))
             (chain_view self.now).filters) }
         ensures no_memory { (FindsLoop state.now (value_of (chain_view self.now).entry
             (environment_of state.now)) → ⊥)
             → TakesNoMemory result
-            (entry_value (value_of (chain_view self.now).entry (environment_of state.now))
+            (entry_value (environment_of state.now).missing
+            (value_of (chain_view self.now).entry (environment_of state.now))
             (chain_view self.now).filters) }
     {
         if self.filters.is_empty() {

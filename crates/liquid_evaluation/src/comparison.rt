@@ -1,13 +1,15 @@
 //! How two values are compared.
-ghost use Rattle.std.specs.Prelude.{◌≡◌, Ok, Some};
+ghost use Rattle.std.specs.Prelude.{◌≡◌, Ok, Some, false};
 ghost use Rattle.liquid_model.specs.Answer.{Answers, IsValueOrMemory};
 ghost use Rattle.liquid_model.specs.Data.{text_of};
 ghost use Rattle.liquid_model.specs.View.{view, pairs_view};
+ghost use Rattle.liquid_model.specs.declared.error.ErrorKind.TheVariants.{UnexpectedValue};
+ghost use Rattle.liquid_core.specs.Expressions.{forgiven};
 ghost use Rattle.liquid_evaluation.specs.Evaluation.{comparison_truth, contains, has_key};
-ghost use Rattle.liquid_evaluation.specs.Evaluation.{occurs_in};
+ghost use Rattle.liquid_evaluation.specs.Evaluation.{occurs_in, truth_beside_missing};
 ghost use Rattle.liquid_evaluation.specs.WrittenConditions.{written_operator};
 
-use liquid_core::{Error, ErrorKind, Object, Result, Value, look_up};
+use liquid_core::{Error, ErrorKind, Missing, Object, Result, Value, look_up};
 use std::alloc::Global;
 use std::cmp::Ordering;
 use std::fmt;
@@ -35,10 +37,11 @@ pub enum ComparisonOperator {
 impl ComparisonOperator {
     /// Whether the two values compare so. Where values have no order, `<`, `>`, `<=` and `>=` are
     /// false.
-    /// `contains` is `UnexpectedValue` for nil on the left.
+    /// `contains` is `UnexpectedValue` for nil on the left, or false where a missing value is nil.
     #[tactic(auto, unfolding(crate::specs::Evaluation::comparison_truth))]
-    pub fn holds(self, alloc: Global, left: &Value, right: &Value) -> Result<bool>
-        ensures { Answers (λ b. b) result (comparison_truth self (view left.now) (view right.now)) }
+    pub fn holds(self, alloc: Global, left: &Value, right: &Value, missing: Missing) -> Result<bool>
+        ensures { Answers (λ b. b) result
+            (comparison_truth missing self (view left.now) (view right.now)) }
     {
         match self {
             ComparisonOperator::Equals => Ok(*left == *right),
@@ -56,12 +59,24 @@ impl ComparisonOperator {
                 left.compare(right),
                 Some(Ordering::Greater | Ordering::Equal)
             )),
-            ComparisonOperator::Contains => contains(alloc, left, right),
+            ComparisonOperator::Contains => contains(alloc, left, right, missing),
         }
     }
 }
 
 impl ComparisonOperator {
+    /// Whether the two values compare so, of which one or both stand for a missing value, as nil:
+    /// `==` and `!=` compare them, and the others are false.
+    pub(crate) fn holds_beside_missing(self, left: &Value, right: &Value) -> bool
+        ensures { result ≡ truth_beside_missing self (view left.now) (view right.now) }
+    {
+        match self {
+            ComparisonOperator::Equals => *left == *right,
+            ComparisonOperator::NotEquals => *left != *right,
+            _ => false,
+        }
+    }
+
     /// How the operator stands in a condition.
     pub fn as_str(self) -> &'static str
         ensures { result.now ≡ written_operator self }
@@ -90,15 +105,11 @@ impl fmt::Display for ComparisonOperator {
 /// Whether the left value has the right one in it: a list as an item, a map as a key, a scalar in
 /// its text.
 #[tactic(auto, using(liquid_model::proofs::Views::list_of_view))]
-fn contains(alloc: Global, left: &Value, right: &Value) -> Result<bool>
-    ensures { Answers (λ b. b) result (contains (view left.now) (view right.now)) }
+fn contains(alloc: Global, left: &Value, right: &Value, missing: Missing) -> Result<bool>
+    ensures { Answers (λ b. b) result (contains missing (view left.now) (view right.now)) }
 {
     match left {
-        Value::Nil => Err(Error::new(
-            alloc,
-            ErrorKind::UnexpectedValue,
-            "`contains` found nil, where a text, a list or a map is wanted",
-        )),
+        Value::Nil => nil_contains(alloc, missing),
         Value::Array(items) => Ok(items.contains(right)),
         Value::Object(pairs) => Ok(has_key(alloc, pairs, right)?),
         Value::Text(text) => Ok(has_text(alloc, text.as_str(), right)?),
@@ -107,6 +118,20 @@ fn contains(alloc: Global, left: &Value, right: &Value) -> Result<bool>
             left.text(alloc)?.as_str(),
             right,
         )?),
+    }
+}
+
+/// The fault of nil on the left, or false where a missing value is nil.
+fn nil_contains(alloc: Global, missing: Missing) -> Result<bool>
+    ensures { Answers (λ b. b) result (forgiven UnexpectedValue false missing) }
+{
+    match missing {
+        Missing::IsFault => Err(Error::new(
+            alloc,
+            ErrorKind::UnexpectedValue,
+            "`contains` found nil, where a text, a list or a map is wanted",
+        )),
+        Missing::IsNil => Ok(false),
     }
 }
 

@@ -1,7 +1,8 @@
 //! Conditions of `if`, `elsif` and `unless`.
-ghost use Rattle.std.specs.Prelude.{Some, map};
+ghost use Rattle.std.specs.Prelude.{Some, None, map};
 ghost use Rattle.std.specs.Fmt.{WritesOnOk};
 ghost use Rattle.liquid_model.specs.Answer.{Answers};
+ghost use Rattle.liquid_model.specs.Data.{number};
 ghost use Rattle.liquid_model.specs.View.{view};
 ghost use Rattle.liquid_core.specs.ExpressionView.{expression_view};
 ghost use Rattle.liquid_core.specs.States.{environment_of};
@@ -44,7 +45,9 @@ impl Drop for Atom {
 impl Condition {
     /// Whether the condition holds. Both joins go from left to right, and the right side is not
     /// read where the left decides. `UnknownVariable` where a compared value is missing (a bare one
-    /// is false), `UnexpectedValue` where `contains` has nil on its left.
+    /// is false), `UnexpectedValue` where `contains` has nil on its left. Where a missing value is
+    /// nil in this state, `==` and `!=` compare nil in its place, the other comparisons are false,
+    /// and so is `contains` with nil on its left.
     #[tactic(auto, unfolding(crate::specs::Evaluation::truth_of))]
     pub fn holds(&self, alloc: Global, state: &State<'_>) -> Result<bool>
         ensures { Answers (λ b. b) result (truth_of (condition_view self.now)
@@ -89,18 +92,19 @@ impl Atom {
                     DirectValue::Held(left) => {
                         return holds_beside(alloc, left, *operator, right, state);
                     }
-                    DirectValue::Number(n) => {
-                        let left = Value::Integer(n);
-                        let held = holds_beside(alloc, &left, *operator, right, state);
-                        drop(left);
-                        return held;
+                    DirectValue::Number(left) => {
+                        return number_holds_beside(alloc, left, *operator, right, state);
                     }
                     _ => {}
                 }
-                let left = left.evaluate(alloc, state)?;
-                let held = holds_beside(alloc, left.as_value(), *operator, right, state);
-                drop(left);
-                held
+                match left.sought(alloc, state)? {
+                    Some(left) => {
+                        let held = holds_beside(alloc, left.as_value(), *operator, right, state);
+                        drop(left);
+                        held
+                    }
+                    None => holds_beside_missing(alloc, *operator, right, state),
+                }
             }
         }
     }
@@ -126,17 +130,67 @@ fn holds_beside(
     right: &Expression,
     state: &State<'_>,
 ) -> Result<bool>
-    ensures { Answers (λ b. b) result (truth_beside (view left.now) operator
+    ensures { Answers (λ b. b) result (truth_beside (Some (view left.now)) operator
         (expression_view right.now)
         (environment_of state.now)) }
 {
     if let DirectValue::Held(right) = right.direct_value(state) {
-        return operator.holds(alloc, left, right);
+        return operator.holds(alloc, left, right, state.missing());
     }
-    let right = right.evaluate(alloc, state)?;
-    let held = operator.holds(alloc, left, right.as_value());
-    drop(right);
+    match right.sought(alloc, state)? {
+        Some(right) => {
+            let held = operator.holds(alloc, left, right.as_value(), state.missing());
+            drop(right);
+            held
+        }
+        None => {
+            let nil = Value::Nil;
+            let held = operator.holds_beside_missing(left, &nil);
+            drop(nil);
+            Ok(held)
+        }
+    }
+}
+
+/// Whether the number compares so with the value of the right expression.
+fn number_holds_beside(
+    alloc: Global,
+    left: i64,
+    operator: ComparisonOperator,
+    right: &Expression,
+    state: &State<'_>,
+) -> Result<bool>
+    ensures { Answers (λ b. b) result (truth_beside (Some (number left)) operator
+        (expression_view right.now)
+        (environment_of state.now)) }
+{
+    let left = Value::Integer(left);
+    let held = holds_beside(alloc, &left, operator, right, state);
+    drop(left);
     held
+}
+
+/// Whether a missing value compares so with the value of the right expression.
+fn holds_beside_missing(
+    alloc: Global,
+    operator: ComparisonOperator,
+    right: &Expression,
+    state: &State<'_>,
+) -> Result<bool>
+    ensures { Answers (λ b. b) result (truth_beside None operator (expression_view right.now)
+        (environment_of state.now)) }
+{
+    let nil = Value::Nil;
+    let held = match right.sought(alloc, state)? {
+        Some(right) => {
+            let held = operator.holds_beside_missing(&nil, right.as_value());
+            drop(right);
+            held
+        }
+        None => operator.holds_beside_missing(&nil, &nil),
+    };
+    drop(nil);
+    Ok(held)
 }
 
 /// The conjunctions with ` or ` between them.

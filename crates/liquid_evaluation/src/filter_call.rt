@@ -2,7 +2,7 @@
 ghost use Rattle.std.specs.Prelude.{◌≡◌, [], ◌∷◌, length, map, All, IsTrue, IsOk, Ok};
 ghost use Rattle.std.specs.List.{list_all};
 ghost use Rattle.liquid_model.specs.Cow.{cow_view};
-ghost use Rattle.liquid_filter_base.specs.FilterAnswers.{AnswersIf};
+ghost use Rattle.liquid_model.specs.FilterAnswers.{AnswersIf};
 ghost use Rattle.liquid_core.specs.States.{environment_of};
 ghost use Rattle.liquid_model.specs.View.{view};
 ghost use Rattle.liquid_evaluation.specs.Calls.{applied, call_of};

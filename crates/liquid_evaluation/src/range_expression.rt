@@ -37,7 +37,8 @@ impl RangeExpression {
     /// a range are evaluated in turn, and each is converted before the next is evaluated.
     ///
     /// `UnknownVariable` where an expression has no value, `UnexpectedValue` where the end of a
-    /// range has no whole number.
+    /// range has no whole number. Where a missing value is nil in this state, a missing value has
+    /// no items, and an end that is missing or nil is 0.
     #[tactic(auto, unfolding(crate::specs::Ranges::range_of))]
     pub fn evaluate<'r>(&'r self, alloc: Global, state: &'r State<'_>) -> Result<Range<'r>>
         ensures { Answers range_view result

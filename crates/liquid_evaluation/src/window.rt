@@ -1,15 +1,17 @@
 //! Which of a loop's items are asked for.
-ghost use Rattle.std.specs.Prelude.{◌≡◌, ◌≤◌, option_map};
+ghost use Rattle.std.specs.Prelude.{◌≡◌, ◌≤◌, option_map, Some, None};
 ghost use Rattle.liquid_model.specs.Answer.{Answers};
 ghost use Rattle.liquid_model.specs.ErrorKinds.{IsKindOrMemory};
+ghost use Rattle.liquid_model.specs.View.{view};
+ghost use Rattle.liquid_model.specs.Whole.{whole};
 ghost use Rattle.liquid_model.specs.declared.error.ErrorKind.TheVariants.{UnexpectedValue};
 ghost use Rattle.liquid_core.specs.ExpressionView.{expression_view};
-ghost use Rattle.liquid_core.specs.Expressions.{needed_whole};
+ghost use Rattle.liquid_core.specs.Expressions.{needed_whole, sought_whole, whole_found};
 ghost use Rattle.liquid_core.specs.States.{environment_of};
 ghost use Rattle.liquid_evaluation.specs.Evaluation.{amount, count_within_limit};
 ghost use Rattle.liquid_evaluation.specs.Evaluation.{selected_count, skipped};
 
-use liquid_core::{Error, ErrorKind, Expression, Quoted, Result, Spelled, State, Value};
+use liquid_core::{Error, ErrorKind, Expression, Missing, Quoted, Result, Spelled, State, Value};
 use std::alloc::Global;
 
 /// The items of a source that are asked for, by how many are left out before them and how many they
@@ -57,7 +59,7 @@ fn at_most(all: usize, number: i64) -> usize
 /// The whole number of a `limit`, an `offset` or a number of columns, where one is given.
 ///
 /// `UnknownVariable` where the expression has no value, `UnexpectedValue` where its value has no
-/// whole number.
+/// whole number. Where a missing value is nil in this state, it and nil are as if none were given.
 #[tactic(auto, unfolding(crate::specs::Evaluation::amount))]
 pub fn evaluate_amount(
     alloc: Global,
@@ -68,12 +70,28 @@ pub fn evaluate_amount(
         (environment_of state.now)) }
 {
     match given {
-        Some(expression) => Ok(Some(evaluate_whole(alloc, expression, state)?)),
+        Some(expression) => sought_whole(alloc, expression, state),
         None => Ok(None),
     }
 }
 
-/// The whole number of the expression's value. The faults are those of `evaluate_amount`.
+/// The whole number of the expression's value, or `None` where that is missing or nil and no fault.
+/// The faults are those of `evaluate_amount`.
+#[tactic(auto, unfolding(liquid_core::specs::Expressions::sought_whole))]
+fn sought_whole(alloc: Global, expression: &Expression, state: &State<'_>) -> Result<Option<i64>>
+    ensures { Answers (λ n. n) result (sought_whole (expression_view expression.now)
+        (environment_of state.now)) }
+{
+    match expression.sought(alloc, state)? {
+        Some(value) => match value.as_value().to_integer() {
+            Some(number) => Ok(Some(number)),
+            None => without_whole(alloc, expression, value.as_value(), state.missing()),
+        },
+        None => Ok(None),
+    }
+}
+
+/// The same, with 0 in place of `None`.
 #[tactic(auto, unfolding(liquid_core::specs::Expressions::needed_whole))]
 pub(crate) fn evaluate_whole(
     alloc: Global,
@@ -83,10 +101,29 @@ pub(crate) fn evaluate_whole(
     ensures { Answers (λ n. n) result (needed_whole (expression_view expression.now)
         (environment_of state.now)) }
 {
-    let value = expression.evaluate(alloc, state)?;
-    match value.as_value().to_integer() {
+    match sought_whole(alloc, expression, state)? {
         Some(number) => Ok(number),
-        None => Err(no_whole(alloc, expression, value.as_value())),
+        None => Ok(0),
+    }
+}
+
+/// What stands for a value that is no whole number: nothing for nil, where a missing value is nil,
+/// and else a fault.
+fn without_whole(
+    alloc: Global,
+    expression: &Expression,
+    value: &Value,
+    missing: Missing,
+) -> Result<Option<i64>>
+    requires { whole (view value.now) ≡ None }
+    ensures { Answers (λ n. n) result (whole_found missing (Some (view value.now))) }
+{
+    match value {
+        Value::Nil => match missing {
+            Missing::IsNil => Ok(None),
+            Missing::IsFault => Err(no_whole(alloc, expression, value)),
+        },
+        _ => Err(no_whole(alloc, expression, value)),
     }
 }
 

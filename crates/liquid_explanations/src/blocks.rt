@@ -161,6 +161,7 @@ fn similar_tag<'n>(
 ) -> Result<Option<SimilarName<'n>>, AllocError> {
     let similar = most_similar(alloc, language.tags.names(), name, None)?;
     let similar = most_similar(alloc, language.blocks.names(), name, similar)?;
+    let similar = most_similar(alloc, language.host_tags.names(), name, similar)?;
     let similar = more_similar(alloc, "else", name, similar)?;
     more_similar(alloc, "elsif", name, similar)
 }

@@ -4,7 +4,7 @@ use crate::names::{kind_of_filter, lacking_filter, meant_filter};
 use crate::numbers::comma_in_argument;
 use crate::phrasing::Phrasing;
 use crate::similar::most_similar;
-use liquid_language::{FilterRegistry, RegisteredFilter};
+use liquid_language::{FilterRegistry, HostCall, Language, RegisteredFilter};
 use liquid_lexer::{Item, PlacedItem, PlacedPiece, Symbol};
 use std::alloc::{AllocError, Global};
 
@@ -27,13 +27,17 @@ struct WrittenFilter<'s> {
 /// Of the first filter that isn't registered.
 pub(crate) fn unknown_filter<'s>(
     alloc: Global,
-    filters: &'s FilterRegistry,
+    language: &'s Language,
     piece: &PlacedPiece<'s>,
     at: &'s str,
 ) -> Result<Phrasing<'s>, AllocError> {
+    if let Some(call) = host_call(language, piece.name) {
+        let words = "`…` calls the filter `…`, which isn't registered";
+        return Ok(Phrasing::quoting(at, words, piece.name, call.filter.as_str()));
+    }
     let calls = calls(alloc, &piece.items)?;
-    match unregistered(filters, &calls) {
-        Some(call) => unknown_name(alloc, filters, &call),
+    match unregistered(&language.filters, &calls) {
+        Some(call) => unknown_name(alloc, &language.filters, &call),
         None => Ok(Phrasing::plain(at, "a filter isn't known")),
     }
 }
@@ -99,18 +103,56 @@ fn similar_filter<'s>(
 /// Of the first filter that doesn't take the number of its arguments.
 pub(crate) fn miscounted<'s>(
     alloc: Global,
-    filters: &FilterRegistry,
+    language: &Language,
     piece: &PlacedPiece<'s>,
     at: &'s str,
 ) -> Result<Phrasing<'s>, AllocError> {
-    let calls = calls(alloc, &piece.items)?;
-    Ok(match refused(filters, &calls) {
+    let calls = match host_call(language, piece.name) {
+        Some(call) => return Ok(miscounted_values(&language.filters, call, piece, at)),
+        None => calls(alloc, &piece.items)?,
+    };
+    Ok(match refused(&language.filters, &calls) {
         Some((call, filter)) => match comma_in_argument(call.from) {
             Some(phrasing) if call.arguments == 2 => phrasing,
             _ => miscount(&call, bounds(filter)),
         },
         None => Phrasing::plain(at, "a filter takes another number of arguments"),
     })
+}
+
+/// Of a host's tag whose filter doesn't take the number of its values.
+fn miscounted_values<'s>(
+    filters: &FilterRegistry,
+    call: &HostCall,
+    piece: &PlacedPiece<'s>,
+    at: &'s str,
+) -> Phrasing<'s> {
+    let tag = WrittenFilter {
+        name: piece.name,
+        from: at,
+        arguments: value_count(&piece.items),
+        has_colon: true,
+        names_arguments: false,
+    };
+    match filters.get(call.filter.as_str()) {
+        Some(filter) => miscount(&tag, bounds(filter)),
+        None => Phrasing::plain(at, "a tag takes another number of values"),
+    }
+}
+
+fn value_count(items: &[PlacedItem<'_>]) -> usize {
+    let mut count: usize = 0;
+    for placed in items {
+        if matches!(placed.item, Item::Value(_, _)) {
+            count = count.saturating_add(1);
+        }
+    }
+    count
+}
+
+/// The call that a tag's name stands for, if it is a host's.
+fn host_call<'l>(language: &'l Language, name: &str) -> Option<&'l HostCall> {
+    language.host_tags.call(language.host_tags.number(name)?)
 }
 
 /// Of a filter that takes a least and a greatest number of arguments, and other ones are given, or

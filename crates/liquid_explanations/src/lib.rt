@@ -14,6 +14,7 @@ mod names;
 mod numbers;
 mod outline;
 mod parentheses;
+mod paths;
 mod phrasing;
 mod similar;
 mod wanted;
@@ -24,8 +25,9 @@ use crate::malformed_piece::malformed;
 use crate::misplaced_items::misplaced;
 use crate::outline::{Outline, outline_at};
 use crate::phrasing::{Phrasing, message_of};
-use liquid_language::Language;
-use liquid_lexer::{Fault, FaultKind, PlacedPiece, placed_piece};
+use liquid_language::{Language, style_after};
+use liquid_lexer::{Fault, FaultKind, PlacedPiece, Style, placed_piece};
+use liquid_model::past_byte;
 use std::alloc::{AllocError, Global};
 
 /// What the message says of a fault.
@@ -49,13 +51,21 @@ pub fn explanation_of(
     ensures place { IfOk result (λ e. e.remaining ≤ length source.now) }
 {
     let outline = outline_at(alloc, source, language, fault.remaining)?;
-    let piece = placed_piece(alloc, outline.at)?;
+    let piece = placed_piece(alloc, outline.at, style_at(language, outline.at))?;
     let phrasing = phrasing_of(alloc, language, &fault, &outline, &piece)?;
     let message = message_of(alloc, source, &phrasing)?;
     Ok(Explanation {
         remaining: phrasing.from.len().min(source.len()),
         message,
     })
+}
+
+/// The style in which the piece with which a text begins is read.
+fn style_at(language: &Language, text: &str) -> Style {
+    match past_byte(text, b'{') {
+        Some(inside) => style_after(language, inside),
+        None => Style::Items,
+    }
 }
 
 /// What the message says of a fault in a piece.
@@ -68,8 +78,8 @@ fn phrasing_of<'s>(
 ) -> Result<Phrasing<'s>, AllocError> {
     match fault.kind {
         FaultKind::UnknownTag => unknown_tag(alloc, language, outline, piece),
-        FaultKind::UnknownFilter => unknown_filter(alloc, &language.filters, piece, outline.at),
-        FaultKind::FilterArguments => miscounted(alloc, &language.filters, piece, outline.at),
+        FaultKind::UnknownFilter => unknown_filter(alloc, language, piece, outline.at),
+        FaultKind::FilterArguments => miscounted(alloc, language, piece, outline.at),
         FaultKind::MissingEnd => Ok(missing_end(fault, outline, piece.name)),
         FaultKind::TooNested => Ok(too_nested(outline.from)),
         FaultKind::Expected if fault.remaining == outline.at.len() => {

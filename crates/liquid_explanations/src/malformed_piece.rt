@@ -9,6 +9,7 @@ use crate::names::meant_tag;
 use crate::numbers::{is_fraction, no_whole, number_front};
 use crate::outline::Outline;
 use crate::parentheses::in_parentheses;
+use crate::paths::in_path;
 use crate::phrasing::Phrasing;
 use liquid_language::Language;
 use liquid_lexer::{Delimiter, Expectation, Fault, FaultKind, PlacedPiece};
@@ -123,6 +124,9 @@ fn bad_item<'s>(
     piece: &PlacedPiece<'s>,
 ) -> Phrasing<'s> {
     let site = site_of(fault, outline.from, piece);
+    if let Some(phrasing) = in_path(language, &site, piece) {
+        return phrasing;
+    }
     if let Some(phrasing) = in_parentheses(language, &site, piece) {
         return phrasing;
     }
@@ -301,7 +305,7 @@ fn begins_beyond(text: &str) -> bool {
 }
 
 /// The text up to white space or a closer.
-fn first_word(text: &str, kind: Delimiter) -> &str {
+pub(crate) fn first_word(text: &str, kind: Delimiter) -> &str {
     let closer = closer_of(text, kind);
     if !closer.is_empty() {
         return closer;

@@ -1,6 +1,7 @@
 //! Faults of items that aren't allowed where they stand.
 use crate::characters::{begins_value, is_digit, is_letter, is_quote};
 use crate::foreign_syntax::{ErrorSite, PieceContext, advice, context_of};
+use crate::paths::after_path;
 use crate::phrasing::Phrasing;
 use crate::wanted::words_of;
 use liquid_language::Language;
@@ -17,6 +18,9 @@ pub(crate) fn misplaced<'s>(
         return phrasing;
     }
     if let Some(phrasing) = unquoted_file(&site, &piece.items) {
+        return phrasing;
+    }
+    if let Some(phrasing) = after_path(language, &site, piece) {
         return phrasing;
     }
     match advice(&site) {
@@ -112,7 +116,9 @@ fn decimal_comma<'s>(site: &ErrorSite<'s>, items: &[PlacedItem<'s>]) -> Option<P
 fn unquoted_file<'s>(site: &ErrorSite<'s>, items: &[PlacedItem<'s>]) -> Option<Phrasing<'s>> {
     let name = items.first()?;
     let is_file = name.spelling.ends_with(".html") || name.spelling.ends_with(".liquid");
-    if !matches!(site.context, PieceContext::Partial) || !is_file {
+    let is_partial = matches!(site.context, PieceContext::Partial);
+    // Jekyll's `include` takes it without quotes
+    if !is_partial || !is_file || matches!(site.expected, Expectation::JekyllPair) {
         return None;
     }
     let words = "the name of a partial stands in quotes: write `'…'`";
@@ -276,7 +282,7 @@ fn directly_after<'s>(site: &ErrorSite<'s>) -> Option<Phrasing<'s>> {
 }
 
 /// Whether the item at the site directly follows the one before it.
-fn is_adjacent(site: &ErrorSite<'_>, items: &[PlacedItem<'_>]) -> bool {
+pub(crate) fn is_adjacent(site: &ErrorSite<'_>, items: &[PlacedItem<'_>]) -> bool {
     match items.get(site.count.saturating_sub(1)) {
         Some(last) => last.from.len().saturating_sub(last.spelling.len()) == site.rest.len(),
         None => false,
@@ -285,7 +291,9 @@ fn is_adjacent(site: &ErrorSite<'_>, items: &[PlacedItem<'_>]) -> bool {
 
 /// Whether a tag, a block, an end or a control word has the name.
 pub(crate) fn is_tag(language: &Language, name: &str) -> bool {
-    language.tags.get(name).is_some() || language.blocks.get(name).is_some()
+    language.tags.get(name).is_some()
+        || language.blocks.get(name).is_some()
+        || language.host_tags.number(name).is_some()
 }
 
 /// The spelling of the item of the index, or none.

@@ -190,10 +190,10 @@ json: a `for` shows a list or a map piece by piece
 to_json: a `for` shows a list or a map piece by piece
 tojson: a `for` shows a list or a map piece by piece
 jsonify: a `for` shows a list or a map piece by piece
-money: it is of Shopify's themes; `divided_by: 100` and `modulo: 100` show cents
-money_with_currency: it is of Shopify's themes; `divided_by: 100` and `modulo: 100` show cents
-money_without_currency: it is of Shopify's themes; `divided_by: 100` and `modulo: 100` show cents
-money_without_trailing_zeros: it is of Shopify's themes; `divided_by: 100` shows whole units
+money: it is of Shopify's themes; let the data bring the price as a text
+money_with_currency: it is of Shopify's themes; let the data bring the price as a text
+money_without_currency: it is of Shopify's themes; let the data bring the price as a text
+money_without_trailing_zeros: it is of Shopify's themes; let the data bring the price as a text
 t: it is of Shopify's themes; let the data bring the translated text
 translate: it is of Shopify's themes; let the data bring the translated text
 img_url: it is of Shopify's themes; write the address itself
@@ -308,7 +308,7 @@ base64: let the data bring the encoded text
 to_f: numbers are whole here; count in a smaller unit, as cents
 float: numbers are whole here; count in a smaller unit, as cents
 floatformat: numbers are whole here; `round: 2` rounds a text, as `'1.234'`
-currency: `divided_by: 100` and `modulo: 100` show cents
+currency: let the data bring the price as a text
 intcomma: let the data bring the formatted number
 pluralize: write `{% if a == 1 %}item{% else %}items{% endif %}`
 ordinalize: let the data bring the text as it should be

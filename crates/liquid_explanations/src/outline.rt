@@ -1,9 +1,9 @@
 //! Which blocks are open at a place, and which piece holds it.
 use liquid_language::{
-    Block, BlockContext, BlockKind, Control, Language, Role, body_after, role_of,
+    Block, BlockContext, BlockKind, Control, Language, Role, body_after, markup_after, role_of,
 };
-use liquid_lexer::{ParseError, Piece, read_body, read_markup, text_before};
-use liquid_words::past_byte;
+use liquid_lexer::{ParseError, Piece, read_body, text_before};
+use liquid_model::past_byte;
 use std::alloc::{AllocError, Global};
 
 /// The `else` of a block.
@@ -100,7 +100,7 @@ fn past<'s>(
     if text.len() <= outline.from.len() {
         return Ok(None);
     }
-    let (markup, after) = match read_markup(alloc, inside) {
+    let (markup, after) = match markup_after(alloc, language, inside) {
         Ok(read) => read,
         Err(ParseError::Fault(_)) => return Ok(None),
         Err(ParseError::Memory) => return Err(AllocError),
@@ -148,7 +148,9 @@ fn enter<'s>(
                 });
             }
         }
-        Some(Role::Control(Control::Elsif | Control::When)) | Some(Role::Tag(_)) | None => {}
+        Some(Role::Control(Control::Elsif | Control::When))
+        | Some(Role::Tag(_) | Role::HostTag(_))
+        | None => {}
     }
     Ok(())
 }

@@ -1,7 +1,6 @@
 //! What the message says of a fault, before it is a message: its words, and the texts that stand in
 //! them.
-use liquid_model::excerpt;
-use liquid_words::location;
+use liquid_model::{excerpt, location};
 use std::alloc::{AllocError, Global};
 use std::fmt::Write;
 

@@ -1,5 +1,5 @@
 pub mod ClosedTexts
 pub mod Cuts
-pub mod JsonTexts
+pub mod JsonData
 pub mod ReadBack
 pub mod ValueParts

@@ -27,9 +27,9 @@ use Rattle.liquid_model.specs.Fallible.{◌>>=◌}
 use Rattle.liquid_model.specs.Texts.{Text}
 use Rattle.liquid_model.specs.Whole.{fits}
 use Rattle.liquid_json.specs.Json as reader
-use Rattle.liquid_jekyll_host_filters.specs.Json.{json_text}
+use Rattle.liquid_json.specs.JsonTexts.{json_text}
 use Rattle.liquid_filter_sets.specs.ReadBack.{IsWellFormed, AreWellFormedItems, HasWellFormedValues, datum_depth, items_depth, pairs_depth, pair_names, value_read, JsonifyIsReadBack, DataAreReadBack, DeeperIsRefused}
-use Rattle.liquid_filter_sets.proofs.JsonTexts.{data_of, items_of, members_of, value_tokens, same_text}
+use Rattle.liquid_filter_sets.proofs.JsonData.{data_of, items_of, members_of, value_tokens}
 
 -- ---- numbers
 
@@ -70,7 +70,7 @@ mutual
 
 tokens_back : (d : Datum) → IsWellFormed d → tokens (json_text d) ≡ tree.json_tokens (outline (data_of d))
 tokens_back d h =
-    ap tokens (sym (same_text d) ∙ ap print (value_tokens d))
+    ap (λ ts. tokens (print ts)) (value_tokens d)
     ∙ tokens-print (tree.json_tokens (outline (data_of d))) (ArePrintable-json_tokens (outline (data_of d)) (have_numbers d h))
 
 mutual

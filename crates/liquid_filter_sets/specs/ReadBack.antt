@@ -12,10 +12,10 @@ use Rattle.liquid_model.specs.Fallible.{◌>>=◌}
 use Rattle.liquid_model.specs.Texts.{Text}
 use Rattle.liquid_model.specs.Whole.{fits}
 use Rattle.liquid_model.specs.declared.error.ErrorKind.TheVariants.{InvalidInput}
-use Rattle.liquid_filter_base.specs.Arguments.{Answer}
+use Rattle.liquid_model.specs.Arguments.{Answer}
 use Rattle.liquid_json.specs.Json.{data_of, datum_of}
-use Rattle.liquid_jekyll_host_filters.specs.Json.{json_map, jsonify_answer}
-use Rattle.liquid_shopify_host_filters.specs.JsonTexts.{json_answer}
+use Rattle.liquid_json.specs.JsonTexts.{json_text}
+use Rattle.liquid_jekyll_host_filters.specs.Json.{jsonify_answer}
 
 -- the value that a text of JSON is
 abbrev pub value_read : Option Data → Answer
@@ -80,13 +80,9 @@ JsonifyIsReadBack = (d : Datum) → IsWellFormed d → datum_depth d ≤ max_dep
 -- of a map it is the text of data that are the map
 abbrev pub DataAreReadBack : Type 0
 DataAreReadBack = (ms : Pairs) → IsWellFormed (object ms) → datum_depth (object ms) ≤ max_depth →
-    data_of (json_map ms) ≡ Ok ms
+    data_of (json_text (object ms)) ≡ Ok ms
 
 -- what nests deeper is refused
 abbrev pub DeeperIsRefused : Type 0
 DeeperIsRefused = (d : Datum) → IsWellFormed d → max_depth < datum_depth d → read_back d ≡
     Err InvalidInput
-
--- `json` writes what `jsonify` writes
-abbrev pub JsonWritesTheSame : Type 0
-JsonWritesTheSame = (d : Datum) → json_answer d ≡ jsonify_answer d []

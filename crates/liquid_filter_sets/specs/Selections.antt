@@ -14,7 +14,7 @@ use Rattle.liquid_core.specs.Environment.{Environment}
 use Rattle.liquid_core.specs.Held.{map_of}
 use Rattle.liquid_core.specs.States.{merged_layers, new_layers}
 use Rattle.liquid_evaluation.specs.Tree.{Condition}
-use Rattle.liquid_filter_base.specs.Arguments.{Answer}
+use Rattle.liquid_model.specs.Arguments.{Answer}
 use Rattle.liquid_jekyll_host_filters.specs.Searches.{values}
 use Rattle.liquid_filter_sets.specs.ConditionTexts.{condition_in}
 use Rattle.liquid_filter_sets.specs.Truths.{condition_holds}

@@ -34,6 +34,11 @@ or_empty (Some s) = s
 abbrev pub member_or_empty : Text → Text → Pairs → Text
 member_or_empty map name ps = or_empty (member_text map name ps)
 
+-- what stands before the name of a file of the theme in its address
+abbrev pub assets_before : Option Text → Text
+assets_before None = codes "/assets/"
+assets_before (Some s) = s
+
 -- ---- lists of texts
 
 -- a text before those that follow; what is none is passed over

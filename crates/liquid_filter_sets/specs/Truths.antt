@@ -6,6 +6,7 @@ use Rattle.liquid_model.specs.declared.error.ErrorKind.{ErrorKind}
 use Rattle.liquid_core.specs.Environment.{Environment}
 use Rattle.liquid_core.specs.Expression.{Expression}
 use Rattle.liquid_core.specs.Expressions.{value_of}
+use Rattle.liquid_core.specs.declared.missing_value.Missing.TheVariants.{IsFault}
 use Rattle.liquid_evaluation.specs.Evaluation.{comparison_truth}
 use Rattle.liquid_evaluation.specs.Tree.{Atom, bare, compared, Condition}
 use Rattle.liquid_evaluation.specs.declared.comparison.ComparisonOperator.{ComparisonOperator}
@@ -19,7 +20,7 @@ truth_or_false (Err kind) = false
 
 -- two values that can't be compared don't compare: nil contains nothing
 abbrev pub compares : ComparisonOperator → Datum → Datum → Bool
-compares operator left right = truth_or_false (comparison_truth operator left right)
+compares operator left right = truth_or_false (comparison_truth IsFault operator left right)
 
 -- the truth of a value, or a comparison of two
 abbrev pub atom_holds : Atom → Environment → Bool

@@ -4,20 +4,22 @@ ghost use Rattle.liquid_model.specs.Answer.{IsValueOrMemory};
 ghost use Rattle.liquid_model.specs.Maps.{insert, listed};
 ghost use Rattle.liquid_language.specs.Registered.{registered_in};
 ghost use Rattle.liquid_language.specs.declared.registered_filter.RegisteredFilter.TheVariants.{Host};
-ghost use Rattle.liquid_filter_sets.specs.Languages.{IsJekyll, IsShopify, with_jekyll_filters};
-ghost use Rattle.liquid_filter_sets.specs.Languages.{with_kinds, with_shopify_filters, with_sites};
+ghost use Rattle.liquid_filter_sets.specs.Languages.{HasDecimals, IsJekyll, IsShopify};
+ghost use Rattle.liquid_filter_sets.specs.Languages.{with_decimal_filters, with_each_decimal};
+ghost use Rattle.liquid_filter_sets.specs.Languages.{with_jekyll_filters, with_kinds};
+ghost use Rattle.liquid_filter_sets.specs.Languages.{with_shopify_filters, with_sites};
 
 use liquid_core::{ErrorKind, Result};
+use liquid_decimals::{DECIMAL_FILTERS, DecimalFilter};
 use liquid_filters::FilterKind;
 use liquid_jekyll_host_filters::{JEKYLL_FILTERS, JekyllFilter};
-use liquid_language::{FilterRegistry, Language, TagKind};
+use liquid_language::{FilterRegistry, Language, TagKind, TagReflection, jekyll, language};
 use liquid_shopify_host_filters::{SHOPIFY_FILTERS, ShopifyKind};
-use liquid_tags::{TagReflection, jekyll, language};
 use std::alloc::Global;
 
-/// The language of Jekyll's templates: the standard one with Jekyll's `include` and `sort` in place
-/// of the standard ones, and the names of Jekyll's filters of a host. `Memory` where a growth was
-/// refused.
+/// The language of Jekyll's templates: the standard one with Jekyll's `include`, which takes a path
+/// without quotes, and `sort` in place of the standard ones, and the names of Jekyll's filters of a
+/// host. `Memory` where a growth was refused.
 pub fn jekyll_language(alloc: Global) -> Result<Language>
     ensures jekyll { IfOk result IsJekyll }
     ensures memory { IfErr result (λ e. e.kind ≡ ErrorKind.Memory) }
@@ -26,6 +28,7 @@ pub fn jekyll_language(alloc: Global) -> Result<Language>
     let include = jekyll::IncludeTag::new();
     let name = String::from_str(alloc, include.tag())?;
     language.tags.register(name, TagKind::from(include))?;
+    language.include_paths = true;
     let name = String::from_str(alloc, "sort")?;
     language.filters.register(name, FilterKind::JekyllSort)?;
     register_jekyll_filters(alloc, &mut language.filters)?;
@@ -40,6 +43,17 @@ pub fn shopify_language(alloc: Global) -> Result<Language>
 {
     let mut language = language(alloc)?;
     register_shopify_filters(alloc, &mut language.filters)?;
+    Ok(language)
+}
+
+/// The standard language with the names of the filters over decimals. `Memory` where a growth was
+/// refused.
+pub fn decimals_language(alloc: Global) -> Result<Language>
+    ensures decimals { IfOk result HasDecimals }
+    ensures memory { IfErr result (λ e. e.kind ≡ ErrorKind.Memory) }
+{
+    let mut language = language(alloc)?;
+    register_decimal_filters(alloc, &mut language.filters)?;
     Ok(language)
 }
 
@@ -61,6 +75,29 @@ pub fn register_shopify_filters(alloc: Global, filters: &mut FilterRegistry) -> 
         (with_shopify_filters (listed (registered_in filters.old))) }
 {
     register_kinds(alloc, filters, &SHOPIFY_FILTERS)
+}
+
+/// Registers the filters over decimals: each of `DECIMAL_FILTERS`. What such a name stood for
+/// before is forgotten. `Memory` where a growth was refused; then some of them may be registered.
+pub fn register_decimal_filters(alloc: Global, filters: &mut FilterRegistry) -> Result<()>
+    ensures { IsValueOrMemory (λ _. listed (registered_in filters.new)) result
+        (with_decimal_filters (listed (registered_in filters.old))) }
+{
+    register_each(alloc, filters, &DECIMAL_FILTERS)
+}
+
+fn register_each(
+    alloc: Global,
+    filters: &mut FilterRegistry,
+    decimals: &[DecimalFilter],
+) -> Result<()>
+    ensures { IsValueOrMemory (λ _. listed (registered_in filters.new)) result
+        (with_each_decimal (listed (registered_in filters.old)) decimals.now) }
+{
+    for filter in decimals {
+        register(alloc, filters, filter.name(), filter.least(), filter.most())?;
+    }
+    Ok(())
 }
 
 fn register_sites(alloc: Global, filters: &mut FilterRegistry, sites: &[JekyllFilter]) -> Result<()>

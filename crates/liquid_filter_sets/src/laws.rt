@@ -1,7 +1,7 @@
 //! What is proved of the sets' filters beyond their answers.
 ghost use Rattle.liquid_filter_sets.specs.Laws.{EachKeptIsSelected, SelectsPartByPart};
 ghost use Rattle.liquid_filter_sets.specs.ReadBack.{DataAreReadBack, DeeperIsRefused};
-ghost use Rattle.liquid_filter_sets.specs.ReadBack.{JsonWritesTheSame, JsonifyIsReadBack};
+ghost use Rattle.liquid_filter_sets.specs.ReadBack.{JsonifyIsReadBack};
 
 /// `where_exp` of two lists in a row is that of the one, and that of the other after it: no item
 /// depends on those beside it, and their order stays.
@@ -20,9 +20,4 @@ pub fn jsonify_is_read_back()
     ensures value { JsonifyIsReadBack }
     ensures data { DataAreReadBack }
     ensures deeper { DeeperIsRefused }
-{}
-
-/// `json` of Shopify writes what `jsonify` of Jekyll writes.
-pub fn json_writes_the_same()
-    ensures { JsonWritesTheSame }
 {}

@@ -1,4 +1,4 @@
-//! Jekyll's and Shopify's sets of filters as a whole: the languages that have their names, the
+//! The sets of filters as a whole: the languages that have their names, the
 //! filter of Jekyll that reads a condition, what the filters know of a site or a shop beside their
 //! input and arguments, as the data says it; and whether the JSON that they write is read back.
 #![tactic(auto)]
@@ -16,7 +16,8 @@ mod where_exp;
 
 pub use json_texts::is_read_back;
 pub use languages::{
-    jekyll_language, register_jekyll_filters, register_shopify_filters, shopify_language,
+    decimals_language, jekyll_language, register_decimal_filters, register_jekyll_filters,
+    register_shopify_filters, shopify_language,
 };
 pub use money::money_format;
 pub use shop::shop_of;

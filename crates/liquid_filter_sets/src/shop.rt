@@ -1,9 +1,11 @@
 //! What the filters of Shopify's templates know of a shop.
-ghost use Rattle.std.specs.Prelude.{◌≡◌, ◌++◌, [], IfErr, IfOk, OnOk, codes, map, string_bytes};
+ghost use Rattle.std.specs.Prelude.{◌≡◌, ◌++◌, [], IfErr, IfOk, OnOk, codes, map, option_map};
+ghost use Rattle.std.specs.Prelude.{string_bytes};
 ghost use Rattle.liquid_model.specs.Answer.{IsValueOrMemory};
 ghost use Rattle.liquid_model.specs.View.{items_view, pairs_view, view};
 ghost use Rattle.liquid_filter_sets.specs.MoneyFormats.{WritesAmounts};
-ghost use Rattle.liquid_filter_sets.specs.Settings.{member_or_empty, member_text, tags_in};
+ghost use Rattle.liquid_filter_sets.specs.Settings.{assets_before, member_or_empty, member_text};
+ghost use Rattle.liquid_filter_sets.specs.Settings.{tags_in};
 ghost use Rattle.liquid_filter_sets.specs.Settings.{setting_text, texts_in, texts_of};
 ghost use Rattle.liquid_filter_sets.specs.Settings.{with_text};
 ghost use Rattle.liquid_filter_sets.specs.Views.{texts_view};
@@ -15,10 +17,11 @@ use liquid_shopify_host_filters::Shop;
 use std::alloc::{AllocError, Global};
 
 /// The shop that the data tells: its formats of money, the handle of the page's collection and the
-/// tags of the page's products.
+/// tags of the page's products. Addresses of files of the theme begin as it is given, or else with
+/// `/assets/`.
 ///
 /// The answer is `Memory` where a growth was refused, and no other kind.
-pub fn shop_of(alloc: Global, data: &Object) -> Result<Shop>
+pub fn shop_of(alloc: Global, data: &Object, assets: Option<&str>) -> Result<Shop>
     ensures collection { IfOk result (λ s. string_bytes s.collection
         ≡ member_or_empty (codes "collection") (codes "handle") (pairs_view «data».now.entries)) }
     ensures tags { IfOk result (λ s. texts_view s.tags ≡ tags_in (pairs_view «data».now.entries)) }
@@ -28,7 +31,12 @@ pub fn shop_of(alloc: Global, data: &Object) -> Result<Shop>
     ensures with_currency { IfOk result (λ s. WritesAmounts
         (member_text (codes "shop") (codes "money_with_currency_format")
         (pairs_view «data».now.entries)) (codes " USD") s.money_with_currency) }
-    ensures assets { IfOk result (λ s. string_bytes s.assets ≡ codes "/assets/") }
+    ensures assets { IfOk result (λ s. string_bytes s.assets
+        ≡ assets_before (option_map (λ a. a.now) assets.entry)) }
+    ensures global_assets { IfOk result (λ s. string_bytes s.global_assets ≡ codes "/global/") }
+    ensures shopify_assets { IfOk result (λ s. string_bytes s.shopify_assets
+        ≡ codes "/shopify/") }
+    ensures images { IfOk result (λ s. string_bytes s.images ≡ codes "/") }
     ensures memory { IfErr result (λ e. e.kind ≡ ErrorKind.Memory) }
 {
     let money = member_text(data, "shop", "money_format");
@@ -36,13 +44,24 @@ pub fn shop_of(alloc: Global, data: &Object) -> Result<Shop>
     Ok(Shop {
         money: money_format(alloc, money, "")?,
         money_with_currency: money_format(alloc, with_currency, " USD")?,
-        assets: String::from_str(alloc, "/assets/")?,
+        assets: assets_of(alloc, assets)?,
         global_assets: String::from_str(alloc, "/global/")?,
         shopify_assets: String::from_str(alloc, "/shopify/")?,
         images: String::from_str(alloc, "/")?,
         collection: collection_of(alloc, data)?,
         tags: tags_of(alloc, data)?,
     })
+}
+
+/// What stands before the name of a file of the theme: the text that is given, or `/assets/`.
+fn assets_of(alloc: Global, given: Option<&str>) -> Result<String>
+    ensures { IsValueOrMemory string_bytes result
+        (assets_before (option_map (λ a. a.now) given.entry)) }
+{
+    match given {
+        Some(text) => Ok(String::from_str(alloc, text)?),
+        None => Ok(String::from_str(alloc, "/assets/")?),
+    }
 }
 
 /// The handle of the page's collection, or the empty text.

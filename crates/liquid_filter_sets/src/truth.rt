@@ -9,7 +9,7 @@ ghost use Rattle.liquid_evaluation.specs.ConditionView.{atom_view, atoms_view, c
 ghost use Rattle.liquid_filter_sets.specs.Truths.{all_hold, atom_holds, compares, condition_holds};
 ghost use Rattle.liquid_filter_sets.specs.Truths.{expression_or_nil};
 
-use liquid_core::{ErrorKind, Expression, Result, State, Value, ValueCow};
+use liquid_core::{ErrorKind, Expression, Missing, Result, State, Value, ValueCow};
 use liquid_syntax::{Atom, ComparisonOperator, Condition};
 use std::alloc::Global;
 
@@ -79,7 +79,7 @@ fn compares(
     ensures { IsValueOrMemory (λ b. b) result
         (compares operator (view left.now) (view right.now)) }
 {
-    match operator.holds(alloc, left, right) {
+    match operator.holds(alloc, left, right, Missing::IsFault) {
         Ok(held) => Ok(held),
         Err(fault) => match fault.kind {
             ErrorKind::Memory => Err(fault),

@@ -11,7 +11,7 @@ ghost use Rattle.liquid_filter_sets.specs.Views.{test_view};
 use crate::condition_text::condition_in;
 use crate::truth::holds;
 use liquid_core::{Filter, Object, Result, State, Value, store};
-use liquid_filter_base::{invalid_argument, text_of};
+use liquid_model::{invalid_argument, text_of};
 use liquid_syntax::Condition;
 use std::alloc::Global;
 

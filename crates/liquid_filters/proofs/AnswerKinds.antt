@@ -11,32 +11,32 @@ use Rattle.liquid_model.specs.Texts.{Text}
 use Rattle.liquid_model.specs.Whole.{whole}
 use Rattle.liquid_model.specs.declared.error.ErrorKind.{ErrorKind}
 use Rattle.liquid_model.specs.declared.error.ErrorKind.TheVariants.{Float, InvalidArgument}
-use Rattle.liquid_filter_base.specs.Arguments.{Answer, number_or_fault, text_or, first_of}
-use Rattle.liquid_date_filters.specs.Clock.{Clock}
-use Rattle.liquid_date_filters.specs.Dates.{date_of, as_text, or_input, dated, is_zone, in_zone, date_in_tz_answer}
-use Rattle.liquid_date_filters.specs.Printed.{printed}
-use Rattle.liquid_date_filters.proofs.PrintedKinds.{printed_kind}
-use Rattle.liquid_jekyll_shopify_filters.specs.Ends.{push_answer, unshift_answer, without_last}
-use Rattle.liquid_jekyll_shopify_filters.specs.Path.{path}
-use Rattle.liquid_jekyll_shopify_filters.specs.Pluralize.{numbered, pluralize_answer}
-use Rattle.liquid_jekyll_shopify_filters.specs.Sentence.{sentence_by}
-use Rattle.liquid_jekyll_shopify_filters.specs.Slugs.{mode_named, slugify_answer}
-use Rattle.liquid_jekyll_shopify_filters.specs.Sorting.{nils_given, or_no_path, sort_items}
-use Rattle.liquid_list_filters.specs.Ends.{first_answer, last_answer}
-use Rattle.liquid_list_filters.specs.Joined.{join_by}
-use Rattle.liquid_list_filters.specs.Keeping.{compact, compact_by, compact_answer, where_by, where_answer, mapped_property, map_answer, uniq}
-use Rattle.liquid_list_filters.specs.Rows.{after_list, concat_by, concat_answer}
-use Rattle.liquid_list_filters.specs.Sequences.{sequence, all_maps, of_list}
-use Rattle.liquid_list_filters.specs.Sorting.{Key, key_of, natural_key_of, sort_named, sort_answer, sort_natural_answer}
-use Rattle.liquid_number_filters.specs.Decimals.{is_decimal, is_decimal_text, if_fits, whole_digits, fraction_digits}
-use Rattle.liquid_number_filters.specs.Numbers.{or_range, in_range, is_numeric, unlike, is_zero, both_or, operands, absolute, abs, of_one, plus, minus, times, divided_by, modulo, at_least, at_most}
-use Rattle.liquid_number_filters.specs.Rounding.{signed, size, rounded_decimal, rounded_of, rounded, unrounded_of, round, most_places}
-use Rattle.liquid_number_filters.specs.declared.stdlib.filters.math.decimal.Rounding.{Rounding}
-use Rattle.liquid_number_filters.specs.declared.stdlib.filters.math.decimal.Rounding.TheVariants.{Nearest, Up, Down}
-use Rattle.liquid_text_filters.specs.Arguments.{whole_or}
-use Rattle.liquid_text_filters.specs.Slice.{sliced}
-use Rattle.liquid_web_filters.specs.Escapes.{escape_answer, escape_once_answer}
-use Rattle.liquid_web_filters.specs.Urls.{text_of_bytes, unescaped, url_encode_answer, url_decode_answer}
+use Rattle.liquid_model.specs.Arguments.{Answer, number_or_fault, text_or, first_of}
+use Rattle.liquid_filters.specs.Clock.{Clock}
+use Rattle.liquid_filters.specs.Dates.{date_of, as_text, or_input, dated, is_zone, in_zone, date_in_tz_answer}
+use Rattle.liquid_filters.specs.Printed.{printed}
+use Rattle.liquid_filters.proofs.PrintedKinds.{printed_kind}
+use Rattle.liquid_filters.specs.JekyllEnds.{push_answer, unshift_answer, without_last}
+use Rattle.liquid_filters.specs.Path.{path}
+use Rattle.liquid_filters.specs.Pluralize.{numbered, pluralize_answer}
+use Rattle.liquid_filters.specs.Sentence.{sentence_by}
+use Rattle.liquid_filters.specs.Slugs.{mode_named, slugify_answer}
+use Rattle.liquid_filters.specs.JekyllSorting.{nils_given, or_no_path, sort_items}
+use Rattle.liquid_filters.specs.Ends.{first_answer, last_answer}
+use Rattle.liquid_filters.specs.Joined.{join_by}
+use Rattle.liquid_filters.specs.Keeping.{compact, compact_by, compact_answer, where_by, where_answer, mapped_property, map_answer, uniq}
+use Rattle.liquid_filters.specs.Rows.{after_list, concat_by, concat_answer}
+use Rattle.liquid_filters.specs.Sequences.{sequence, all_maps, of_list}
+use Rattle.liquid_filters.specs.Sorting.{Key, key_of, natural_key_of, sort_named, sort_answer, sort_natural_answer}
+use Rattle.liquid_filters.specs.Decimals.{is_decimal, is_decimal_text, if_fits, whole_digits, fraction_digits}
+use Rattle.liquid_filters.specs.Numbers.{or_range, in_range, is_numeric, unlike, is_zero, both_or, operands, absolute, abs, of_one, plus, minus, times, divided_by, modulo, at_least, at_most}
+use Rattle.liquid_filters.specs.Rounding.{signed, size, rounded_decimal, rounded_of, rounded, unrounded_of, round, most_places}
+use Rattle.liquid_filters.specs.declared.stdlib.filters.math.decimal.Rounding.{Rounding}
+use Rattle.liquid_filters.specs.declared.stdlib.filters.math.decimal.Rounding.TheVariants.{Nearest, Up, Down}
+use Rattle.liquid_filters.specs.Arguments.{whole_or}
+use Rattle.liquid_filters.specs.Slice.{sliced}
+use Rattle.liquid_filters.specs.Escapes.{escape_answer, escape_once_answer}
+use Rattle.liquid_filters.specs.Urls.{text_of_bytes, unescaped, url_encode_answer, url_decode_answer}
 use Rattle.liquid_filters.specs.Kinds.{kind_answer}
 use Rattle.liquid_filters.specs.RunKinds.{is_run_kind, KindsOfAnswers}
 use Rattle.liquid_filters.specs.declared.kind.FilterKind.{FilterKind}

@@ -1,9 +1,9 @@
 -- The pieces of a `split`, joined.
 use Rattle.std.proofs.Common.{Ok, ap, ◌∙◌}
 use Rattle.liquid_model.specs.Data.{text}
-use Rattle.liquid_filter_base.specs.Joined.{joined}
-use Rattle.liquid_text_filters.specs.Split.{divided}
-use Rattle.liquid_text_filters.proofs.Ones.{given_back, texts_of}
+use Rattle.liquid_model.specs.Joined.{joined}
+use Rattle.liquid_filters.specs.Split.{divided}
+use Rattle.liquid_filters.proofs.TextOnes.{given_back, texts_of}
 use Rattle.liquid_filters.specs.Joining.{JoinGivesBack}
 
 pub join_law : JoinGivesBack

@@ -4,8 +4,8 @@ use Rattle.std.specs.Str.{IsUtf8}
 use Rattle.liquid_model.specs.Data.{text}
 use Rattle.liquid_model.specs.Fallible.{◌>>=◌}
 use Rattle.liquid_model.specs.Texts.{Text}
-use Rattle.liquid_list_filters.specs.Joined.{join_answer}
-use Rattle.liquid_text_filters.specs.Split.{split_answer}
+use Rattle.liquid_filters.specs.Joined.{join_answer}
+use Rattle.liquid_filters.specs.Split.{split_answer}
 
 -- joining the pieces by what parted them gives the text back, for all texts, also where they are
 -- parted by the empty text

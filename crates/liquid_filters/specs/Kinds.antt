@@ -2,39 +2,39 @@
 use Rattle.std.specs.Prelude.{ℕ, Bool, true, false, ◌&&◌, ◌||◌, List, nat_eq, nat_le, codes}
 use Rattle.liquid_model.specs.Data.{Datum}
 use Rattle.liquid_model.specs.Texts.{Text}
-use Rattle.liquid_filter_base.specs.Arguments.{Answer}
-use Rattle.liquid_date_filters.specs.Dates.{date_answer, date_in_tz_answer}
-use Rattle.liquid_jekyll_shopify_filters.specs.Ends.{pop_answer, push_answer, shift_answer}
-use Rattle.liquid_jekyll_shopify_filters.specs.Ends.{unshift_answer}
-use Rattle.liquid_jekyll_shopify_filters.specs.Pluralize.{pluralize_answer}
-use Rattle.liquid_jekyll_shopify_filters.specs.Sentence.{array_to_sentence_string_answer}
-use Rattle.liquid_jekyll_shopify_filters.specs.Slugs.{slugify_answer}
-use Rattle.liquid_jekyll_shopify_filters.specs.Sorting as jekyll
-use Rattle.liquid_list_filters.specs.Ends.{first_answer, last_answer}
-use Rattle.liquid_list_filters.specs.Joined.{join_answer}
-use Rattle.liquid_list_filters.specs.Keeping.{compact_answer, map_answer, uniq_answer, where_answer}
-use Rattle.liquid_number_filters.specs.Numbers.{abs, at_least, at_most, divided_by, minus, modulo}
-use Rattle.liquid_number_filters.specs.Numbers.{of_none, of_one, plus, times}
-use Rattle.liquid_number_filters.specs.Rounding.{round, rounded}
-use Rattle.liquid_list_filters.specs.Rows.{concat_answer, reverse_answer}
-use Rattle.liquid_list_filters.specs.Sorting.{sort_answer, sort_natural_answer}
-use Rattle.liquid_text_filters.specs.Case.{capitalize_answer, downcase_answer, upcase_answer}
-use Rattle.liquid_text_filters.specs.Default.{default_answer}
-use Rattle.liquid_text_filters.specs.Operate.{append_answer, prepend_answer, remove_answer}
-use Rattle.liquid_text_filters.specs.Operate.{remove_first_answer, replace_answer}
-use Rattle.liquid_text_filters.specs.Operate.{replace_first_answer}
-use Rattle.liquid_text_filters.specs.Size.{size_answer}
-use Rattle.liquid_text_filters.specs.Slice.{slice_answer}
-use Rattle.liquid_text_filters.specs.Split.{split_answer}
-use Rattle.liquid_text_filters.specs.Strip.{lstrip_answer, rstrip_answer, strip_answer}
-use Rattle.liquid_text_filters.specs.Strip.{strip_newlines_answer}
-use Rattle.liquid_text_filters.specs.Truncate.{truncate_answer, truncatewords_answer}
-use Rattle.liquid_web_filters.specs.Escapes.{escape_answer, escape_once_answer}
-use Rattle.liquid_web_filters.specs.LineBreaks.{newline_to_br_answer}
-use Rattle.liquid_web_filters.specs.Tags.{strip_html_answer}
-use Rattle.liquid_web_filters.specs.Urls.{url_decode_answer, url_encode_answer}
-use Rattle.liquid_number_filters.specs.declared.stdlib.filters.math.decimal.Rounding.TheVariants.{Up}
-use Rattle.liquid_number_filters.specs.declared.stdlib.filters.math.decimal.Rounding.TheVariants.{Down}
+use Rattle.liquid_model.specs.Arguments.{Answer}
+use Rattle.liquid_filters.specs.Dates.{date_answer, date_in_tz_answer}
+use Rattle.liquid_filters.specs.JekyllEnds.{pop_answer, push_answer, shift_answer}
+use Rattle.liquid_filters.specs.JekyllEnds.{unshift_answer}
+use Rattle.liquid_filters.specs.Pluralize.{pluralize_answer}
+use Rattle.liquid_filters.specs.Sentence.{array_to_sentence_string_answer}
+use Rattle.liquid_filters.specs.Slugs.{slugify_answer}
+use Rattle.liquid_filters.specs.JekyllSorting as jekyll
+use Rattle.liquid_filters.specs.Ends.{first_answer, last_answer}
+use Rattle.liquid_filters.specs.Joined.{join_answer}
+use Rattle.liquid_filters.specs.Keeping.{compact_answer, map_answer, uniq_answer, where_answer}
+use Rattle.liquid_filters.specs.Numbers.{abs, at_least, at_most, divided_by, minus, modulo}
+use Rattle.liquid_filters.specs.Numbers.{of_none, of_one, plus, times}
+use Rattle.liquid_filters.specs.Rounding.{round, rounded}
+use Rattle.liquid_filters.specs.Rows.{concat_answer, reverse_answer}
+use Rattle.liquid_filters.specs.Sorting.{sort_answer, sort_natural_answer}
+use Rattle.liquid_filters.specs.Case.{capitalize_answer, downcase_answer, upcase_answer}
+use Rattle.liquid_filters.specs.Default.{default_answer}
+use Rattle.liquid_filters.specs.Operate.{append_answer, prepend_answer, remove_answer}
+use Rattle.liquid_filters.specs.Operate.{remove_first_answer, replace_answer}
+use Rattle.liquid_filters.specs.Operate.{replace_first_answer}
+use Rattle.liquid_filters.specs.Size.{size_answer}
+use Rattle.liquid_filters.specs.Slice.{slice_answer}
+use Rattle.liquid_filters.specs.Split.{split_answer}
+use Rattle.liquid_filters.specs.Strip.{lstrip_answer, rstrip_answer, strip_answer}
+use Rattle.liquid_filters.specs.Strip.{strip_newlines_answer}
+use Rattle.liquid_filters.specs.Truncate.{truncate_answer, truncatewords_answer}
+use Rattle.liquid_filters.specs.Escapes.{escape_answer, escape_once_answer}
+use Rattle.liquid_filters.specs.LineBreaks.{newline_to_br_answer}
+use Rattle.liquid_filters.specs.Tags.{strip_html_answer}
+use Rattle.liquid_filters.specs.Urls.{url_decode_answer, url_encode_answer}
+use Rattle.liquid_filters.specs.declared.stdlib.filters.math.decimal.Rounding.TheVariants.{Up}
+use Rattle.liquid_filters.specs.declared.stdlib.filters.math.decimal.Rounding.TheVariants.{Down}
 use Rattle.liquid_filters.specs.declared.kind.FilterKind.{FilterKind}
 use Rattle.liquid_filters.specs.declared.kind.FilterKind.TheVariants.{Join, Sort, SortNatural}
 use Rattle.liquid_filters.specs.declared.kind.FilterKind.TheVariants.{Where, Uniq, Reverse, Map}

@@ -1,2 +1,4 @@
 //! The extra set of filters.
-pub use liquid_date_filters::extra::DateInTz;
+mod date;
+
+pub use date::DateInTz;

@@ -1,4 +1,8 @@
 //! The filter set of Jekyll.
-pub use liquid_jekyll_shopify_filters::jekyll::{
-    ArrayToSentenceString, Pop, Push, Shift, Slugify, Sort, Unshift,
-};
+mod array;
+mod slugify;
+
+pub use array::ends::{Pop, Push, Shift, Unshift};
+pub use array::sentence::ArrayToSentenceString;
+pub use array::sort::Sort;
+pub use slugify::Slugify;

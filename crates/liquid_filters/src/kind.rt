@@ -5,8 +5,7 @@ ghost use Rattle.liquid_model.specs.Answer.{Answers, TakesNoMemory};
 ghost use Rattle.liquid_model.specs.View.{view};
 
 use crate::{extra, jekyll, shopify, stdlib};
-use liquid_filter_base::Filter;
-use liquid_model::{Result, Value};
+use liquid_model::{Filter, Result, Value};
 use std::alloc::Global;
 
 /// One of the filters that exist. Each is made from its struct by `From`.

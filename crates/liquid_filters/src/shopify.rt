@@ -1,2 +1,4 @@
 //! The filter set of Shopify.
-pub use liquid_jekyll_shopify_filters::shopify::Pluralize;
+mod pluralize;
+
+pub use pluralize::Pluralize;

@@ -2,8 +2,8 @@
 --     IsLineOf folder line asked      asked is what this line may ask for
 use Rattle.std.specs.Prelude.{◌≡◌, ◌⊎◌, List, [], string_bytes, true, ⊤}
 use Rattle.liquid_model.specs.Texts.{Text}
-use Rattle.liquid_site_files.specs.declared.folder.Changed.TheVariants.{Data, Page, Partial}
-use Rattle.liquid_site_files.specs.declared.folder.Folder.{Folder}
+use Rattle.liquid_site.specs.declared.folder.Changed.TheVariants.{Data, Page, Partial}
+use Rattle.liquid_site.specs.declared.folder.Folder.{Folder}
 use Rattle.liquid_folder.specs.Paths.{IsFileIn, steps}
 use Rattle.liquid_folder.specs.declared.changes.Line.{Line}
 use Rattle.liquid_folder.specs.declared.changes.Line.TheVariants.{Round, File, LeftOut, NoFile}

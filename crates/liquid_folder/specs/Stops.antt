@@ -7,7 +7,7 @@
 --                                         unless memory ran out
 use Rattle.std.specs.Prelude.{◌≡◌, ℕ, Option, string_bytes, ⊤}
 use Rattle.std.specs.declared.io.ErrorKind.{ErrorKind as IoKind}
-use Rattle.liquid_excerpts.specs.declared.unreadable.Reason.{Reason}
+use Rattle.liquid_files.specs.declared.unreadable.Reason.{Reason}
 use Rattle.liquid_model.specs.Texts.{Text}
 use Rattle.liquid_model.specs.declared.error.Error.{Error}
 use Rattle.liquid_model.specs.declared.error.ErrorKind.TheVariants.{Memory}

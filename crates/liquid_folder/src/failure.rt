@@ -6,6 +6,9 @@ use crate::stop::FolderStop;
 use liquid_model::Error;
 use std::fmt;
 
+/// How the program is called.
+const USAGE: &str = "usage: liquid_folder [--missing fault|nil] FOLDER DATA OUT";
+
 /// Why the program fails. Only a wrong call has a status of its own: no round has it.
 #[derive(Drop)]
 pub enum Failure {
@@ -31,7 +34,7 @@ impl Failure {
 impl fmt::Display for Failure {
     fn fmt<W: fmt::Write>(&self, f: &mut fmt::Formatter<W>) -> fmt::Result {
         match self {
-            Failure::Usage => f.write_str("usage: liquid_folder FOLDER DATA OUT"),
+            Failure::Usage => f.write_str(USAGE),
             Failure::Stopped(stop) => write!(f, "{stop}"),
         }
     }

@@ -1,6 +1,5 @@
 //! The files of a site, as the system has them.
-use liquid_disk::{Bounds, PageFiles, SystemFiles};
-use liquid_excerpts::Reason;
+use liquid_files::{Bounds, PageFiles, Reason, SystemFiles};
 use std::{fs, process};
 
 /// The files of the system, into which the pages of a site go.

@@ -2,7 +2,7 @@
 use crate::paths::lies_in;
 use crate::stop::FolderStop;
 use crate::words::FolderCall;
-use liquid_site_files::Folder;
+use liquid_site::Folder;
 use std::alloc::AllocError;
 use std::{fs, io};
 

@@ -1,4 +1,5 @@
-//! Renders the pages of a folder, and then again what changed: `liquid_folder FOLDER DATA OUT`.
+//! Renders the pages of a folder, and then again what changed:
+//! `liquid_folder [--missing fault|nil] FOLDER DATA OUT`.
 #![tactic(auto)]
 
 mod changes;
@@ -17,8 +18,8 @@ use crate::failure::Failure;
 use crate::folders::check_folders;
 use crate::rounds::Rounds;
 use crate::stop::FolderStop;
-use crate::words::call_of;
-use liquid_site_files::Folder;
+use crate::words::{FolderCall, call_of};
+use liquid_site::Folder;
 use std::alloc::{AllocError, Global};
 use std::process::ExitCode;
 use std::{env, io};
@@ -40,13 +41,17 @@ fn run(rt: &HostRuntime) -> Result<bool, Failure> {
     let call = call_of(&words).ok_or(Failure::Usage)?;
     let folder = folder_of(rt.alloc(), &call)?;
     check_folders(rt, &call, &folder)?;
-    Ok(all_rounds(rt, &folder, call.out)?)
+    Ok(all_rounds(rt, &folder, &call)?)
 }
 
 /// The first round and one for each empty line of standard input, as long as that lasts. A line
 /// that isn't UTF-8 names no file of the site.
-fn all_rounds(rt: &HostRuntime, folder: &Folder, out: &str) -> Result<bool, FolderStop> {
-    let mut rounds = Rounds::new(rt, folder, out)?;
+fn all_rounds(
+    rt: &HostRuntime,
+    folder: &Folder,
+    call: &FolderCall<'_>,
+) -> Result<bool, FolderStop> {
+    let mut rounds = Rounds::new(rt, folder, call)?;
     let mut clean = rounds.first_round()?;
     for line in rt.lines(rt.alloc()) {
         clean &= is_clean(rt, &mut rounds, line)?;

@@ -4,7 +4,7 @@ ghost use Rattle.std.specs.Path.{components_remaining};
 ghost use Rattle.liquid_model.specs.Texts.{Text};
 ghost use Rattle.liquid_folder.specs.Paths.{IsFileIn, is_no_file_name, is_skipped_file, steps};
 
-pub use liquid_excerpts::lies_in;
+pub use liquid_files::lies_in;
 use std::path::{Component, Components, Path};
 
 /// The name of the file that a path leads to, where that is right in the folder. A `.` among the

@@ -1,7 +1,7 @@
 //! Which changed files of a site are read.
 use crate::stop::FolderStop;
-use liquid_excerpts::{Entry, LeftOut, LeftOutLine, entry_at, has_byte_zero};
-use liquid_site_files::{Changed, Folder};
+use liquid_files::{Entry, LeftOut, LeftOutLine, entry_at, has_byte_zero};
+use liquid_site::{Changed, Folder};
 use std::alloc::AllocError;
 use std::{fs, io, mem};
 

@@ -1,14 +1,16 @@
 //! The rounds over a folder.
 ghost use Rattle.std.specs.Prelude.{◌≡◌, [], IfOk, Ok, OnOk, false, true};
+ghost use Rattle.liquid_site.specs.SiteViews.{contents_of};
 
 use crate::changes::{Line, Listing, all_files, line_of};
 use crate::files::{SitePages, reason_of, site_pages};
 use crate::readable::leave_out;
 use crate::stop::FolderStop;
 use crate::tell::tell_round;
-use liquid_excerpts::system_words;
+use crate::words::FolderCall;
+use liquid_files::system_words;
 use liquid_model::Quoted;
-use liquid_site_files::{Changed, Disk, DiskFault, Folder, Site, round, site_of};
+use liquid_site::{Changed, Disk, DiskFault, Folder, Missing, Site, round, site_of};
 use std::alloc::AllocError;
 use std::fs;
 
@@ -30,15 +32,21 @@ pub struct Rounds<'r> {
 impl<'r> Rounds<'r> {
     /// A site over its data, to which all files of the folder are new, and whose pages' files go
     /// into a folder that is made if need be.
-    pub fn new(rt: &'r HostRuntime, folder: &'r Folder, out: &str) -> Result<Rounds<'r>, FolderStop>
+    pub fn new(
+        rt: &'r HostRuntime,
+        folder: &'r Folder,
+        call: &FolderCall<'_>,
+    ) -> Result<Rounds<'r>, FolderStop>
         ensures named { IfOk result (λ rounds. rounds.is_named ≡ false) }
+        ensures missing { IfOk result
+            (λ rounds. (contents_of rounds.site).setting.missing ≡ call.now.missing) }
     {
         let files = site_pages(rt);
-        let site = first_site(rt, folder, &files)?;
+        let site = first_site(rt, folder, &files, call.missing)?;
         let Listing {
             files: changes,
             is_whole,
-        } = changes_at_first(rt, folder, out)?;
+        } = changes_at_first(rt, folder, call.out)?;
         Ok(Rounds {
             rt,
             folder,
@@ -172,10 +180,13 @@ fn first_site(
     rt: &HostRuntime,
     folder: &Folder,
     files: &SitePages<'_>,
-) -> Result<Site, FolderStop> {
+    missing: Missing,
+) -> Result<Site, FolderStop>
+    ensures missing { IfOk result (λ site. (contents_of site).setting.missing ≡ missing) }
+{
     let path = folder.data.as_str();
     match files.read(path) {
-        Ok(Some(text)) => match site_of(rt.alloc(), text.as_str()) {
+        Ok(Some(text)) => match site_of(rt.alloc(), missing, text.as_str()) {
             Ok(site) => Ok(site),
             Err(fault) => Err(FolderStop::bad_data(rt.alloc(), path, text, fault)),
         },

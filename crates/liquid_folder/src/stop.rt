@@ -4,7 +4,7 @@ ghost use Rattle.std.specs.declared.io.ErrorKind.TheVariants.{OutOfMemory};
 ghost use Rattle.liquid_folder.specs.Stops.{HasReason, IsInput, IsInside, IsMissing, IsUnreadable};
 ghost use Rattle.liquid_folder.specs.Stops.{IsBadData, IsMemoryStop};
 
-use liquid_excerpts::{Excerpt, Reason, ShownFault, ShownPath, system_words};
+use liquid_files::{Excerpt, Reason, ShownFault, ShownPath, system_words};
 use liquid_model::{Error, ErrorKind};
 use std::alloc::{AllocError, AllocFailed, Global};
 use std::{fmt, io};

@@ -3,9 +3,9 @@ ghost use Rattle.std.specs.Prelude.{◌≡◌, IfOk, length, true};
 
 use crate::files::reason_of;
 use crate::stop::FolderStop;
-use liquid_excerpts::ShownPath;
+use liquid_files::ShownPath;
 use liquid_model::ErrorKind;
-use liquid_site_files::{Folder, RefusalReason, RefusedFile, RoundOutcome, Site};
+use liquid_site::{Folder, RefusalReason, RefusedFile, RoundOutcome, Site};
 
 /// Prints each refused file, each page's fault and a page's file that can't be written on standard
 /// error, and how many pages were rendered and written on standard output. Whether there was none

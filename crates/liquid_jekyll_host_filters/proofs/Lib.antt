@@ -1,8 +1,6 @@
 pub mod Fronts
 pub mod GroupLaws
 pub mod GroupedItems
-pub mod JsonBytes
-pub mod JsonParts
 pub mod MarkedTexts
 pub mod NamePaths
 pub mod Sentences

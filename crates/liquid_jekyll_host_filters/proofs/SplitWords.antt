@@ -11,7 +11,7 @@ use Rattle.std.specs.Borrow.{Bor}
 use Rattle.std.specs.Iterator.{Yields}
 use Rattle.std.specs.Str.Iter.{CutsAsciiWord, IsAsciiSeparator}
 use Rattle.std.specs.List.{AllPass}
-use Rattle.liquid_filter_base.specs.Joined.{joined, joined_rest}
+use Rattle.liquid_model.specs.Joined.{joined, joined_rest}
 use Rattle.liquid_jekyll_host_filters.specs.Words.{with_finished_word, words, words_after}
 
 abbrev pub IsWhite : ℕ → Type 0

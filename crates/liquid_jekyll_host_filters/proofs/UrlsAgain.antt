@@ -10,7 +10,7 @@ use Rattle.percent_encoding.specs.Percent.{percent_encode_byte}
 use Rattle.liquid_model.specs.Data.{Datum, nil, truth, number, text, array, object, text_of}
 use Rattle.liquid_model.specs.Fallible.{◌>>=◌}
 use Rattle.liquid_model.specs.Texts.{Text}
-use Rattle.liquid_filter_base.specs.Arguments.{Answer}
+use Rattle.liquid_model.specs.Arguments.{Answer}
 use Rattle.liquid_jekyll_host_filters.specs.Laws.{AbsoluteUrlTwiceIsOnce, RelativeUrlTwiceIsOnce}
 use Rattle.liquid_jekyll_host_filters.specs.Urls.{addressed, begins_digits, in_place, is_absolute, is_scheme_byte, or_slash, path_text, reaches_colon, relative, site_url, stays, url_byte, url_escaped_as}
 use Rattle.liquid_jekyll_host_filters.specs.declared.percent.Escaping.TheVariants.{Path}

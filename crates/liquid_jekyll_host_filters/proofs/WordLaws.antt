@@ -1,7 +1,7 @@
 -- Words that are joined have themselves for words.
 use Rattle.std.proofs.Common.{◌≡◌, ℕ, ◌<◌, Bool, true, false, List, [], ◌∷◌, ◌++◌, length, codes, ap, refl, ◌∙◌, arith, if◌then◌else◌}
 use Rattle.std.specs.Char.{is_ascii_whitespace}
-use Rattle.liquid_filter_base.specs.Joined.{joined, joined_rest}
+use Rattle.liquid_model.specs.Joined.{joined, joined_rest}
 use Rattle.liquid_jekyll_host_filters.specs.Laws.{NormalizeKeepsWords}
 use Rattle.liquid_jekyll_host_filters.specs.Words.{with_finished_word, words, words_after}
 use Rattle.liquid_jekyll_host_filters.proofs.SplitWords.{AreNoWhite, ended_is, white_ends, word_first}

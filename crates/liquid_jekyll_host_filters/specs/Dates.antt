@@ -6,9 +6,9 @@ use Rattle.liquid_model.specs.Fallible.{◌>>=◌}
 use Rattle.liquid_model.specs.Texts.{Text, same_text}
 use Rattle.liquid_model.specs.declared.error.ErrorKind.{ErrorKind}
 use Rattle.liquid_model.specs.declared.error.ErrorKind.TheVariants.{InvalidInput}
-use Rattle.liquid_filter_base.specs.Arguments.{Answer}
-use Rattle.liquid_date_filters.specs.Dates.{date_answer}
-use Rattle.liquid_date_filters.specs.Spelling.{read}
+use Rattle.liquid_model.specs.Arguments.{Answer}
+use Rattle.liquid_filters.specs.Dates.{date_answer}
+use Rattle.liquid_filters.specs.DateSpelling.{read}
 use Rattle.liquid_jekyll_host_filters.specs.declared.dates.Form.{Form}
 use Rattle.liquid_jekyll_host_filters.specs.declared.dates.Form.TheVariants.{Plain, British}
 use Rattle.liquid_jekyll_host_filters.specs.declared.dates.Form.TheVariants.{American}

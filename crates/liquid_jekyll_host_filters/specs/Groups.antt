@@ -7,7 +7,7 @@ use Rattle.liquid_model.specs.Lists.{list_of}
 use Rattle.liquid_model.specs.Texts.{Text, same_text}
 use Rattle.liquid_model.specs.View.{items_of}
 use Rattle.liquid_model.specs.declared.error.ErrorKind.TheVariants.{InvalidArgument, InvalidInput}
-use Rattle.liquid_filter_base.specs.Arguments.{Answer}
+use Rattle.liquid_model.specs.Arguments.{Answer}
 use Rattle.liquid_jekyll_host_filters.specs.Properties.{dotted_property}
 
 -- the text that an item is grouped by

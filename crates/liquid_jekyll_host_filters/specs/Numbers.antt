@@ -9,7 +9,7 @@ use Rattle.liquid_model.specs.Texts.{Text}
 use Rattle.liquid_model.specs.Whole.{whole_text}
 use Rattle.liquid_model.specs.declared.error.ErrorKind.{ErrorKind}
 use Rattle.liquid_model.specs.declared.error.ErrorKind.TheVariants.{InvalidInput, NumberRange}
-use Rattle.liquid_filter_base.specs.Arguments.{Answer}
+use Rattle.liquid_model.specs.Arguments.{Answer}
 
 -- a sign at the front takes one byte
 abbrev pub sign_bytes : Text → ℕ

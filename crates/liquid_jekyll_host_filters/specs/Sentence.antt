@@ -1,41 +1,24 @@
 -- The filter `array_to_sentence_string`.
-use Rattle.std.specs.Prelude.{Bool, true, false, ◌==◌, List, [], ◌∷◌, ◌++◌, length, map, codes, Ok}
-use Rattle.std.specs.Prelude.{Err}
-use Rattle.liquid_model.specs.Data.{Datum, text, array, text_of}
-use Rattle.liquid_model.specs.Lists.{list_of}
+use Rattle.std.specs.Prelude.{List, ◌++◌, Option, Some, None, Ok, codes}
+use Rattle.liquid_model.specs.Data.{Datum, text, array, no_items, item, text_of}
 use Rattle.liquid_model.specs.Texts.{Text}
-use Rattle.liquid_model.specs.declared.error.ErrorKind.TheVariants.{InvalidInput}
-use Rattle.liquid_filter_base.specs.Arguments.{Answer, text_or}
+use Rattle.liquid_model.specs.Arguments.{Answer, text_or}
+use Rattle.liquid_filters.specs.Sentence.{array_to_sentence_string_answer}
 
--- a text that isn't the first; before the last stands the connector as well
-abbrev pub sentence_part : Text → Bool → Text → Text
-sentence_part connector true t = codes ", " ++ (connector ++ (codes " " ++ t))
-sentence_part connector false t = codes ", " ++ t
-
-abbrev pub sentence_parts : Text → List Text → Text
-sentence_parts connector [] = []
-sentence_parts connector (t ∷ ts) = sentence_part connector (length ts == 0) t
-    ++ sentence_parts connector ts
-
-abbrev pub with_commas : Text → List Text → Text
-with_commas connector [] = []
-with_commas connector (t ∷ ts) = t ++ sentence_parts connector ts
+-- the items of a list of two
+abbrev pub two_items : Datum → Option (Datum × Datum)
+two_items (array (item d (item e no_items))) = Some (d, e)
+two_items _ = None
 
 -- two texts with the connector between them
 abbrev pub two_texts_joined : Text → Text → Text → Text
 two_texts_joined connector t u = t ++ (codes " " ++ (connector ++ (codes " " ++ u)))
 
-abbrev pub jekyll_sentence : Text → List Text → Text
-jekyll_sentence connector [] = with_commas connector []
-jekyll_sentence connector (t ∷ []) = with_commas connector (t ∷ [])
-jekyll_sentence connector (t ∷ u ∷ []) = two_texts_joined connector t u
-jekyll_sentence connector (t ∷ u ∷ v ∷ ts) = with_commas connector (t ∷ u ∷ v ∷ ts)
+abbrev pub sentence_of : Option (Datum × Datum) → Datum → List Datum → Answer
+sentence_of (Some p) d args =
+    Ok (text (two_texts_joined (text_or (codes "and") args) (text_of p.0) (text_of p.1)))
+sentence_of None d args = array_to_sentence_string_answer d args
 
-abbrev pub jekyll_sentence_with : Text → Datum → Answer
-jekyll_sentence_with connector (array ds) = Ok (text
-    (jekyll_sentence connector (map text_of (list_of ds))))
-jekyll_sentence_with connector _ = Err InvalidInput
-
--- by `and` where no connector is given
+-- two items have no comma; all else is as in the language
 abbrev pub jekyll_sentence_answer : Datum → List Datum → Answer
-jekyll_sentence_answer d args = jekyll_sentence_with (text_or (codes "and") args) d
+jekyll_sentence_answer d args = sentence_of (two_items d) d args

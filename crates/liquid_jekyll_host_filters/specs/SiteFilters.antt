@@ -3,7 +3,7 @@
 use Rattle.std.specs.Prelude.{ℕ, Bool, List, codes, nat_eq, nat_le}
 use Rattle.liquid_model.specs.Data.{Datum}
 use Rattle.liquid_model.specs.Texts.{Text}
-use Rattle.liquid_filter_base.specs.Arguments.{Answer}
+use Rattle.liquid_model.specs.Arguments.{Answer}
 use Rattle.liquid_jekyll_host_filters.specs.Dates.{date_to_long_string_answer}
 use Rattle.liquid_jekyll_host_filters.specs.Dates.{date_to_rfc822_answer, date_to_string_answer}
 use Rattle.liquid_jekyll_host_filters.specs.Dates.{date_to_xmlschema_answer}

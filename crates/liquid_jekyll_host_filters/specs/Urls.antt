@@ -5,8 +5,8 @@ use Rattle.std.specs.Char.{is_ascii_alphabetic, is_ascii_alphanumeric, is_ascii_
 use Rattle.percent_encoding.specs.Percent.{percent_encode_byte}
 use Rattle.liquid_model.specs.Data.{Datum, nil, text, text_of}
 use Rattle.liquid_model.specs.Texts.{Text}
-use Rattle.liquid_filter_base.specs.Arguments.{Answer}
-use Rattle.liquid_filter_base.specs.Text.{of_text}
+use Rattle.liquid_model.specs.Arguments.{Answer}
+use Rattle.liquid_model.specs.Text.{of_text}
 use Rattle.liquid_jekyll_host_filters.specs.declared.percent.Escaping.{Escaping}
 use Rattle.liquid_jekyll_host_filters.specs.declared.percent.Escaping.TheVariants.{Form, Path, Url}
 

@@ -4,9 +4,9 @@ use Rattle.std.specs.Char.{is_ascii_whitespace}
 use Rattle.liquid_model.specs.Data.{Datum, text_of}
 use Rattle.liquid_model.specs.Find.{counted}
 use Rattle.liquid_model.specs.Texts.{Text}
-use Rattle.liquid_filter_base.specs.Arguments.{Answer}
-use Rattle.liquid_filter_base.specs.Joined.{joined}
-use Rattle.liquid_filter_base.specs.Text.{of_text}
+use Rattle.liquid_model.specs.Arguments.{Answer}
+use Rattle.liquid_model.specs.Joined.{joined}
+use Rattle.liquid_model.specs.Text.{of_text}
 
 -- the words, with that which ends here before them, if there is one
 abbrev pub with_finished_word : Text → List Text → List Text

@@ -5,8 +5,8 @@ ghost use Rattle.liquid_model.specs.Data.{text};
 ghost use Rattle.liquid_model.specs.ErrorKinds.{IsKindOrMemory};
 ghost use Rattle.liquid_model.specs.View.{view};
 ghost use Rattle.liquid_model.specs.declared.error.ErrorKind.TheVariants.{InvalidInput};
-ghost use Rattle.liquid_date_filters.specs.Dates.{date_answer};
-ghost use Rattle.liquid_date_filters.specs.Spelling.{read};
+ghost use Rattle.liquid_filters.specs.Dates.{date_answer};
+ghost use Rattle.liquid_filters.specs.DateSpelling.{read};
 ghost use Rattle.liquid_jekyll_host_filters.specs.Dates.{date_to_long_string_answer};
 ghost use Rattle.liquid_jekyll_host_filters.specs.Dates.{date_to_rfc822_answer};
 ghost use Rattle.liquid_jekyll_host_filters.specs.Dates.{date_to_string_answer};
@@ -15,10 +15,9 @@ ghost use Rattle.liquid_jekyll_host_filters.specs.Dates.{form_given, form_of, fo
 ghost use Rattle.liquid_jekyll_host_filters.specs.Dates.{has_date, in_form, ordinal, printed_by};
 ghost use Rattle.liquid_jekyll_host_filters.specs.Dates.{says, spelled_date, text_has_date};
 
-use liquid_date_filters::read_date;
-use liquid_date_filters::stdlib::Date;
-use liquid_filter_base::{Filter, invalid_input};
-use liquid_model::{Error, Result, Value};
+use liquid_filters::read_date;
+use liquid_filters::stdlib::Date;
+use liquid_model::{Error, Filter, Result, Value, invalid_input};
 use std::alloc::Global;
 use std::slice;
 

@@ -14,8 +14,7 @@ ghost use Rattle.liquid_jekyll_host_filters.specs.inside.Members.{members_of};
 ghost use Rattle.liquid_model.specs.Data.{put};
 
 use crate::properties::property;
-use liquid_filter_base::{Filter, invalid_input, text_of};
-use liquid_model::{Object, Result, Value, store};
+use liquid_model::{Filter, Object, Result, Value, invalid_input, store, text_of};
 use std::alloc::Global;
 use std::borrow::CowStr;
 use std::collections::{BTreeMap, BTreeSet};

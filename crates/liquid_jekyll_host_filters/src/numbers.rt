@@ -9,8 +9,7 @@ ghost use Rattle.liquid_jekyll_host_filters.specs.Numbers.{front_number, jekyll_
 ghost use Rattle.liquid_jekyll_host_filters.specs.Numbers.{leading_number, number_or_range};
 ghost use Rattle.liquid_jekyll_host_filters.specs.Numbers.{sign_bytes, to_integer_answer};
 
-use liquid_filter_base::{Filter, invalid_input};
-use liquid_model::{Error, ErrorKind, Result, Value, whole_of};
+use liquid_model::{Error, ErrorKind, Filter, Result, Value, invalid_input, whole_of};
 use std::alloc::Global;
 
 /// `to_integer`: the whole number that the input's text begins with, after white space, or 0. True

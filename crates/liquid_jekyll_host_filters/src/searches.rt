@@ -14,8 +14,7 @@ ghost use Rattle.liquid_jekyll_host_filters.specs.Searches.{jekyll_where_by};
 
 use crate::properties::property;
 use itoa::Buffer;
-use liquid_filter_base::{Filter, text_of};
-use liquid_model::{Object, Result, Value};
+use liquid_model::{Filter, Object, Result, Value, text_of};
 use std::alloc::Global;
 
 /// `where`: the items of a list, or the values of a map, whose property is the target, or is a list

@@ -1,20 +1,18 @@
 //! The filter that makes a sentence of a list.
-ghost use Rattle.std.specs.Prelude.{◌++◌, map, nat_le, string_bytes};
-ghost use Rattle.liquid_model.specs.Answer.{Answers, IsValueOrMemory};
-ghost use Rattle.liquid_model.specs.Data.{text_of};
-ghost use Rattle.liquid_model.specs.Lists.{list_of};
+ghost use Rattle.std.specs.Prelude.{◌≡◌, Ok, codes, map, nat_le, option_map};
+ghost use Rattle.liquid_model.specs.Answer.{Answers};
+ghost use Rattle.liquid_model.specs.Data.{array, text, text_of};
 ghost use Rattle.liquid_model.specs.View.{view, items_view};
-ghost use Rattle.liquid_jekyll_host_filters.specs.Sentence.{jekyll_sentence_answer};
-ghost use Rattle.liquid_jekyll_host_filters.specs.Sentence.{with_commas, sentence_part};
-ghost use Rattle.liquid_jekyll_host_filters.specs.Sentence.{jekyll_sentence};
-ghost use Rattle.liquid_jekyll_host_filters.specs.Sentence.{jekyll_sentence_with, two_texts_joined};
+ghost use Rattle.liquid_model.specs.Arguments.{text_or};
+ghost use Rattle.liquid_jekyll_host_filters.specs.Sentence.{jekyll_sentence_answer, two_items};
+ghost use Rattle.liquid_jekyll_host_filters.specs.Sentence.{two_texts_joined};
 
-use liquid_filter_base::{Filter, invalid_input, text_of};
-use liquid_model::{Result, Value};
+use liquid_filters::jekyll;
+use liquid_model::{Filter, Result, Value, text_of};
 use std::alloc::Global;
 
 /// `array_to_sentence_string`: the texts of a list's items as `a`, `a and b` or `a, b, and c`, with
-/// the argument's text in the place of `and`.
+/// the argument's text in the place of `and`. Only of two items it isn't the language's.
 #[derive(Clone, Copy, Drop)]
 pub struct ArrayToSentenceString;
 
@@ -28,39 +26,52 @@ impl Filter for ArrayToSentenceString {
     }
 
     /// `InvalidInput` where the input is no list.
+    #[tactic(auto, using(crate::proofs::Sentences::in_two, crate::proofs::Sentences::in_others))]
     fn evaluate(&self, alloc: Global, input: &Value, args: &[Value]) -> Result<Value> {
-        match args.first() {
-            None => sentence_of(alloc, input, "and"),
-            Some(connector) => sentence_of(alloc, input, text_of(alloc, connector)?.as_str()),
+        match two_items(input) {
+            Some((first, second)) => two(alloc, first, second, args),
+            None => jekyll::ArrayToSentenceString.evaluate(alloc, input, args),
         }
     }
 }
 
-fn sentence_of(alloc: Global, input: &Value, connector: &str) -> Result<Value>
-    ensures { Answers view result (jekyll_sentence_with connector.now (view input.now)) }
+/// The items of a list of two.
+fn two_items(value: &Value) -> Option<(&Value, &Value)>
+    ensures { option_map (λ p. (view p.0.now, view p.1.now)) result ≡ two_items (view value.now) }
 {
-    match input {
-        Value::Array(items) => Ok(Value::Text(sentence(alloc, items, connector)?)),
-        _ => Err(invalid_input(alloc, "a list", input)),
+    match value {
+        Value::Array(items) => two_of(items),
+        _ => None,
     }
 }
 
-fn sentence(alloc: Global, items: &[Value], connector: &str) -> Result<String>
-    ensures { IsValueOrMemory (λ s. string_bytes s) result
-        (jekyll_sentence connector.now (map text_of (list_of (items_view items.now)))) }
+#[tactic(auto, using(crate::proofs::Sentences::of_two, crate::proofs::Sentences::of_others))]
+fn two_of(items: &[Value]) -> Option<(&Value, &Value)>
+    ensures { option_map (λ p. (view p.0.now, view p.1.now)) result ≡
+        two_items (array (items_view items.now)) }
 {
     if items.len() == 2 {
-        two(alloc, &items[0], &items[1], connector)
+        Some((&items[0], &items[1]))
     } else {
-        listed(alloc, items, connector)
+        None
     }
 }
 
-/// Two items with the connector between them.
-fn two(alloc: Global, first: &Value, second: &Value, connector: &str) -> Result<String>
-    ensures { IsValueOrMemory (λ s. string_bytes s) result
-        (two_texts_joined connector.now (text_of (view first.now))
-        (text_of (view second.now))) }
+/// Two items with the argument's text between them, or `and`.
+fn two(alloc: Global, first: &Value, second: &Value, args: &[Value]) -> Result<Value>
+    ensures { Answers view result (Ok (text (two_texts_joined
+        (text_or (codes "and") (map view args.now)) (text_of (view first.now))
+        (text_of (view second.now))))) }
+{
+    match args.first() {
+        None => joined(alloc, first, second, "and"),
+        Some(connector) => joined(alloc, first, second, text_of(alloc, connector)?.as_str()),
+    }
+}
+
+fn joined(alloc: Global, first: &Value, second: &Value, connector: &str) -> Result<Value>
+    ensures { Answers view result (Ok (text (two_texts_joined connector.now
+        (text_of (view first.now)) (text_of (view second.now))))) }
 {
     let mut out = String::new(alloc);
     first.append_text(&mut out)?;
@@ -68,36 +79,5 @@ fn two(alloc: Global, first: &Value, second: &Value, connector: &str) -> Result<
     out.push_str(connector)?;
     out.push_str(" ")?;
     second.append_text(&mut out)?;
-    Ok(out)
-}
-
-/// The items with commas, and the connector before the last.
-fn listed(alloc: Global, items: &[Value], connector: &str) -> Result<String>
-    ensures { IsValueOrMemory (λ s. string_bytes s) result
-        (with_commas connector.now (map text_of (list_of (items_view items.now)))) }
-{
-    let mut out = String::new(alloc);
-    let Some((first, rest)) = items.split_first() else {
-        return Ok(out);
-    };
-    first.append_text(&mut out)?;
-    let mut left = rest;
-    'items: while let Some((item, after)) = left.split_first() {
-        push_next(&mut out, item, connector, after.is_empty())?;
-        left = after;
-    }
-    Ok(out)
-}
-
-/// Appends an item that isn't the first.
-fn push_next(out: &mut String, item: &Value, connector: &str, is_last: bool) -> Result<()>
-    ensures { IsValueOrMemory (λ _. string_bytes out.new) result (string_bytes out.old ++
-        sentence_part connector.now is_last (text_of (view item.now))) }
-{
-    out.push_str(", ")?;
-    if is_last {
-        out.push_str(connector)?;
-        out.push_str(" ")?;
-    }
-    item.append_text(out)
+    Ok(Value::Text(out))
 }

@@ -15,8 +15,7 @@ use crate::sentence::ArrayToSentenceString;
 use crate::texts::{CgiEscape, UriEscape, XmlEscape};
 use crate::urls::site_url;
 use crate::words::{NormalizeWhitespace, NumberOfWords};
-use liquid_filter_base::Filter;
-use liquid_model::{Result, Value};
+use liquid_model::{Filter, Result, Value};
 use std::alloc::Global;
 
 /// The filters that Jekyll has beside Liquid's.

@@ -3,10 +3,9 @@ ghost use Rattle.std.specs.Prelude.{nat_eq};
 ghost use Rattle.liquid_jekyll_host_filters.specs.Escapes.{xml_escape_answer};
 ghost use Rattle.liquid_jekyll_host_filters.specs.Urls.{cgi_escape_answer, uri_escape_answer};
 
-use crate::escapes::{Marks, push_escaped};
+use crate::escapes::push_escaped;
 use crate::percent::{Escaping, push_url};
-use liquid_filter_base::{Filter, text_of};
-use liquid_model::{Result, Value};
+use liquid_model::{Filter, Result, Value, text_of};
 use std::alloc::Global;
 
 /// `xml_escape`: the input's text with `&quot;`, `&amp;`, `&apos;`, `&lt;` and `&gt;` for `"`, `&`,
@@ -26,7 +25,7 @@ impl Filter for XmlEscape {
     fn evaluate(&self, alloc: Global, input: &Value, _args: &[Value]) -> Result<Value> {
         let text = text_of(alloc, input)?;
         let mut out = String::new(alloc);
-        push_escaped(&mut out, text.as_str(), Marks::Xml)?;
+        push_escaped(&mut out, text.as_str())?;
         Ok(Value::Text(out))
     }
 }

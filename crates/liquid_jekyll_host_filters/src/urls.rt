@@ -10,8 +10,7 @@ ghost use Rattle.liquid_jekyll_host_filters.specs.Urls.{relative_url_answer, sit
 ghost use Rattle.liquid_jekyll_host_filters.specs.Urls.{without_slash};
 
 use crate::percent::{Escaping, push_url};
-use liquid_filter_base::{Filter, text_of};
-use liquid_model::{Result, Value};
+use liquid_model::{Filter, Result, Value, text_of};
 use std::alloc::Global;
 
 /// `relative_url`: the input's text as a path under the base path of the site, with the escapes of

@@ -6,8 +6,7 @@ ghost use Rattle.liquid_model.specs.View.{view};
 ghost use Rattle.liquid_jekyll_host_filters.specs.Words.{normalize_whitespace_answer, normalized};
 ghost use Rattle.liquid_jekyll_host_filters.specs.Words.{number_of_words_answer, words};
 
-use liquid_filter_base::{Filter, text_of};
-use liquid_model::{Result, Value};
+use liquid_model::{Filter, Result, Value, text_of};
 use std::alloc::Global;
 
 /// `normalize_whitespace`: the words of the input's text with a space between each and the next.

@@ -1,6 +1,8 @@
 pub mod After
 mod Appended
+pub mod Ascending
 mod FirstItems
+mod MapsAlike
 mod Members
 mod NoMembers
 pub mod Plain
@@ -8,3 +10,4 @@ mod PlainCopies
 mod PlainUses
 pub mod ScalarTokens
 pub mod Turns
+pub mod Under

@@ -115,7 +115,7 @@ no_pairs_of_number : (o : Option ℤ) (ps : Pairs) → whole_number o ≡ Ok (ob
 no_pairs_of_number None ps is = absurd cc
 no_pairs_of_number (Some z) ps is = absurd cc
 
-of_object : (d : tree.Data) (ps : Pairs) → datum_of d ≡ Ok (object ps) → parsed_object d ≡ Ok ps
+pub of_object : (d : tree.Data) (ps : Pairs) → datum_of d ≡ Ok (object ps) → parsed_object d ≡ Ok ps
 of_object tree.null ps is = absurd cc
 of_object (tree.boolean b) ps is = absurd cc
 of_object (tree.number n) ps is = absurd (no_pairs_of_number (as_i64 n) ps is)

@@ -22,7 +22,7 @@ use Rattle.liquid_model.specs.declared.error.Error.{Error}
 use Rattle.liquid_model.specs.declared.error.ErrorKind.{ErrorKind}
 use Rattle.liquid_model.specs.declared.uses.Use as code
 use Rattle.liquid_model.proofs.Alike.{up_to_more, alike_at, alike_equal, alike_same}
-use Rattle.liquid_json.specs.Asked.{IsAlikeData, AnswersAlike}
+use Rattle.liquid_json.specs.Asked.{AnswersAlike}
 use Rattle.liquid_json.specs.PlainUses.{is_plain_use, plain_fields}
 use Rattle.liquid_json.specs.inside.Copies.{finds_by_place, any_by_place, each_plain, AsksMore, AskMore, ItemsAskMore}
 use Rattle.liquid_json.proofs.PlainUses.{first_true, second_true}
@@ -170,7 +170,7 @@ items_more (up_to m u) (up_to n v) o p h a =
 pub parts_more : (members others : Fields) (turns fewer : ItemUse) → AskMore members others → ItemsAskMore turns fewer → AsksMore (parts members turns) (parts others fewer)
 parts_more members others turns fewer h g o p a = (a.0, (fields_more members others o p h a.1.0, items_more turns fewer o p g a.1.1))
 
-use_more : (more less : Fields) (key : Text) → AskMore more less → AsksMore (use_in key more) (use_in key less)
+pub use_more : (more less : Fields) (key : Text) → AskMore more less → AsksMore (use_in key more) (use_in key less)
 use_more no_fields no_fields key h o p a = tt
 use_more no_fields (field l v less) key h o p a = absurd h
 use_more (field k u more) no_fields key h o p a = absurd h
@@ -182,9 +182,6 @@ use_more (field k u more) (field l v less) key h o p a =
     at false a rest = rest a
 
 -- ---- the whole data
-
-pub asked_more : (more less : BTreeMap (String Global) code.Use) (wanted : Result Pairs ErrorKind) (qs : Pairs) → AskMore (members_view more.entries) (members_view less.entries) → IsAlikeData (uses_view more) wanted qs → IsAlikeData (uses_view less) wanted qs
-asked_more more less wanted qs h a = (a.0, a.1, (λ key. use_more (members_view more.entries) (members_view less.entries) key h _ _ (a.2 key)))
 
 pub whole_answers : {X : Type 0} (seen : X → Pairs) (U : Text → Use) (r : Result X Error) (wanted : Result Pairs ErrorKind) → Answers seen r wanted → AnswersAlike seen U r wanted
 whole_answers seen U (Ok m) wanted h = (seen m, h, (λ key. alike_same (U key) _))

@@ -1,4 +1,6 @@
 -- The data that a text of JSON gives.
+--     data_of source      the data of an object
+--     value_in source      the data of any value
 use Rattle.std.specs.Prelude.{ℕ, ℤ, List, Option, Some, None, Result, Ok, Err}
 use Rattle.liquid_model.specs.Fallible.{◌>>=◌}
 use Rattle.liquid_model.specs.Data.{Datum, nil, truth, number, text, array, object, Items, no_items}
@@ -43,3 +45,11 @@ object_read None = Err InvalidInput
 -- the data that a text gives
 abbrev pub data_of : List ℕ → Result Pairs ErrorKind
 data_of source = object_read (read source)
+
+abbrev pub value_if_read : Option json.Data → Result Datum ErrorKind
+value_if_read (Some d) = datum_of d
+value_if_read None = Err InvalidInput
+
+-- one value of any kind
+abbrev pub value_in : List ℕ → Result Datum ErrorKind
+value_in source = value_if_read (read source)

@@ -3,14 +3,17 @@ ghost use Rattle.std.specs.Prelude.{◌≡◌, IfOk, IfErr, IfSome};
 ghost use Rattle.liquid_model.specs.Answer.{Answers};
 ghost use Rattle.liquid_model.specs.View.{view, items_view, pairs_view};
 ghost use Rattle.liquid_model.specs.UseViews.{uses_view};
-ghost use Rattle.liquid_json.specs.Asked.{AnswersAlike, IsAlikeData};
+ghost use Rattle.liquid_json.specs.Asked.{AnswersAlike};
 ghost use Rattle.liquid_json.specs.Json.{datum_of, parsed_items, parsed_pairs, parsed_object};
-ghost use Rattle.liquid_json.specs.Json.{data_of, whole_number};
+ghost use Rattle.liquid_json.specs.Json.{data_of, value_in, whole_number};
+ghost use Rattle.liquid_json.specs.Under.{KeysUnder};
+ghost use Rattle.liquid_json.specs.inside.Planned.{IsReadData};
 ghost use Rattle.serde_json.specs.Find.{as_i64};
 ghost use Rattle.serde_json.specs.View.{view as json_view, items_view as json_items};
 ghost use Rattle.serde_json.specs.View.{members_view as json_members, number_view};
 
 use crate::copies::{any_by_place, plain_uses};
+use crate::grammar::Wants;
 use crate::place::{no_json, with_place};
 use crate::planned::data_from_planned;
 use crate::tokens::{MAX_DEPTH, data_from_tokens};
@@ -32,15 +35,16 @@ pub fn data_from_json(alloc: Global, text: &str) -> Result<Object>
 /// The data that a text of JSON gives, as far as these uses ask for it: under each name stands a
 /// value that is alike with the text's in all that is asked of it, so whoever looks at no more
 /// can't tell the two apart. What nobody asks for is read over and mostly not built, so it may be
-/// missing.
+/// missing or nil, and a list may end early. Nothing stands there that the text hasn't.
 ///
 /// The text is refused exactly where `data_from_json` refuses it, by the same kind of fault, also
 /// for what nobody asks for: `InvalidInput` where it is no JSON or no object, `Float` where a
 /// number isn't whole or is past 64 bits. `Memory` where a growth was refused.
-#[tactic(auto, using(crate::proofs::PlainCopies::whole_answers))]
 pub fn data_for(alloc: Global, text: &str, uses: &Uses) -> Result<Object>
-    ensures { AnswersAlike (λ m. pairs_view m.entries) (uses_view uses.now) result
+    ensures alike { AnswersAlike (λ m. pairs_view m.entries) (uses_view uses.now) result
         (data_of text.now) }
+    ensures under { IfOk result (λ m. IfOk (data_of text.now) (λ ps.
+        KeysUnder ps (pairs_view m.entries))) }
 {
     if let Some(data) = data_if_plain(alloc, text, uses)? {
         return Ok(data);
@@ -51,7 +55,7 @@ pub fn data_for(alloc: Global, text: &str, uses: &Uses) -> Result<Object>
 /// The same by the tokens, where the uses can be followed and the text is plain.
 fn data_if_plain(alloc: Global, text: &str, uses: &Uses) -> Result<Option<Object>>
     ensures alike { IfOk result (λ o. IfSome o (λ m.
-        IsAlikeData (uses_view uses.now) (data_of text.now) (pairs_view m.entries))) }
+        IsReadData (uses_view uses.now) (data_of text.now) (pairs_view m.entries))) }
     ensures memory { IfErr result (λ e. e.kind ≡ ErrorKind.Memory) }
 {
     if any_by_place(uses) {
@@ -74,7 +78,27 @@ fn data_from_tree(alloc: Global, text: &str) -> Result<Object>
         Err(refused) => if refused.is_memory() {
             Err(Error::from(AllocError))
         } else {
-            Err(no_json(alloc, text))
+            Err(no_json(alloc, text, Wants::Data))
+        },
+    }
+}
+
+/// The value that a text of JSON gives: one of any kind, without any number that isn't whole.
+///
+/// The text is refused by `InvalidInput` where it is no JSON, and by `Float` where a number isn't
+/// whole or is past 64 bits, with the place. `Memory` where a growth was refused.
+pub fn value_from_json(alloc: Global, text: &str) -> Result<Value>
+    ensures { Answers view result (value_in text.now) }
+{
+    match serde_json::Value::from_str(alloc, text) {
+        Ok(value) => match value_of(alloc, value) {
+            Ok(value) => Ok(value),
+            Err(error) => Err(with_place(alloc, text, error)),
+        },
+        Err(refused) => if refused.is_memory() {
+            Err(Error::from(AllocError))
+        } else {
+            Err(no_json(alloc, text, Wants::Value))
         },
     }
 }

@@ -51,11 +51,11 @@ struct Reading {
     levels: Levels,
 }
 
-/// What is wrong with a text at the first place where it stops being JSON, or none where it is
-/// JSON. It takes no memory.
-pub fn first_flaw(text: &str) -> Option<Flaw<'_>> {
+/// What is wrong with a text, which is to be data or a value, at the first place where it stops
+/// being JSON, or none where it is JSON. It takes no memory.
+pub fn first_flaw(text: &str, wants: Wants) -> Option<Flaw<'_>> {
     let mut reading = Reading {
-        wants: Wants::Data,
+        wants,
         levels: Levels::new(),
     };
     let mut end: usize = 0;

@@ -1,13 +1,15 @@
 //! Data from JSON: a text read as an object of Liquid's values, and where a text that isn't one has
-//! its fault; and what a template asks of its data, as a JSON Schema.
+//! its fault; values as JSON; and what a template asks of its data, as a JSON Schema.
 #![tactic(auto)]
 
 mod copies;
 mod data;
 mod flaw;
 mod grammar;
+mod json_text;
 mod levels;
 mod misplaced;
+mod named;
 mod place;
 mod planned;
 mod quoted;
@@ -17,5 +19,7 @@ mod skip;
 mod tokens;
 mod whole;
 
-pub use data::{data_for, data_from_json};
+pub use data::{data_for, data_from_json, value_from_json};
+pub use json_text::json_of;
+pub use named::map_for;
 pub use schema::schema_of;

@@ -3,16 +3,17 @@
 ghost use Rattle.liquid_model.specs.ErrorKinds.{IsKindOrMemory};
 
 use crate::flaw::{Flaw, message_of};
-use crate::grammar::first_flaw;
+use crate::grammar::{Wants, first_flaw};
 use crate::scalars::number_flaw;
 use liquid_model::{Error, ErrorKind, Location, Origin};
 use std::alloc::Global;
 
-/// The fault of a text that is no JSON, with where it stops being JSON.
-pub fn no_json(alloc: Global, text: &str) -> Error
+/// The fault of a text that is no JSON, where data or a value is wanted, with where it stops being
+/// JSON.
+pub fn no_json(alloc: Global, text: &str, wants: Wants) -> Error
     ensures { IsKindOrMemory ErrorKind.InvalidInput result.kind }
 {
-    let flaw = match first_flaw(text) {
+    let flaw = match first_flaw(text, wants) {
         Some(flaw) => flaw,
         None => Flaw::plain(text, "the data is no JSON"),
     };
@@ -60,7 +61,7 @@ fn no_object(text: &str) -> Flaw<'_> {
 
 /// The location of the place `remaining` bytes before the end of the data.
 fn location(text: &str, remaining: usize) -> Location {
-    let place = liquid_words::location(text, remaining);
+    let place = liquid_model::location(text, remaining);
     Location {
         origin: Origin::Data,
         line: place.line,

@@ -1,22 +1,21 @@
 //! Values from the tokens of a text of JSON, without what nobody asks for.
 ghost use Rattle.std.specs.Prelude.{◌≡◌, ◌<◌, length, Some, IfOk, IfSome, OnOk, IsTrue};
 ghost use Rattle.json.specs.Json.{parse_map};
-ghost use Rattle.liquid_model.specs.Data.{array, object, no_items, no_pairs};
+ghost use Rattle.liquid_model.specs.Data.{array, nil, object, no_items, no_pairs};
 ghost use Rattle.liquid_model.specs.View.{view, items_view, pairs_view};
 ghost use Rattle.liquid_model.specs.Uses.{parts, uncounted};
 ghost use Rattle.liquid_model.specs.UseViews.{use_view, members_view, turns_view, uses_view};
-ghost use Rattle.liquid_json.specs.Asked.{IsAlikeData};
 ghost use Rattle.liquid_json.specs.Json.{data_of};
 ghost use Rattle.liquid_json.specs.PlainUses.{is_plain_use, plain_fields, plain_turns};
-ghost use Rattle.liquid_json.specs.inside.Planned.{IsPlanned, PairsPlanned};
+ghost use Rattle.liquid_json.specs.inside.Planned.{IsPlanned, IsReadData, PairsPlanned};
 ghost use Rattle.liquid_json.specs.inside.Planned.{AreFirstItems, ArePlanned};
-ghost use Rattle.liquid_json.specs.inside.Skipped.{IsItems};
+ghost use Rattle.liquid_json.specs.inside.Skipped.{IsItems, IsSkippedValue};
 ghost use Rattle.liquid_json.specs.inside.Tokens.{pairs_at};
 
 use crate::skip::{skip_items, skipped};
 use crate::tokens::{MAX_DEPTH, NoData, put_member, read, read_pairs, scalar};
 use json::{Reader, Scratch, Token};
-use liquid_model::{ItemUse, Object, Use, Uses, Value, member_of};
+use liquid_model::{ItemUse, Object, Use, Uses, Value};
 use std::alloc::{AllocError, Global};
 use std::collections::BTreeMap;
 
@@ -89,7 +88,7 @@ pub fn data_from_planned(
 ) -> Result<Option<Object>, AllocError>
     requires plain { IsTrue (plain_fields (members_view uses.now.entries)) }
     ensures { IfOk result (λ o. IfSome o (λ m.
-        IsAlikeData (uses_view uses.now) (data_of text.now) (pairs_view m.entries))) }
+        IsReadData (uses_view uses.now) (data_of text.now) (pairs_view m.entries))) }
 {
     let mut scratch = Scratch::new(alloc);
     let mut reader = Reader::new(text, &mut scratch)?;
@@ -106,6 +105,15 @@ pub fn data_from_planned(
         Value::Object(data) => Ok(Some(data)),
         _ => Ok(None),
     }
+}
+
+/// Nil in place of a value of which nothing is asked: it is skipped.
+fn unread(reader: &mut Reader<'_>, depth: usize) -> Result<Value, NoData>
+    ensures ok { IfOk result (λ v. IsSkippedValue depth reader.old reader.new × (view v ≡ nil)) }
+    ensures shorter { OnOk result (length reader.new < length reader.old) }
+{
+    skipped(reader, depth)?;
+    Ok(Value::Nil)
 }
 
 /// A list of whose items nothing is asked: they are skipped.
@@ -141,10 +149,7 @@ fn read_planned(
     ensures shorter { OnOk result (length reader.new < length reader.old) }
 {
     match asked {
-        Use::Nothing => {
-            skipped(reader, depth)?;
-            Ok(Value::Nil)
-        }
+        Use::Nothing => unread(reader, depth),
         Use::Everything => read(alloc, reader, depth),
         Use::Parts { members, items } => read_parts(alloc, reader, depth, items, members),
     }
@@ -303,7 +308,7 @@ fn planned_pairs(
 {
     let mut found: Object = BTreeMap::new(alloc);
     'pairs: while let Some(name) = reader.next_key()? {
-        match member_of(members, name) {
+        match members.get(name) {
             Some(asked) => {
                 let member = read_planned(alloc, reader, depth, asked)?;
                 put_member(alloc, &mut found, name, member)?;

@@ -2,7 +2,7 @@
 use Rattle.std.specs.Prelude.{List}
 use Rattle.liquid_model.specs.Texts.{Text}
 use Rattle.liquid_language.specs.Entries.{seen}
-use Rattle.liquid_language.specs.declared.language.Registry.{Registry}
+use Rattle.liquid_language.specs.declared.registry.Registry.{Registry}
 
 -- the kinds by name
 abbrev pub kinds_of : {K : Type 0} → Registry K → List (Text × K)

@@ -1,32 +1,35 @@
 -- What a tag's name is, where the tag stands.
 --     role_of l x w      of the name w in a language, in a context
 --     verbatim_body role      the body after such a tag, where it is a block's that isn't read
-use Rattle.std.specs.Prelude.{cond, bytes_eq, Option, Some, None, option_map}
+use Rattle.std.specs.Prelude.{ℕ, cond, bytes_eq, Option, Some, None, option_map}
 use Rattle.liquid_model.specs.Maps.{listed}
 use Rattle.liquid_model.specs.Texts.{Text}
 use Rattle.liquid_lexer.specs.declared.piece.Body.{Body}
 use Rattle.liquid_lexer.specs.declared.piece.Body.TheVariants as bodies
 use Rattle.liquid_language.specs.Controls.{end_word, control_of}
+use Rattle.liquid_language.specs.HostTags.{numbers_of}
 use Rattle.liquid_language.specs.Languages.{kinds_of}
 use Rattle.liquid_language.specs.declared.block.Control.{Control}
 use Rattle.liquid_language.specs.declared.block.BlockContext.{BlockContext}
 use Rattle.liquid_language.specs.declared.block.BlockContext.TheVariants.{Outside, InBody, InLast}
 use Rattle.liquid_language.specs.declared.block.Role.{Role}
 use Rattle.liquid_language.specs.declared.block.Role.TheVariants.{End, Control as Word, Tag}
-use Rattle.liquid_language.specs.declared.block.Role.TheVariants.{Block as Start}
-use Rattle.liquid_language.specs.declared.language.BlockKind.{BlockKind}
-use Rattle.liquid_language.specs.declared.language.BlockKind.TheVariants as blocks
-use Rattle.liquid_language.specs.declared.language.Language.{Language}
-use Rattle.liquid_language.specs.declared.language.TagKind.{TagKind}
+use Rattle.liquid_language.specs.declared.block.Role.TheVariants.{Block as Start, HostTag}
+use Rattle.liquid_language.specs.declared.registry.BlockKind.{BlockKind}
+use Rattle.liquid_language.specs.declared.registry.BlockKind.TheVariants as blocks
+use Rattle.liquid_language.specs.declared.registry.Language.{Language}
+use Rattle.liquid_language.specs.declared.registry.TagKind.{TagKind}
 
--- the first of two, or else the second
-abbrev pub tag_or_block : Option TagKind → Option BlockKind → Option Role
-tag_or_block (Some kind) b = Some (Tag kind)
-tag_or_block None b = option_map Start b
+-- the first of three that is there
+abbrev pub tag_or_block : Option TagKind → Option BlockKind → Option ℕ → Option Role
+tag_or_block (Some kind) b n = Some (Tag kind)
+tag_or_block None (Some kind) n = Some (Start kind)
+tag_or_block None None n = option_map HostTag n
 
--- tags come before blocks
+-- tags come before blocks, and both before tags of the host
 abbrev pub registered : Language → Text → Option Role
 registered l w = tag_or_block (listed (kinds_of l.tags) w) (listed (kinds_of l.blocks) w)
+    (listed (numbers_of l.host_tags) w)
 
 abbrev pub word_or : Option Control → Option Role → Option Role
 word_or (Some word) o = Some (Word word)
@@ -57,6 +60,7 @@ verbatim_body (Some End) = None
 verbatim_body (Some (Word word)) = None
 verbatim_body (Some (Tag kind)) = None
 verbatim_body (Some (Start kind)) = verbatim_of kind
+verbatim_body (Some (HostTag n)) = None
 
 abbrev pub body_after : Language → BlockContext → Text → Option Body
 body_after l x w = verbatim_body (role_of l x w)

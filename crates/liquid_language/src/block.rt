@@ -5,7 +5,7 @@ ghost use Rattle.liquid_language.specs.Roles.{body_after, registered, role_of, v
 ghost use Rattle.liquid_lexer.specs.PieceView.{piece_view};
 ghost use Rattle.liquid_lexer.specs.SourceReading.{wanted_body};
 
-use crate::language::{BlockKind, Language, TagKind};
+use crate::registry::{BlockKind, Language, TagKind};
 use liquid_lexer::{Body, Piece, bare_name};
 
 /// A block with bodies of its own.
@@ -66,10 +66,12 @@ pub enum Role {
     Control(Control),
     Tag(TagKind),
     Block(BlockKind),
+    /// A tag of the host, by its number.
+    HostTag(usize),
 }
 
 /// What the name is, where a tag stands: in a block its end comes first, then the control words
-/// that can end the body, then registered tags, then registered blocks.
+/// that can end the body, then registered tags, then registered blocks, then the host's tags.
 pub fn role_of(language: &Language, context: BlockContext, name: &str) -> Option<Role>
     ensures { result ≡ role_of language.now context name.now }
 {
@@ -93,13 +95,16 @@ pub fn role_of(language: &Language, context: BlockContext, name: &str) -> Option
     }
 }
 
-/// What is registered under the name: tags come before blocks.
+/// What is registered under the name: tags come before blocks, and both before the host's tags.
 fn registered(language: &Language, name: &str) -> Option<Role>
     ensures { result ≡ registered language.now name.now }
 {
-    match language.tags.get(name) {
-        Some(kind) => Some(Role::Tag(kind)),
-        None => Some(Role::Block(language.blocks.get(name)?)),
+    if let Some(kind) = language.tags.get(name) {
+        return Some(Role::Tag(kind));
+    }
+    match language.blocks.get(name) {
+        Some(kind) => Some(Role::Block(kind)),
+        None => Some(Role::HostTag(language.host_tags.number(name)?)),
     }
 }
 

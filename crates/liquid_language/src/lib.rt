@@ -1,10 +1,21 @@
-//! Languages: tags, blocks and filters under their names.
+//! Languages: tags, blocks and filters under their names; the structs that stand for the kinds of
+//! tags and blocks; and the language of the standard library.
 #![tactic(auto)]
 
 mod block;
-mod language;
+mod host_tags;
+pub mod jekyll;
+mod reflection;
 mod registered_filter;
+mod registry;
+mod standard;
+pub mod stdlib;
+mod style;
 
 pub use block::{Block, BlockContext, Control, Role, body_after, end_tag, role_of, verbatim_body};
-pub use language::{BlockKind, Language, Registry, TagKind};
+pub use host_tags::{HostCall, HostTags, NameRefusal, TagError};
+pub use reflection::{BlockReflection, TagReflection};
 pub use registered_filter::{FilterRegistry, RegisteredFilter};
+pub use registry::{BlockKind, Language, Registry, TagKind};
+pub use standard::{STANDARD_FILTERS, language};
+pub use style::{markup_after, style_after, style_of};

@@ -6,10 +6,9 @@ ghost use Rattle.liquid_language.specs.Registered.{registered_counts, registered
 ghost use Rattle.liquid_language.specs.declared.registered_filter.RegisteredFilter.TheVariants.{Kind};
 ghost use Rattle.liquid_language.specs.declared.registered_filter.RegisteredFilter.TheVariants.{Host};
 
-use crate::language::Registry;
-use liquid_filter_base::Filter;
+use crate::registry::Registry;
 use liquid_filters::FilterKind;
-use liquid_model::Result;
+use liquid_model::{Filter, Result};
 use std::alloc::Global;
 use std::collections::btree_map::Keys;
 

@@ -3,11 +3,11 @@ use Rattle.std.proofs.Common.{◌≡◌, ℕ, zero, suc, ◌<◌, ◌≤◌, Lis
 use Rattle.std.specs.Option.{option_and_then}
 use Rattle.std.proofs.lemmas.Bool.{and_parts}
 use Rattle.std.proofs.lemmas.Option.{none-some}
-use Rattle.liquid_words.specs.Words.{passes}
-use Rattle.liquid_words.specs.Front.{run_len}
+use Rattle.liquid_model.specs.Words.{passes}
+use Rattle.liquid_model.specs.Front.{run_len}
 use Rattle.liquid_lexer.specs.Verbatim.{IsMark, NoMark, IsComment, skipped, inner, raw_inside, inner_ends, ends}
 use Rattle.liquid_lexer.specs.SourceReading.{Mark, mark_at, is_named, raw_at, in_comment, Skips, comment_ends, past_mark, comment_at}
-use Rattle.liquid_words.proofs.WordLaws.{bind_some, from_some, run_stops}
+use Rattle.liquid_model.proofs.WordLaws.{bind_some, from_some, run_stops}
 use Rattle.liquid_lexer.proofs.MarkLaws.{un_not, nothing_marked, mark_again, mark_shorter, mark_named, no_mark_takes, no_mark_again, raw_takes, raw_again, raw_shorter}
 
 -- ---- what is read stands in the grammar

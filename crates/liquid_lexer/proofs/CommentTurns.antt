@@ -1,7 +1,7 @@
 -- The loops over bodies that aren't read, a turn at a time.
 use Rattle.std.proofs.Common.{◌≡◌, ℕ, zero, suc, ◌+◌, ◌-◌, ◌<◌, ◌≤◌, List, length, drop, Bool, true, false, cond, codes, bytes_eq, Option, Some, None, refl, ap, sym, ◌∙◌, arith, length-drop}
 use Rattle.std.specs.Option.{option_and_then}
-use Rattle.liquid_words.specs.Front.{run_len}
+use Rattle.liquid_model.specs.Front.{run_len}
 use Rattle.liquid_lexer.specs.SourceReading.{Mark, mark_at, raw_at, in_comment, Skips, comment_ends, past_mark, comment_at}
 use Rattle.liquid_lexer.proofs.MarkLaws.{mark_takes, mark_shorter, raw_takes, raw_shorter}
 

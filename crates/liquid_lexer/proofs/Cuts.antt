@@ -5,9 +5,9 @@ use Rattle.std.proofs.lemmas.List.{get_or-reverse, length-append}
 use Rattle.std.proofs.lemmas.List.Sums.{suffix_len-le-length, prefix_len_passes}
 use Rattle.std.specs.Str.{IsUtf8, IsCharBoundary}
 use Rattle.std.proofs.lemmas.Bool.{eqb-true}
-use Rattle.liquid_words.specs.Bytes.{is_white, plain, opens}
-use Rattle.liquid_words.specs.Front.{run_len}
-use Rattle.liquid_words.proofs.Cuts.{run_within, white_low}
+use Rattle.liquid_model.specs.Bytes.{is_white, plain, opens}
+use Rattle.liquid_model.specs.Front.{run_len}
+use Rattle.liquid_model.proofs.Cuts.{run_within, white_low}
 use Rattle.std.proofs.lemmas.Str.{IsCharBoundary-at_seam}
 
 both_true : (a b : Bool) → not (a && b) ≡ false → a ≡ true

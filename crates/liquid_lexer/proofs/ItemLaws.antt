@@ -2,16 +2,16 @@
 use Rattle.std.proofs.Common.{◌≡◌, ℕ, zero, suc, ◌<◌, ◌≤◌, List, [], ◌∷◌, ◌++◌, length, take, get_or, Bool, true, false, eqb, ◌⊎◌, inl, inr, Option, Some, None, refl, ap, subst, ◌∙◌, sym, arith}
 use Rattle.std.specs.Option.{option_and_then, option_map, option_or}
 use Rattle.liquid_core.specs.Expression.{Expression}
-use Rattle.liquid_words.specs.Words.{Blank}
+use Rattle.liquid_model.specs.Words.{Blank}
 use Rattle.liquid_lexer.specs.ValueReading.{expression_at}
-use Rattle.liquid_words.specs.Front.{past_white, past_byte, word_at, literal_at, quoted_at, integer_at}
+use Rattle.liquid_model.specs.Front.{past_white, past_byte, word_at, literal_at, quoted_at, integer_at}
 use Rattle.liquid_lexer.specs.Items.{Item, value, range, spelling_of, IsSymbol, IsRange, is_range, mark, dash_if, IsItem, is_symbol, is_interval, is_value, NoCloser, AreItems, closed, item}
 use Rattle.liquid_lexer.specs.ItemReading.{bare_closer_at, closer_by, closer_at, two_bytes, one_byte, long_symbol_at, short_symbol_at, symbol_at, range_at, before, range_or_value, item_by, lexed_item, ReadItems, items_by, items_at}
 use Rattle.liquid_lexer.specs.declared.symbol.Symbol.{Symbol}
 use Rattle.liquid_lexer.specs.declared.symbol.Symbol.TheVariants.{Equals, NotEquals, LessOrGreater, LessThanEquals, GreaterThanEquals, LessThan, GreaterThan, Assign, Colon, Comma, Bar}
 use Rattle.liquid_lexer.specs.declared.item.Delimiter.{Delimiter}
 use Rattle.liquid_lexer.specs.declared.item.Delimiter.TheVariants.{Output, Tag}
-use Rattle.liquid_words.proofs.WordLaws.{bind_some, map_some, from_some, byte_some, blank_takes, blank_again, blank_shorter, opens_value}
+use Rattle.liquid_model.proofs.WordLaws.{bind_some, map_some, from_some, byte_some, blank_takes, blank_again, blank_shorter, opens_value}
 use Rattle.liquid_lexer.proofs.ValueLaws.{value_takes, value_again, value_shrinks, value_opens, value_at_front, apart}
 use Rattle.std.proofs.lemmas.Bool.{ne_eqb}
 use Rattle.std.proofs.lemmas.List.{length-append}

@@ -1,7 +1,7 @@
 -- The loop over a piece's items, a turn at a time.
 use Rattle.std.proofs.Common.{◌≡◌, ℕ, zero, suc, ◌-◌, ◌<◌, List, [], ◌∷◌, ◌++◌, refl, ap, ◌∙◌, Bool, Option, Some, None, arith, sym, append_assoc, append-nil}
 use Rattle.std.specs.Option.{option_and_then, option_map}
-use Rattle.liquid_words.specs.Front.{past_white}
+use Rattle.liquid_model.specs.Front.{past_white}
 use Rattle.liquid_lexer.specs.Items.{Item}
 use Rattle.liquid_lexer.specs.ItemReading.{ReadItems, lexed_item, closer_at, items_by, items_at}
 use Rattle.liquid_lexer.specs.Readers.{Fails}

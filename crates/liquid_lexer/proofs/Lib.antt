@@ -11,4 +11,6 @@ pub mod Seen
 pub mod SourceLaws
 pub mod SourceTurns
 pub mod StepTurns
+pub mod StyleCuts
+pub mod StyleLaws
 pub mod ValueLaws

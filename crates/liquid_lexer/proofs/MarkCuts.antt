@@ -2,11 +2,11 @@
 use Rattle.std.proofs.Common.{◌≡◌, ℕ, suc, ◌<◌, List, [], ◌∷◌, length, get_or, Bool, true, false, cond, eqb, None, refl, ap, sym, ◌∙◌, arith}
 use Rattle.std.specs.Str.{IsUtf8, IsCharBoundary}
 use Rattle.std.proofs.lemmas.Bool.{eqb-true}
-use Rattle.liquid_words.specs.Front.{run_len}
+use Rattle.liquid_model.specs.Front.{run_len}
 use Rattle.liquid_lexer.specs.SourceReading.{mark_at, in_raw, in_comment, in_body, goes_on}
 use Rattle.liquid_lexer.specs.declared.piece.Body.{Body}
 use Rattle.liquid_lexer.specs.declared.piece.Body.TheVariants.{Raw, Comment}
-use Rattle.liquid_words.proofs.Cuts.{run_within}
+use Rattle.liquid_model.proofs.Cuts.{run_within}
 
 unmarked_by : (b : ℕ) (bs : List ℕ) (c : Bool) → eqb b 123 ≡ c → (b ≡ 123 → ⊥) → mark_at (b ∷ bs) ≡ None
 unfolding mark_at

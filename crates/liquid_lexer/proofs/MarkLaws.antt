@@ -5,8 +5,8 @@ use Rattle.std.proofs.lemmas.Slice.Eq.{bytes_eq-Decides}
 use Rattle.std.proofs.lemmas.List.{length-append}
 use Rattle.std.proofs.lemmas.Option.{none-some}
 use Rattle.std.proofs.lemmas.Bool.{false_from_ne_true}
-use Rattle.liquid_words.specs.Words.{begins_with}
-use Rattle.liquid_words.specs.Front.{run_len, past_white, past_byte, word_at}
+use Rattle.liquid_model.specs.Words.{begins_with}
+use Rattle.liquid_model.specs.Front.{run_len, past_white, past_byte, word_at}
 use Rattle.liquid_lexer.specs.Items.{dash_if}
 use Rattle.liquid_lexer.specs.ItemReading.{closer_at}
 use Rattle.liquid_lexer.specs.Openers.{opener, IsOpener, with_dash, no_dash}
@@ -14,7 +14,7 @@ use Rattle.liquid_lexer.specs.Verbatim.{IsMark, is_mark, NoMark, IsRaw, ends, go
 use Rattle.liquid_lexer.specs.SourceReading.{skip_dash, Mark, mark_after, mark_at, is_named, in_raw, raw_at}
 use Rattle.liquid_lexer.specs.declared.item.Delimiter.{Delimiter}
 use Rattle.liquid_lexer.specs.declared.item.Delimiter.TheVariants.{Tag}
-use Rattle.liquid_words.proofs.WordLaws.{bind_some, map_some, from_some, byte_some, blank_takes, blank_again, blank_shorter, word_takes, word_again, word_shorter}
+use Rattle.liquid_model.proofs.WordLaws.{bind_some, map_some, from_some, byte_some, blank_takes, blank_again, blank_shorter, word_takes, word_again, word_shorter}
 use Rattle.liquid_lexer.proofs.ItemLaws.{closer_takes, closer_again}
 use Rattle.liquid_model.proofs.Maps.{same_key}
 

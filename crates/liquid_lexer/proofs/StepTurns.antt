@@ -3,7 +3,7 @@ use Rattle.std.proofs.Common.{◌≡◌, ℕ, zero, suc, ◌-◌, ◌<◌, List,
 use Rattle.std.specs.Option.{option_and_then, option_map}
 use Rattle.liquid_core.specs.Expression.{Expression, Steps, no_steps, step}
 use Rattle.liquid_lexer.specs.ValueReading.{step_at, steps_at, more_steps}
-use Rattle.liquid_words.specs.Front.{Reads}
+use Rattle.liquid_model.specs.Front.{Reads}
 use Rattle.liquid_core.specs.ExpressionView.{steps_of}
 use Rattle.liquid_lexer.specs.Readers.{Fails}
 use Rattle.liquid_lexer.specs.declared.fault.ParseError.{ParseError}

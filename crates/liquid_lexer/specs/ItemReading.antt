@@ -2,11 +2,11 @@
 use Rattle.std.specs.Prelude.{ℕ, zero, suc, List, [], ◌∷◌, length, take, ◌-◌, Bool, true, false}
 use Rattle.std.specs.Prelude.{Option, Some, None}
 use Rattle.std.specs.Option.{option_and_then, option_map, option_or}
-use Rattle.liquid_words.specs.Bytes.{bar, close_brace, close_parenthesis, colon, comma, dash, dot}
-use Rattle.liquid_words.specs.Bytes.{equals_sign, exclamation_mark, greater_sign, less_sign}
-use Rattle.liquid_words.specs.Bytes.{open_parenthesis}
+use Rattle.liquid_model.specs.Bytes.{bar, close_brace, close_parenthesis, colon, comma, dash, dot}
+use Rattle.liquid_model.specs.Bytes.{equals_sign, exclamation_mark, greater_sign, less_sign}
+use Rattle.liquid_model.specs.Bytes.{open_parenthesis}
 use Rattle.liquid_lexer.specs.ValueReading.{◌>>=◌, expression_at}
-use Rattle.liquid_words.specs.Front.{Reads, past_white, past_byte}
+use Rattle.liquid_model.specs.Front.{Reads, past_white, past_byte}
 use Rattle.liquid_lexer.specs.Items.{Item, value, range, symbol, mark}
 use Rattle.liquid_lexer.specs.declared.symbol.Symbol.{Symbol}
 use Rattle.liquid_lexer.specs.declared.symbol.Symbol.TheVariants.{Equals, NotEquals, LessOrGreater}

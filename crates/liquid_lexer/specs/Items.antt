@@ -2,9 +2,9 @@
 -- begins with what is named, and rest follows it.
 use Rattle.std.specs.Prelude.{◌≡◌, ℕ, ◌≤◌, List, [], ◌∷◌, ◌++◌, length, Bool, true, false, codes}
 use Rattle.liquid_core.specs.Expression.{Expression}
-use Rattle.liquid_words.specs.Bytes.{close_brace, close_parenthesis, dash, dot, open_parenthesis}
-use Rattle.liquid_words.specs.Bytes.{percent}
-use Rattle.liquid_words.specs.Words.{Blank}
+use Rattle.liquid_model.specs.Bytes.{close_brace, close_parenthesis, dash, dot, open_parenthesis}
+use Rattle.liquid_model.specs.Bytes.{percent}
+use Rattle.liquid_model.specs.Words.{Blank}
 use Rattle.liquid_lexer.specs.Values.{IsValue}
 use Rattle.liquid_lexer.specs.declared.symbol.Symbol.{Symbol}
 use Rattle.liquid_lexer.specs.declared.symbol.Symbol.TheVariants.{Equals, NotEquals, LessOrGreater}

@@ -6,6 +6,8 @@ pub mod Pieces
 pub mod Readers
 pub mod ReadingLaws
 pub mod SourceReading
+pub mod StyleReading
+pub mod Styles
 pub mod TokenReading
 pub mod Tokens
 pub mod ValueReading

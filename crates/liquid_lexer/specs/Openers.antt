@@ -1,7 +1,7 @@
 -- The written grammar of what follows the `{` of an opener.
 use Rattle.std.specs.Prelude.{◌≡◌, ℕ, List, ◌∷◌, Bool, true, false}
-use Rattle.liquid_words.specs.Bytes.{dash, open_brace, percent}
-use Rattle.liquid_words.specs.Words.{begins_with}
+use Rattle.liquid_model.specs.Bytes.{dash, open_brace, percent}
+use Rattle.liquid_model.specs.Words.{begins_with}
 use Rattle.liquid_lexer.specs.declared.item.Delimiter.{Delimiter}
 use Rattle.liquid_lexer.specs.declared.item.Delimiter.TheVariants.{Output, Tag}
 

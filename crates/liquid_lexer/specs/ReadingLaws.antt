@@ -8,6 +8,9 @@ use Rattle.liquid_lexer.specs.Items.{Item, AreItems}
 use Rattle.liquid_lexer.specs.ItemReading.{items_at}
 use Rattle.liquid_lexer.specs.Verbatim.{IsRaw, IsComment}
 use Rattle.liquid_lexer.specs.Pieces.{Piece, IsSource}
+use Rattle.liquid_lexer.specs.Styles.{only_items, styled}
+use Rattle.liquid_lexer.specs.declared.style.Style.{Style}
+use Rattle.liquid_lexer.specs.declared.style.Style.TheVariants as styles
 use Rattle.liquid_lexer.specs.SourceReading.{Mark, raw_at, comment_at, all_steps, source_at}
 use Rattle.liquid_lexer.specs.SourceReading.{TakesWanted}
 use Rattle.liquid_lexer.specs.declared.item.Delimiter.{Delimiter}
@@ -54,14 +57,22 @@ StandingCommentIsRead = (bs rest : List ℕ) (after : Bool) → IsComment 0 afte
 -- ---- a source, by a machine that may go by all pieces so far
 
 abbrev pub ReadSourceStands : Type 0
-ReadSourceStands = (wants : List Piece → List ℕ → Option Body) (step : List Piece → Piece →
-    Option (List Piece)) (s next : List Piece) (bs : List ℕ) →
-    source_at wants step (length bs) false s bs ≡ Some next
-    → (ps : List Piece) × IsSource false ps bs × (all_steps step ps s ≡ Some next)
+ReadSourceStands = (style : List ℕ → Style) (wants : List Piece → List ℕ → Option Body)
+    (step : List Piece → Piece → Option (List Piece)) (s next : List Piece) (bs : List ℕ) →
+    source_at style wants step (length bs) false s bs ≡ Some next
+    → (ps : List Piece) × IsSource (styled style) false ps bs × (all_steps step ps s ≡ Some next)
 
 abbrev pub StandingSourceIsRead : Type 0
-StandingSourceIsRead = (wants : List Piece → List ℕ → Option Body) (step : List Piece → Piece →
-    Option (List Piece)) (s next : List Piece) (bs : List ℕ) (ps : List Piece) →
-    TakesWanted wants step
-    → IsSource false ps bs → all_steps step ps s ≡ Some next →
-    source_at wants step (length bs) false s bs ≡ Some next
+StandingSourceIsRead = (style : List ℕ → Style) (wants : List Piece → List ℕ → Option Body)
+    (step : List Piece → Piece → Option (List Piece)) (s next : List Piece) (bs : List ℕ)
+    (ps : List Piece) → TakesWanted wants step
+    → IsSource (styled style) false ps bs → all_steps step ps s ≡ Some next →
+    source_at style wants step (length bs) false s bs ≡ Some next
+
+-- ---- where the style of each name is items, the grammar is that of items alone
+
+abbrev pub ItemsAreOnlyItems : Type 0
+ItemsAreOnlyItems = (style : List ℕ → Style) (front : Bool) (ps : List Piece) (bs : List ℕ) →
+    ((w : List ℕ) → style w ≡ styles.Items)
+    → (IsSource (styled style) front ps bs → IsSource only_items front ps bs) ×
+    (IsSource only_items front ps bs → IsSource (styled style) front ps bs)

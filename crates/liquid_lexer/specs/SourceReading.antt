@@ -3,11 +3,14 @@
 use Rattle.std.specs.Prelude.{◌≡◌, ℕ, zero, suc, List, [], ◌∷◌, length, take, drop, Bool, true}
 use Rattle.std.specs.Prelude.{false, not, cond, ◌&&◌, codes, bytes_eq, Option, Some, None}
 use Rattle.std.specs.Option.{option_and_then, option_map}
-use Rattle.liquid_words.specs.Bytes.{dash, open_brace, percent}
+use Rattle.liquid_model.specs.Bytes.{dash, open_brace, percent}
 use Rattle.liquid_lexer.specs.ValueReading.{◌>>=◌}
-use Rattle.liquid_words.specs.Front.{Reads, run_len, past_white, past_byte, word_at}
+use Rattle.liquid_model.specs.Front.{Reads, run_len, past_white, past_byte, word_at}
 use Rattle.liquid_lexer.specs.ValueReading.{text_at}
 use Rattle.liquid_lexer.specs.ItemReading.{closer_at, items_at}
+use Rattle.liquid_lexer.specs.StyleReading.{styled_at}
+use Rattle.liquid_lexer.specs.declared.style.Style.{Style}
+use Rattle.liquid_lexer.specs.declared.style.Style.TheVariants.{Items}
 use Rattle.liquid_lexer.specs.Pieces.{Piece, text, output, tag, raw, comment, stripped}
 use Rattle.liquid_lexer.specs.declared.item.Delimiter.{Delimiter}
 use Rattle.liquid_lexer.specs.declared.item.Delimiter.TheVariants.{Output, Tag}
@@ -106,9 +109,9 @@ pub record Markup : Type 0 where
   pub piece : Piece
   pub after : Bool
 
--- after an opener
-abbrev pub inside_of : Delimiter → Bool × List ℕ → Option (Markup × List ℕ)
-inside_of Output x = option_map (λ r. (
+-- after an opener, a tag by the style of its name
+abbrev pub inside_of : (List ℕ → Style) → Delimiter → Bool × List ℕ → Option (Markup × List ℕ)
+inside_of style Output x = option_map (λ r. (
   record {
     before = x.0;
     piece = output r.0;
@@ -116,7 +119,7 @@ inside_of Output x = option_map (λ r. (
   },
   r.2,
 )) (items_at Output (length x.1) x.1)
-inside_of Tag x =
+inside_of style Tag x =
     option_and_then (λ w. option_map (λ r. (
       record {
         before = x.0;
@@ -124,12 +127,26 @@ inside_of Tag x =
         after = r.1;
       },
       r.2,
-    )) (items_at Tag (length w.1) w.1)) (word_at (past_white x.1))
+    )) (styled_at (style w.0) w.1)) (word_at (past_white x.1))
 
 -- after the `{` of an opener
-unfoldable pub markup_at : Reads Markup
-markup_at bs =
-    option_and_then (λ k. inside_of k.0 (skip_dash k.1 (past_byte dash k.1))) (opener_at bs)
+unfoldable pub markup_at : (List ℕ → Style) → Reads Markup
+markup_at style bs =
+    option_and_then (λ k. inside_of style k.0 (skip_dash k.1 (past_byte dash k.1))) (opener_at bs)
+
+abbrev pub name_inside : Delimiter → Bool × List ℕ → Option (List ℕ)
+name_inside Output x = None
+name_inside Tag x = option_map (λ w. w.0) (word_at (past_white x.1))
+
+-- the name of a tag, after the `{` of its opener
+unfoldable pub name_at : List ℕ → Option (List ℕ)
+name_at bs = option_and_then (λ k. name_inside k.0 (skip_dash k.1 (past_byte dash k.1)))
+    (opener_at bs)
+
+-- the style in which the piece is read; without a name it doesn't matter
+abbrev pub style_by : (List ℕ → Style) → Option (List ℕ) → Style
+style_by style None = Items
+style_by style (Some w) = style w
 
 abbrev pub tag_name : Piece → List ℕ
 tag_name (tag w is) = w
@@ -176,8 +193,10 @@ module _ {S : Type 0} (step : S → Piece → Option S) where
   text_step [] s = Some s
   text_step (b ∷ bs) s = step s (text (b ∷ bs))
 
--- which body the machine wants after a tag of the name, in a state
-module _ {S : Type 0} (wants : S → List ℕ → Option Body) (step : S → Piece → Option S) where
+-- in which style tags of the name are read, and which body the machine wants after a tag of the
+-- name, in a state
+module _ {S : Type 0} (style : List ℕ → Style) (wants : S → List ℕ → Option Body)
+    (step : S → Piece → Option S) where
   abbrev pub Goes : Type 0
   Goes = Bool → S → List ℕ → Option S
 
@@ -190,7 +209,7 @@ module _ {S : Type 0} (wants : S → List ℕ → Option Body) (step : S → Pie
   abbrev pub turn : Goes → Bool → S → List ℕ × List ℕ → Option S
   turn again front s (t, []) = text_step step (stripped front t false) s
   turn again front s (t, b ∷ bs) = do
-    m ← markup_at bs
+    m ← markup_at style bs
     now ← text_step step (stripped front t m.0.before) s
     marked again now m
 

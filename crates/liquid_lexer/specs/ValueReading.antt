@@ -5,9 +5,9 @@ use Rattle.std.specs.Option.{option_and_then, option_map}
 use Rattle.std.specs.List.{suffix_len}
 use Rattle.liquid_model.specs.Data.{text}
 use Rattle.liquid_core.specs.Expression.{Expression, literal, variable, Steps, no_steps, step}
-use Rattle.liquid_words.specs.Bytes.{is_white, plain, close_bracket, dot, open_bracket}
-use Rattle.liquid_words.specs.Front.{Reads, run_len, past_white, past_byte, word_at}
-use Rattle.liquid_words.specs.Front.{literal_at}
+use Rattle.liquid_model.specs.Bytes.{is_white, plain, close_bracket, dot, open_bracket}
+use Rattle.liquid_model.specs.Front.{Reads, run_len, past_white, past_byte, word_at}
+use Rattle.liquid_model.specs.Front.{literal_at}
 use Rattle.liquid_lexer.specs.Values.{WordKind, name, constant, state, word_kind, dotted}
 
 infixl 10 ◌>>=◌

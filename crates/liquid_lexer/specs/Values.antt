@@ -4,8 +4,8 @@ use Rattle.std.specs.Prelude.{◌≡◌, ℕ, suc, ℤ, List, [], ◌∷◌, Boo
 use Rattle.std.specs.Prelude.{slice_index, cond, bytes_eq, codes}
 use Rattle.liquid_model.specs.Data.{Datum, nil, truth, number, text}
 use Rattle.liquid_core.specs.Expression.{Expression, literal, variable, Steps, no_steps, step}
-use Rattle.liquid_words.specs.Bytes.{is_letter, close_bracket, dot, open_bracket}
-use Rattle.liquid_words.specs.Words.{Blank, Word, Quoted, Number}
+use Rattle.liquid_model.specs.Bytes.{is_letter, close_bracket, dot, open_bracket}
+use Rattle.liquid_model.specs.Words.{Blank, Word, Quoted, Number}
 
 -- what a word is where it opens a value: a variable's name, a literal, or one of the two that are
 -- refused

@@ -1,8 +1,8 @@
 -- The written grammar of bodies that aren't read: those of `raw` and of `comment`, by the marks
 -- that end them.
 use Rattle.std.specs.Prelude.{codes, ℕ, suc, List, [], ◌∷◌, Bool}
-use Rattle.liquid_words.specs.Bytes.{open_brace}
-use Rattle.liquid_words.specs.Words.{Blank, Word}
+use Rattle.liquid_model.specs.Bytes.{open_brace}
+use Rattle.liquid_model.specs.Words.{Blank, Word}
 use Rattle.liquid_lexer.specs.Items.{IsCloser}
 use Rattle.liquid_lexer.specs.Openers.{IsOpener}
 use Rattle.liquid_lexer.specs.declared.item.Delimiter.TheVariants.{Tag}

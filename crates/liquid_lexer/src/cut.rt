@@ -5,7 +5,7 @@ ghost use Rattle.liquid_lexer.specs.ItemReading.{before};
 ghost use Rattle.liquid_lexer.specs.Pieces.{stripped};
 
 use crate::scan::{plain_len, white_end};
-use liquid_words::past_white;
+use liquid_model::past_white;
 
 /// The text up to the leftmost opener, and what follows it.
 #[tactic(auto, using(crate::proofs::Cuts::plain_cut))]

@@ -13,7 +13,7 @@ use crate::fault::{Fault, FaultKind, ParseError};
 use crate::symbol::{Symbol, read_symbol};
 use crate::value::{read_value, unexpected};
 use liquid_core::Expression;
-use liquid_words::{past_byte, past_white};
+use liquid_model::{past_byte, past_white};
 use std::alloc::Global;
 use std::collections::VecDeque;
 

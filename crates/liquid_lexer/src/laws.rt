@@ -4,6 +4,7 @@ ghost use Rattle.liquid_lexer.specs.ReadingLaws.{ReadItemsStand, StandingItemsAr
 ghost use Rattle.liquid_lexer.specs.ReadingLaws.{ReadRawStands, StandingRawIsRead};
 ghost use Rattle.liquid_lexer.specs.ReadingLaws.{ReadCommentStands, StandingCommentIsRead};
 ghost use Rattle.liquid_lexer.specs.ReadingLaws.{ReadSourceStands, StandingSourceIsRead};
+ghost use Rattle.liquid_lexer.specs.ReadingLaws.{ItemsAreOnlyItems};
 
 /// What is read as a value stands in the written grammar, and what stands in the grammar is read: a
 /// text begins with at most one value.
@@ -30,4 +31,5 @@ pub fn verbatim_laws()
 pub fn source_laws()
     ensures read { ReadSourceStands }
     ensures standing { StandingSourceIsRead }
+    ensures items { ItemsAreOnlyItems }
 {}

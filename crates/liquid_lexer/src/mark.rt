@@ -4,12 +4,12 @@ ghost use Rattle.std.specs.Option.{option_map};
 ghost use Rattle.liquid_lexer.specs.SourceReading.{mark_at, mark_after, skip_dash};
 ghost use Rattle.liquid_lexer.specs.SourceReading.{goes_on, in_body};
 ghost use Rattle.liquid_lexer.specs.SourceReading.{in_comment, raw_at, comment_at};
-ghost use Rattle.liquid_words.specs.Front.{past_byte, run_len};
+ghost use Rattle.liquid_model.specs.Front.{past_byte, run_len};
 ghost use Rattle.liquid_lexer.specs.PieceView.{mark_view};
 
 use crate::item::{Delimiter, closer};
 use crate::piece::Body;
-use liquid_words::{past_byte, past_white, word};
+use liquid_model::{past_byte, past_white, word};
 
 /// A mark: a tag that is its name alone.
 #[derive(Clone, Copy, Debug, PartialEq, Eq)]

@@ -2,7 +2,7 @@
 ghost use Rattle.std.specs.Prelude.{◌≡◌, [], length};
 ghost use Rattle.std.specs.Option.{option_map};
 ghost use Rattle.liquid_lexer.specs.SourceReading.{opener_at, markup_at, bare_name, tag_name};
-ghost use Rattle.liquid_lexer.specs.SourceReading.{body_at};
+ghost use Rattle.liquid_lexer.specs.SourceReading.{body_at, name_at};
 ghost use Rattle.liquid_lexer.specs.Readers.{Parses};
 ghost use Rattle.liquid_lexer.specs.PieceView.{piece_view, markup_view};
 
@@ -11,8 +11,9 @@ use crate::expectation::Expectation;
 use crate::fault::{Fault, FaultKind, ParseError};
 use crate::item::{Delimiter, Item, read_items};
 use crate::mark::{read_comment, read_raw, skip_dash};
+use crate::style::{Style, read_styled};
 use crate::value::unexpected;
-use liquid_words::{past_byte, past_white, word};
+use liquid_model::{past_byte, past_white, word};
 use std::alloc::Global;
 use std::collections::VecDeque;
 
@@ -55,10 +56,30 @@ pub(crate) fn opener(text: &str) -> Option<(Delimiter, &str)>
     Some((Delimiter::Tag, past_byte(text, b'%')?))
 }
 
-/// The output or tag after a `{`, and what follows it.
+/// The name of the tag after a `{`, where one begins there.
+#[tactic(auto, unfolding(crate::specs::SourceReading::name_at))]
+pub fn name_after(text: &str) -> Option<&str>
+    ensures { option_map (λ w. w.now) result ≡ name_at text.now }
+{
+    let (kind, rest) = opener(text)?;
+    let (_, inside) = skip_dash(rest);
+    match kind {
+        Delimiter::Output => None,
+        Delimiter::Tag => {
+            let (name, _) = word(past_white(inside))?;
+            Some(name)
+        }
+    }
+}
+
+/// The output or tag after a `{`, a tag in the style, and what follows it.
 #[tactic(auto, unfolding(crate::specs::SourceReading::markup_at))]
-pub fn read_markup<'s>(alloc: Global, text: &'s str) -> Result<(Markup<'s>, &'s str), ParseError>
-    ensures { Parses (λ x. (markup_view x.0, x.1.now)) result (markup_at text.now) }
+pub fn read_markup<'s>(
+    alloc: Global,
+    text: &'s str,
+    style: Style,
+) -> Result<(Markup<'s>, &'s str), ParseError>
+    ensures { Parses (λ x. (markup_view x.0, x.1.now)) result (markup_at (λ w. style) text.now) }
 {
     let Some((kind, rest)) = opener(text) else {
         return Err(ParseError::Fault(unexpected(text, Expectation::Opener)));
@@ -82,7 +103,7 @@ pub fn read_markup<'s>(alloc: Global, text: &'s str) -> Result<(Markup<'s>, &'s 
             let Some((name, rest)) = word(inside) else {
                 return Err(ParseError::Fault(no_name(inside)));
             };
-            let (items, after, rest) = read_items(alloc, rest, kind)?;
+            let (items, after, rest) = read_styled(alloc, rest, style)?;
             let piece = Piece::Tag(name, items);
             Ok((
                 Markup {

@@ -3,7 +3,8 @@ use crate::fault::ParseError;
 use crate::item::{Delimiter, Item, closer, read_item};
 use crate::mark::skip_dash;
 use crate::piece::opener;
-use liquid_words::{past_byte, past_white, word};
+use crate::style::{Style, placed_path, text_item};
+use liquid_model::{past_byte, past_white, word};
 use std::alloc::{AllocError, Global};
 
 /// An item, and where it stands.
@@ -28,8 +29,12 @@ pub struct PlacedPiece<'s> {
 }
 
 /// The items of the piece with which the text begins, up to its closer or to what can't be read,
-/// each with its place.
-pub fn placed_piece<'s>(alloc: Global, text: &'s str) -> Result<PlacedPiece<'s>, AllocError> {
+/// each with its place; those of a tag in the style.
+pub fn placed_piece<'s>(
+    alloc: Global,
+    text: &'s str,
+    style: Style,
+) -> Result<PlacedPiece<'s>, AllocError> {
     let (kind, inside) = past_byte(text, b'{')
         .and_then(opener)
         .unwrap_or((Delimiter::Output, text));
@@ -38,7 +43,11 @@ pub fn placed_piece<'s>(alloc: Global, text: &'s str) -> Result<PlacedPiece<'s>,
         Delimiter::Output => ("", inside),
         Delimiter::Tag => word(past_white(inside)).unwrap_or(("", inside)),
     };
-    let (items, rest) = placed_items(alloc, inside, kind)?;
+    let (items, inside) = match kind {
+        Delimiter::Output => (Vec::new(alloc), inside),
+        Delimiter::Tag => placed_front(alloc, inside, style)?,
+    };
+    let (items, rest) = placed_items(alloc, items, inside, kind)?;
     Ok(PlacedPiece {
         kind,
         name,
@@ -47,12 +56,34 @@ pub fn placed_piece<'s>(alloc: Global, text: &'s str) -> Result<PlacedPiece<'s>,
     })
 }
 
+/// The path with which a tag's items begin in the style, where one stands there, and what follows
+/// it.
+fn placed_front<'s>(
+    alloc: Global,
+    text: &'s str,
+    style: Style,
+) -> Result<(Vec<PlacedItem<'s>>, &'s str), AllocError> {
+    let mut items = Vec::new(alloc);
+    let Some((path, after)) = placed_path(text, style) else {
+        return Ok((items, text));
+    };
+    let item = text_item(alloc, path)?;
+    items.push(PlacedItem {
+        item,
+        spelling: path,
+        from: past_white(text),
+    })?;
+    Ok((items, after))
+}
+
+/// The items after those that were read.
 fn placed_items<'s>(
     alloc: Global,
+    items: Vec<PlacedItem<'s>>,
     text: &'s str,
     kind: Delimiter,
 ) -> Result<(Vec<PlacedItem<'s>>, &'s str), AllocError> {
-    let mut items = Vec::new(alloc);
+    let mut items = items;
     let mut rest = past_white(text);
     // each item takes a byte at least
     for _ in 0..text.len() {

@@ -1,13 +1,13 @@
 //! How many bytes stand before an opener, and how much whitespace at the end of a text.
 ghost use Rattle.std.specs.Prelude.{◌≡◌, ◌≤◌, length, []};
 ghost use Rattle.std.specs.List.{suffix_len};
-ghost use Rattle.liquid_words.specs.Bytes.{is_white, plain};
-ghost use Rattle.liquid_words.specs.Front.{run_len};
+ghost use Rattle.liquid_model.specs.Bytes.{is_white, plain};
+ghost use Rattle.liquid_model.specs.Front.{run_len};
 ghost use Rattle.liquid_lexer.specs.Values.{dotted};
 
-use liquid_words::is_white;
+use liquid_model::is_white;
 
-#[tactic(auto, unfolding(liquid_words::specs::Bytes::plain))]
+#[tactic(auto, unfolding(liquid_model::specs::Bytes::plain))]
 fn is_plain(byte: u8, after: &[u8]) -> bool
     ensures { result ≡ plain byte after.now }
 {
@@ -24,7 +24,7 @@ pub fn white_end(bytes: &[u8]) -> usize
 
 /// How many bytes stand before the leftmost opener, or before the end where there is none. What
 /// isn't a `{` is passed without a look at what follows it.
-#[tactic(auto, unfolding(liquid_words::specs::Bytes::plain))]
+#[tactic(auto, unfolding(liquid_model::specs::Bytes::plain))]
 pub fn plain_len(bytes: &[u8]) -> usize
     ensures { result ≡ run_len plain bytes.now }
 {

@@ -3,7 +3,7 @@ ghost use Rattle.std.specs.Prelude.{◌≡◌, ◌≤◌, option_map};
 ghost use Rattle.liquid_lexer.specs.ItemReading.{two_bytes, one_byte, long_symbol_at};
 ghost use Rattle.liquid_lexer.specs.ItemReading.{short_symbol_at, symbol_at};
 
-use liquid_words::past_byte;
+use liquid_model::past_byte;
 
 /// A symbol, as it stands between the values of an output or a tag.
 #[derive(Clone, Copy, Debug, PartialEq, Eq)]

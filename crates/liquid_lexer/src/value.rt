@@ -6,7 +6,7 @@ ghost use Rattle.liquid_model.specs.Whole.{whole_text};
 ghost use Rattle.liquid_lexer.specs.inside.ValueFaults.{number_fault, value_fault};
 ghost use Rattle.liquid_lexer.specs.Values.{word_kind};
 ghost use Rattle.liquid_lexer.specs.ValueReading.{word_value, inner_of, expression_at};
-ghost use Rattle.liquid_words.specs.Front.{literal_at};
+ghost use Rattle.liquid_model.specs.Front.{literal_at};
 ghost use Rattle.liquid_lexer.specs.ValueReading.{step_at, steps_at};
 ghost use Rattle.liquid_lexer.specs.Readers.{Parses};
 ghost use Rattle.liquid_lexer.specs.PieceView.{word_kind_view, read_view};
@@ -16,8 +16,9 @@ use crate::expectation::Expectation;
 use crate::fault::{Fault, FaultKind, ParseError};
 use crate::scan::is_dotted;
 use liquid_core::{Expression, Variable};
-use liquid_model::{Value, whole_of};
-use liquid_words::{number_len, past_byte, past_white, quoted, whole_number, word};
+use liquid_model::{
+    Value, number_len, past_byte, past_white, quoted, whole_number, whole_of, word,
+};
 use std::alloc::Global;
 
 /// What a word is where it opens a value.
@@ -45,7 +46,7 @@ fn word_kind(word: &str) -> WordKind
 }
 
 /// The fault of a text that no value begins.
-#[tactic(auto, using(liquid_words::proofs::Cuts::number_cut))]
+#[tactic(auto, using(liquid_model::proofs::Cuts::number_cut))]
 fn no_value(text: &str) -> Fault
     ensures kind { result.kind ≡ value_fault text.now }
     ensures place { result.remaining ≡ length text.now }
@@ -80,7 +81,7 @@ fn no_number(text: &str, digits: &str, after: &[u8]) -> Fault
 }
 
 /// A text in quotes, or a number.
-#[tactic(auto, unfolding(liquid_words::specs::Front::literal_at))]
+#[tactic(auto, unfolding(liquid_model::specs::Front::literal_at))]
 fn read_literal(alloc: Global, text: &str) -> Result<(Value, &str), ParseError>
     ensures { Parses (λ x. (view x.0, x.1.now)) result (literal_at text.now) }
 {

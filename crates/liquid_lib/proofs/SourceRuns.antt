@@ -5,7 +5,7 @@ use Rattle.liquid_model.specs.Texts.{Text}
 use Rattle.liquid_model.specs.ErrorKinds.{is_memory}
 use Rattle.liquid_model.specs.declared.error.Error.{Error}
 use Rattle.liquid_parser.specs.Parsing.{HasNoTree, IsOfSource, MayRefuse}
-use Rattle.liquid_language.specs.declared.language.Language.{Language}
+use Rattle.liquid_language.specs.declared.registry.Language.{Language}
 use Rattle.liquid_evaluation.specs.Tree.{Nodes}
 use Rattle.liquid_lib.specs.Headline.{RendersSource, no_template, ran_out}
 use Rattle.liquid_engine.proofs.Joined.{memory_of}

@@ -12,20 +12,23 @@ mod source;
 pub mod stdlib;
 
 pub use liquid_core::{
-    Error, ErrorKind, Filter, HostFilters, Location, NamedFilters, Object, Origin, Result, State,
-    Value, ValueCow,
+    Error, ErrorKind, Expression, Filter, HostFilters, Location, Missing, NamedFilters, Object,
+    Origin, Result, State, Value, ValueCow, Variable,
 };
 pub use liquid_engine::{
     Counted, CountedWrite, DEFAULT_DEPTH, LimitReached, Limited, LimitedPage, Limits, Page,
-    Renderable, Runtime, RuntimeBuilder, Surroundings, render_hosted_page, render_page,
-    render_page_within,
+    Renderable, RunSetting, Runtime, RuntimeBuilder, Surroundings, page_laws, render_hosted_page,
+    render_page, render_page_by, render_page_within,
 };
 pub use liquid_filters::FilterKind;
-pub use liquid_language::Language;
+pub use liquid_language::{
+    BlockReflection, HostCall, Language, NameRefusal, STANDARD_FILTERS, TagError, TagReflection,
+    language,
+};
 pub use liquid_meaning::{
-    isolation_laws, loop_laws, reading_laws, run_laws, worked_names, worked_runs, worked_uses,
+    isolation_laws, loop_laws, missing_laws, partial_laws, reading_laws, run_laws, worked_names,
+    worked_runs, worked_uses,
 };
 pub use liquid_parser::{parse, parse_with_source};
-pub use liquid_syntax::{Partials, Template};
-pub use liquid_tags::{BlockReflection, STANDARD_FILTERS, TagReflection, language};
+pub use liquid_syntax::{Partials, Reach, Template};
 pub use source::render_source;

@@ -9,7 +9,7 @@ pub use liquid_filters::stdlib::{
     Size, Slice, Sort, SortNatural, Split, Strip, StripHtml, StripNewlines, Times, Truncate,
     TruncateWords, Uniq, Upcase, UrlDecode, UrlEncode, Where,
 };
-pub use liquid_tags::stdlib::{
+pub use liquid_language::stdlib::{
     AssignTag, BreakTag, CaptureBlock, CaseBlock, CommentBlock, ContinueTag, CycleTag,
     DecrementTag, ForBlock, IfBlock, IfChangedBlock, IncludeTag, IncrementTag, RawBlock, RenderTag,
     TableRowBlock, UnlessBlock,

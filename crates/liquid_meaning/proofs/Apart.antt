@@ -7,9 +7,9 @@ use Rattle.liquid_model.specs.declared.error.ErrorKind.{ErrorKind}
 use Rattle.liquid_core.specs.Expression.{Expression}
 use Rattle.liquid_evaluation.specs.Tree.{Source, Bindings, Nodes, render}
 use Rattle.liquid_model.specs.Maps.{Map}
-use Rattle.liquid_core.specs.Environment.{Environment}
+use Rattle.liquid_core.specs.Environment.{Environment, own_environment}
 use Rattle.liquid_core.specs.declared.interrupt.Interrupt.{Interrupt}
-use Rattle.liquid_meaning.specs.Runs.{Nothing, Outcome, Run, done, evaluate, go_on, ◌>>=◌, apart}
+use Rattle.liquid_meaning.specs.Runs.{Nothing, Outcome, Run, done, evaluate, go_on, ◌>>=◌, ended_with, apart}
 use Rattle.liquid_meaning.specs.Effects.{if_none, unless_interrupted}
 use Rattle.liquid_meaning.specs.Loops.{until_break}
 use Rattle.liquid_meaning.specs.Meaning.{Setting, partial_name_text, render_apart, node_meaning, nodes_meaning, deeper_meaning, meaning}
@@ -83,7 +83,7 @@ record SameOf (e f : Environment) {A : Type 0} (o p : Outcome A) : Type 0 where
 record SameIn (e f : Environment) {A : Type 0} (m : Run A) : Type 0 where
   outcomes : SameOf e f (m e) (m f)
 
-module _ {e f : Environment} where
+module _ {e f : Environment} (alike : e.missing ≡ f.missing) where
   same_evaluate : {A : Type 0} (x : Environment → Result A ErrorKind) → x e ≡ x f → SameIn e f (evaluate x)
   unfolding evaluate
   same_evaluate x is = record { outcomes = record { text = refl; end = is; first = refl; second = refl } }
@@ -94,7 +94,14 @@ module _ {e f : Environment} where
 
   same_apart : {A : Type 0} (names : Map Datum) (m : Run A) → SameIn e f (apart names m)
   unfolding apart
-  same_apart names m = record { outcomes = record { text = refl; end = refl; first = refl; second = refl } }
+  same_apart names m = record {
+    outcomes = record {
+      text = ap (λ x. (m (own_environment x names)).text) alike;
+      end = ap (λ x. ended_with (m (own_environment x names)).environment.registers.interrupt (m (own_environment x names)).end) alike;
+      first = refl;
+      second = refl;
+    };
+  }
 
   same_bind : {A B : Type 0} {m : Run A} {k : A → Run B} → SameIn e f m → ((a : A) → SameIn e f (k a)) → SameIn e f (m >>= k)
   unfolding ◌>>=◌ go_on
@@ -129,8 +136,8 @@ module _ {e f : Environment} where
 
 pub render_sees_its_values : RenderSeesItsValues
 unfolding meaning
-render_sees_its_values setting depth x each bindings e f in_name in_items in_pairs =
-    let r = (same_render setting (deeper_meaning setting depth) x each bindings in_name in_items in_pairs).outcomes in
+render_sees_its_values setting depth x each bindings e f alike in_name in_items in_pairs =
+    let r = (same_render alike setting (deeper_meaning setting depth) x each bindings in_name in_items in_pairs).outcomes in
     let n = render x each bindings in
     let deeper = deeper_meaning setting depth in (
       ap (λ o. o.text) (alone setting deeper n e) ∙ (r.text ∙ ap (λ o. o.text) (sym (alone setting deeper n f))),

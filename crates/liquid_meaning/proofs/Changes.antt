@@ -38,7 +38,7 @@ module _ (N : Names) where
   as_cut : {A : Type 0} (m : Run A) → Isolated N m → (e : Environment) → IsAsCut m N e
   as_cut m im e =
       let r = im e (cut N e) (agree_on_cut N e) in
-      let s = im (cut N e) (cut N e) (record { local = λ n h. refl; assigned = λ n h. refl; counters = λ n h. refl; globals = λ n h. refl; registers = refl }) in
+      let s = im (cut N e) (cut N e) (record { local = λ n h. refl; assigned = λ n h. refl; counters = λ n h. refl; globals = λ n h. refl; registers = refl; missing = refl }) in
       record {
         text = r.text;
         end = r.end;

@@ -3,7 +3,7 @@ use Rattle.std.specs.Prelude.{ℕ}
 use mathlib.Core.Path.{refl}
 use Rattle.std.specs.Fmt.{digits}
 use Rattle.liquid_model.specs.Maps.{empty, insert, retain_keys, merged, listed}
-use Rattle.liquid_core.specs.Expressions.{value_of, path_of, all_required, needed_whole}
+use Rattle.liquid_core.specs.Expressions.{value_of, path_of, all_required, sought_whole, needed_whole}
 use Rattle.liquid_evaluation.specs.Calls.{applied}
 use Rattle.liquid_evaluation.specs.Tree.{Nodes}
 use Rattle.liquid_evaluation.specs.Evaluation.{chain_value, comparison_truth, atom_truth, all_true, truth_of, source_items, amount, selected_items, bound_values}
@@ -15,11 +15,12 @@ use Rattle.liquid_meaning.specs.Meaning.{Setting, has_equal, node_meaning, nodes
 use Rattle.liquid_meaning.specs.WorkedStores.{WorkedStores}
 use Rattle.liquid_meaning.specs.WorkedLoops.{WorkedLoops}
 use Rattle.liquid_meaning.specs.WorkedPartials.{WorkedPartials}
+use Rattle.liquid_meaning.specs.WorkedMissing.{WorkedMissing}
 use Rattle.liquid_meaning.specs.WorkedNames.{WorkedNames}
 
 -- to unfold this is to compute
 computed : Setting → ℕ → Nodes → Run Nothing
-unfolding empty insert retain_keys merged listed digits value_of path_of all_required needed_whole applied chain_value comparison_truth atom_truth all_true truth_of source_items amount selected_items bound_values done read_environment evaluate fault change write go_on ◌>>=◌ with_scope buffered apart unless_interrupted until_break for_all loop rows has_equal node_meaning nodes_meaning deeper_meaning meaning
+unfolding empty insert retain_keys merged listed digits value_of path_of all_required sought_whole needed_whole applied chain_value comparison_truth atom_truth all_true truth_of source_items amount selected_items bound_values done read_environment evaluate fault change write go_on ◌>>=◌ with_scope buffered apart unless_interrupted until_break for_all loop rows has_equal node_meaning nodes_meaning deeper_meaning meaning
 computed = meaning
 
 pub worked_stores : WorkedStores
@@ -113,6 +114,23 @@ worked_partials = record {
   include_object = (refl, refl);
   later_key_wins = (refl, refl);
   no_include_object = (refl, refl);
+}
+
+pub worked_missing : WorkedMissing
+unfolding computed
+worked_missing = record {
+  nothing_written = (refl, refl);
+  equals_nil = (refl, refl);
+  other_than_a_number = (refl, refl);
+  nothing_contains_it = (refl, refl);
+  nil_has_nothing = (refl, refl);
+  missing_limit = (refl, refl);
+  nil_limit = (refl, refl);
+  missing_end = (refl, refl);
+  nil_end = (refl, refl);
+  nil_as_a_list = λ kind. (refl, refl);
+  nil_as_zero = λ kind. (refl, refl);
+  nil_of_a_host = (refl, refl);
 }
 
 pub worked_names : WorkedNames

@@ -13,19 +13,19 @@ use Rattle.liquid_model.specs.declared.error.ErrorKind.TheVariants.{InvalidInput
 use Rattle.liquid_model.specs.Fallible.{◌>>=◌}
 use Rattle.liquid_core.specs.Expression.{Expression, literal, variable}
 use Rattle.liquid_core.specs.Environment.{Environment}
-use Rattle.liquid_filter_base.specs.Arguments.{first_of}
-use Rattle.liquid_filter_base.specs.FilterAnswers.{FilterAnswer}
+use Rattle.liquid_model.specs.Arguments.{first_of}
+use Rattle.liquid_model.specs.FilterAnswers.{FilterAnswer}
 use Rattle.liquid_filters.specs.Kinds.{kind_answer}
 use Rattle.liquid_filters.specs.declared.kind.FilterKind.{FilterKind}
 use Rattle.liquid_filters.specs.declared.kind.FilterKind.TheVariants.{Sort, SortNatural, Where, Reverse, Map, Concat, First, Last, Size, Compact, Default}
 use Rattle.liquid_evaluation.specs.Tree.{Filter, existing, hosted}
 use Rattle.liquid_evaluation.specs.Evaluation.{answers_with}
 use Rattle.liquid_core.specs.Expressions.{value_of, all_required}
-use Rattle.liquid_list_filters.specs.Sequences.{list, sequence, all_maps, property, of_list}
-use Rattle.liquid_list_filters.specs.Ends.{or_nil, first_answer, last_answer}
-use Rattle.liquid_list_filters.specs.Keeping.{is_wanted, where_of, where_by, where_answer, mapped_property, map_answer, compact_by, compact_answer}
-use Rattle.liquid_list_filters.specs.Rows.{reverse_answer, after_list, concat_by, concat_answer}
-use Rattle.liquid_list_filters.specs.Sorting.{insert_in_order, sorted, Key, key_order, sort_by, sort_key, key_of, lower_case, natural_key_of, sort_named, sort_answer, sort_natural_answer}
+use Rattle.liquid_filters.specs.Sequences.{list, sequence, all_maps, property, of_list}
+use Rattle.liquid_filters.specs.Ends.{or_nil, first_answer, last_answer}
+use Rattle.liquid_filters.specs.Keeping.{is_wanted, where_of, where_by, where_answer, mapped_property, map_answer, compact_by, compact_answer}
+use Rattle.liquid_filters.specs.Rows.{reverse_answer, after_list, concat_by, concat_answer}
+use Rattle.liquid_filters.specs.Sorting.{insert_in_order, sorted, Key, key_order, sort_by, sort_key, key_of, lower_case, natural_key_of, sort_named, sort_answer, sort_natural_answer}
 use Rattle.liquid_model.specs.Uses.{Use, nothing, everything, parts, ItemUse, uncounted, up_to, shape_of, Pairwise, Alike, AlikeItems, present, use_of_each, join, items_wanted}
 use Rattle.liquid_meaning.specs.Reads.{Both}
 use Rattle.liquid_meaning.specs.FilterNeeds.{filter_needs, items_each, with_field, items_or_itself, one_field, literal_first_argument, by_property, kind_needs, KnownRespected}

@@ -5,9 +5,9 @@ use Rattle.liquid_model.specs.Texts.{Text}
 use Rattle.liquid_model.specs.Data.{Datum, array, object, Items, Pairs, no_pairs, pair, is_default_datum, no_items, item}
 use Rattle.liquid_model.specs.Lists.{list_of, pair_lists}
 use Rattle.liquid_model.specs.declared.error.ErrorKind.TheVariants.{InvalidInput}
-use Rattle.liquid_list_filters.specs.Sequences.{list, all_maps, property, of_list}
-use Rattle.liquid_list_filters.specs.Keeping.{is_nil, compact, is_given, compact_of, compact_by}
-use Rattle.liquid_text_filters.specs.Default.{first_item_or_nil, default_answer}
+use Rattle.liquid_filters.specs.Sequences.{list, all_maps, property, of_list}
+use Rattle.liquid_filters.specs.Keeping.{is_nil, compact, is_given, compact_of, compact_by}
+use Rattle.liquid_filters.specs.Default.{first_item_or_nil, default_answer}
 use Rattle.liquid_model.specs.Uses.{Use, nothing, shape_of, Alike, present, join, items_wanted, there}
 use Rattle.liquid_meaning.specs.Reads.{Both}
 use Rattle.liquid_meaning.specs.FilterNeeds.{items_each, with_field}

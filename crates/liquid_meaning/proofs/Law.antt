@@ -51,7 +51,7 @@ run_isolated setting depth nodes =
 
 module _ (N : Names) where
   pub agree_on_cut : (e : Environment) → AgreeOn N e (cut N e)
-  agree_on_cut e = record { local = agree_cut N e.local; assigned = agree_cut N e.assigned; counters = agree_cut N e.counters; globals = agree_cut N e.globals; registers = refl }
+  agree_on_cut e = record { local = agree_cut N e.local; assigned = agree_cut N e.assigned; counters = agree_cut N e.counters; globals = agree_cut N e.globals; registers = refl; missing = refl }
 
   pub agree_on : (e f : Environment) → Agree N e f → AgreeOn N e f
   agree_on e f h = record {
@@ -60,6 +60,7 @@ module _ (N : Names) where
     counters = agree_of_cut N _ _ (ap (λ g. g.counters) h);
     globals = agree_of_cut N _ _ (ap (λ g. g.globals) h);
     registers = ap (λ g. g.registers) h;
+    missing = ap (λ g. g.missing) h;
   }
 
   pub same_cuts : (e f : Environment) → AgreeOn N e f → Agree N e f
@@ -69,6 +70,7 @@ module _ (N : Names) where
     counters = same_cut N e.counters f.counters h.counters i;
     globals = same_cut N e.globals f.globals h.globals i;
     registers = h.registers i;
+    missing = h.missing i;
   }
 
   -- an environment is what another holds under the names of N, with what was kept of others put back
@@ -79,6 +81,7 @@ module _ (N : Names) where
     counters = put_back_same N e.counters h.counters g.counters agree.counters kept.counters i;
     globals = put_back_same N e.globals h.globals g.globals agree.globals (λ name t j. kept.globals j name) i;
     registers = agree.registers i;
+    missing = agree.missing i;
   }
 
   isolated_law : {A : Type 0} (m : Run A) → Isolated N m → IsIsolated m N
@@ -90,4 +93,4 @@ pub isolation : Isolation
 isolation setting depth nodes = isolated_law _ _ (run_isolated setting depth nodes)
 
 pub others_kept : OthersKept
-others_kept setting depth nodes e = (run_isolated setting depth nodes e e (record { local = λ n h. refl; assigned = λ n h. refl; counters = λ n h. refl; globals = λ n h. refl; registers = refl })).kept
+others_kept setting depth nodes e = (run_isolated setting depth nodes e e (record { local = λ n h. refl; assigned = λ n h. refl; counters = λ n h. refl; globals = λ n h. refl; registers = refl; missing = refl })).kept

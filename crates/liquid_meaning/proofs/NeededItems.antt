@@ -9,8 +9,8 @@ use Rattle.liquid_model.specs.Find.{counted, value_at, or_size}
 use Rattle.liquid_model.specs.Lists.{list_of, pair_lists}
 use Rattle.liquid_model.specs.View.{items_of}
 use Rattle.liquid_model.specs.declared.error.ErrorKind.{ErrorKind}
-use Rattle.liquid_list_filters.specs.Sequences.{list, is_map, all_maps, property}
-use Rattle.liquid_text_filters.specs.Size.{size_of}
+use Rattle.liquid_filters.specs.Sequences.{list, is_map, all_maps, property}
+use Rattle.liquid_filters.specs.Size.{size_of}
 use Rattle.liquid_model.specs.Uses.{Use, shape_of, member, Alike, items_wanted}
 use Rattle.liquid_meaning.specs.Reads.{Both}
 use Rattle.liquid_meaning.specs.FilterNeeds.{items_each, with_field, one_field}

@@ -31,19 +31,19 @@ module _ (N : Names) where
 
   isolated_assign : (name : Text) (d : Datum) → T (N name) → Isolated N (change (assigned_to name d))
   isolated_assign name d inside = isolated_change _
-      (λ e f h. record { local = h.local; assigned = agree_insert N _ _ name d h.assigned; counters = h.counters; globals = h.globals; registers = h.registers })
-      (λ e. record { local = refl; globals = refl; assigned = outside_insert N _ name d inside; counters = λ q t. refl })
+      (λ e f h. record { local = h.local; assigned = agree_insert N _ _ name d h.assigned; counters = h.counters; globals = h.globals; registers = h.registers; missing = h.missing })
+      (λ e. record { local = refl; globals = refl; missing = refl; assigned = outside_insert N _ name d inside; counters = λ q t. refl })
 
   isolated_count : (name : Text) (n : ℤ) → T (N name) → Isolated N (change (counted_to name n))
   isolated_count name n inside = isolated_change _
-      (λ e f h. record { local = h.local; assigned = h.assigned; counters = agree_insert N _ _ name _ h.counters; globals = h.globals; registers = h.registers })
-      (λ e. record { local = refl; globals = refl; assigned = λ q t. refl; counters = outside_insert N _ name _ inside })
+      (λ e f h. record { local = h.local; assigned = h.assigned; counters = agree_insert N _ _ name _ h.counters; globals = h.globals; registers = h.registers; missing = h.missing })
+      (λ e. record { local = refl; globals = refl; missing = refl; assigned = λ q t. refl; counters = outside_insert N _ name _ inside })
 
   -- a change of the registers alone
   isolated_registers : (x : Environment → Environment) (r : Registers → Registers) → ((e : Environment) → x e ≡ record e { registers = r e.registers }) → Isolated N (change x)
   isolated_registers x r is = isolated_change x
-      (λ e f h. subst (λ g. AgreeOn N g (x f)) (sym (is e)) (subst (λ g. AgreeOn N (record e { registers = r e.registers }) g) (sym (is f)) (record { local = h.local; assigned = h.assigned; counters = h.counters; globals = h.globals; registers = ap r h.registers })))
-      (λ e. subst (λ g. KeepsOthers N e g) (sym (is e)) (record { local = refl; globals = refl; assigned = λ q t. refl; counters = λ q t. refl }))
+      (λ e f h. subst (λ g. AgreeOn N g (x f)) (sym (is e)) (subst (λ g. AgreeOn N (record e { registers = r e.registers }) g) (sym (is f)) (record { local = h.local; assigned = h.assigned; counters = h.counters; globals = h.globals; registers = ap r h.registers; missing = h.missing })))
+      (λ e. subst (λ g. KeepsOthers N e g) (sym (is e)) (record { local = refl; globals = refl; missing = refl; assigned = λ q t. refl; counters = λ q t. refl }))
 
   isolated_interrupt : (i : Option Interrupt) → Isolated N (change (interrupted_by i))
   isolated_interrupt i = isolated_registers _ (λ r. record r { interrupt = i }) (λ e. refl)

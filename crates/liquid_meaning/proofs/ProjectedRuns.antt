@@ -9,13 +9,13 @@ use Rattle.liquid_meaning.proofs.AlikeMaps.{alike_empty}
 use Rattle.liquid_meaning.proofs.Reading.{reads_alone}
 
 pub projected_run : ProjectedRun
-projected_run needs U setting depth nodes ps respects h =
-    let r = reads_alone needs U setting depth nodes respects h (over_data ps) (over_data (projected_pairs U false ps))
-    (record { local = alike_empty U; assigned = alike_empty U; counters = alike_empty U; globals = pairs_projected ps U false; registers = refl }) in
+projected_run needs U setting depth nodes missing ps respects h =
+    let r = reads_alone needs U setting depth nodes respects h (over_data missing ps) (over_data missing (projected_pairs U false ps))
+    (record { local = alike_empty U; assigned = alike_empty U; counters = alike_empty U; globals = pairs_projected ps U false; registers = refl; missing = refl }) in
     (r.text, r.end)
 
 pub same_sight : SameSight
-same_sight needs U setting depth nodes ps qs respects h e =
-    let r = projected_run needs U setting depth nodes ps respects h in
-    let s = projected_run needs U setting depth nodes qs respects h in
-    (r.0 ∙ (ap (λ x. (meaning setting depth nodes (over_data x)).text) e ∙ sym s.0), r.1 ∙ (ap (λ x. (meaning setting depth nodes (over_data x)).end) e ∙ sym s.1))
+same_sight needs U setting depth nodes missing ps qs respects h e =
+    let r = projected_run needs U setting depth nodes missing ps respects h in
+    let s = projected_run needs U setting depth nodes missing qs respects h in
+    (r.0 ∙ (ap (λ x. (meaning setting depth nodes (over_data missing x)).text) e ∙ sym s.0), r.1 ∙ (ap (λ x. (meaning setting depth nodes (over_data missing x)).end) e ∙ sym s.1))

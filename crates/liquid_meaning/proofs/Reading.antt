@@ -36,15 +36,15 @@ module _ (U : Uses) where
   -- ---- the changes
 
   tied_assign : (name : Text) (d e : Datum) → Alike (U name) (Some d) (Some e) → Tied U Same (change (assigned_to name d)) (change (assigned_to name e))
-  tied_assign name d e a = tied_change _ _ (λ g h k. record { local = k.local; assigned = alike_insert U g.assigned h.assigned name d e k.assigned a; counters = k.counters; globals = k.globals; registers = k.registers })
+  tied_assign name d e a = tied_change _ _ (λ g h k. record { local = k.local; assigned = alike_insert U g.assigned h.assigned name d e k.assigned a; counters = k.counters; globals = k.globals; registers = k.registers; missing = k.missing })
 
   tied_count : (name : Text) (n : ℤ) → Tied U Same (change (counted_to name n)) (change (counted_to name n))
-  tied_count name n = tied_change _ _ (λ g h k. record { local = k.local; assigned = k.assigned; counters = alike_insert U g.counters h.counters name (number n) (number n) k.counters (alike_same (U name) _); globals = k.globals; registers = k.registers })
+  tied_count name n = tied_change _ _ (λ g h k. record { local = k.local; assigned = k.assigned; counters = alike_insert U g.counters h.counters name (number n) (number n) k.counters (alike_same (U name) _); globals = k.globals; registers = k.registers; missing = k.missing })
 
   -- a change of the registers alone
   tied_registers : (x : Environment → Environment) (r : Registers → Registers) → ((e : Environment) → x e ≡ record e { registers = r e.registers }) → Tied U Same (change x) (change x)
   tied_registers x r is = tied_change x x
-      (λ e f h. subst₂ (AlikeIn U) (sym (is e)) (sym (is f)) (record { local = h.local; assigned = h.assigned; counters = h.counters; globals = h.globals; registers = ap r h.registers }))
+      (λ e f h. subst₂ (AlikeIn U) (sym (is e)) (sym (is f)) (record { local = h.local; assigned = h.assigned; counters = h.counters; globals = h.globals; registers = ap r h.registers; missing = h.missing }))
 
   tied_interrupt : (i : Option Interrupt) → Tied U Same (change (interrupted_by i)) (change (interrupted_by i))
   tied_interrupt i = tied_registers _ (λ r. record r { interrupt = i }) (λ e. refl)

@@ -4,17 +4,20 @@ use mathlib.Core.Path.{refl, ap, subst}
 use Rattle.liquid_model.specs.Texts.{Text}
 use Rattle.liquid_model.specs.Data.{Datum, nil, truth, number, text, array, object}
 use Rattle.liquid_model.specs.declared.error.ErrorKind.{ErrorKind}
-use Rattle.liquid_model.specs.declared.error.ErrorKind.TheVariants.{UnknownVariable, Unsupported}
+use Rattle.liquid_model.specs.declared.error.ErrorKind.TheVariants.{UnknownVariable, UnexpectedValue, Unsupported}
 use Rattle.liquid_core.specs.declared.interrupt.Interrupt.{Interrupt}
 use Rattle.liquid_core.specs.Expression.{Expression}
-use Rattle.liquid_core.specs.Expressions.{required, all_required, needed_whole, value_of}
+use Rattle.liquid_core.specs.Expressions.{forgiven, if_missing, nil_if_missing, none_if_missing, required, sought, all_required, whole_found, sought_whole, needed_whole, value_of}
+use Rattle.liquid_core.specs.declared.missing_value.Missing.{Missing}
+use Rattle.liquid_core.specs.declared.missing_value.Missing.TheVariants.{IsFault, IsNil}
+use Rattle.liquid_model.specs.Whole.{whole}
 use Rattle.liquid_model.specs.Maps.{Map, merged}
 use Rattle.liquid_core.specs.Environment.{Environment}
 use Rattle.liquid_evaluation.specs.declared.comparison.ComparisonOperator.{ComparisonOperator}
 use Rattle.liquid_evaluation.specs.declared.comparison.ComparisonOperator.TheVariants.{Equals, NotEquals, LessThan, GreaterThan, LessThanEquals, GreaterThanEquals, Contains}
 use Rattle.liquid_evaluation.specs.Calls.{applied}
-use Rattle.liquid_evaluation.specs.Tree.{Filter, FilterCall, Chain, Atom, bare, compared, Condition, Source, each_of, counted, Window, Bindings, Node, plain, raw, comment, output, assign, increment, decrement, break_loop, continue_loop, cycle, if_true, unless, case_of, for_each, tablerow, capture, ifchanged, include, jekyll_include, render, Nodes, no_nodes, node, Whens, no_whens, when}
-use Rattle.liquid_evaluation.specs.Evaluation.{FilterAnswers, entry_value, calls_by, chain_value, contains, comparison_truth, atom_truth, all_true, truth_of, value_items, not_too_long, source_items, amount, selected_items, bound_values}
+use Rattle.liquid_evaluation.specs.Tree.{Filter, existing, hosted, FilterCall, Chain, Atom, bare, compared, Condition, Source, each_of, counted, Window, Bindings, Node, plain, raw, comment, output, assign, increment, decrement, break_loop, continue_loop, cycle, if_true, unless, case_of, for_each, tablerow, capture, ifchanged, include, jekyll_include, render, Nodes, no_nodes, node, Whens, no_whens, when}
+use Rattle.liquid_evaluation.specs.Evaluation.{FilterAnswers, answers_in, entry_value, calls_by, chain_value, contains, comparison_truth, truth_of_found, atom_truth, all_true, truth_of, value_items, not_too_long, source_items, amount, selected_items, bound_values}
 use Rattle.liquid_meaning.specs.Runs.{Nothing, Run, done, read_environment, evaluate, fault, change, write, go_on, ◌>>=◌, with_scope, ended_with, buffered, apart}
 use Rattle.liquid_meaning.specs.Effects.{take_interrupt, if_none, unless_interrupted}
 use Rattle.liquid_meaning.specs.Loops.{until_break, for_all, if_empty, needs_columns, loop, rows}
@@ -29,8 +32,7 @@ use Rattle.liquid_model.specs.Fallible as fallible
 use Rattle.liquid_model.specs.ErrorKinds.{number_of}
 use Rattle.liquid_core.specs.Hosts.{no_host}
 use Rattle.liquid_evaluation.specs.Evaluation.{answers_with}
-use Rattle.liquid_evaluation.specs.Tree.{existing, hosted}
-use Rattle.liquid_filter_base.specs.FilterAnswers.{FilterAnswer}
+use Rattle.liquid_model.specs.FilterAnswers.{FilterAnswer}
 use Rattle.liquid_meaning.specs.Laws.{EndsWithHost, KindsOfRuns, KindsOfOwnRuns, KindsWithHost}
 
 -- ---- by kinds up to a limit, among which are all that a run has without filters of a host
@@ -62,12 +64,46 @@ module _ (limit : ℕ) (least : (kind : ErrorKind) → T (is_run_kind kind) → 
 
   -- ---- what is evaluated
 
+  ended_forgiven : {A : Type 0} (kind : ErrorKind) (a : A) (missing : Missing) → T (is_run_kind kind) → Ended (forgiven kind a missing)
+  ended_forgiven kind a IsFault ok = ended_err kind ok
+  ended_forgiven kind a IsNil ok = ended_ok a
+
+  ended_missing : {A : Type 0} (a : A) (missing : Missing) → Ended (if_missing a missing)
+  ended_missing a missing = ended_forgiven UnknownVariable a missing tt
+
+  ended_or_nil : (missing : Missing) (o : Option Datum) → Ended (nil_if_missing missing o)
+  ended_or_nil missing (Some d) = ended_ok d
+  ended_or_nil missing None = ended_missing nil missing
+
+  ended_or_none : (missing : Missing) (o : Option Datum) → Ended (none_if_missing missing o)
+  ended_or_none missing (Some d) = ended_ok (Some d)
+  ended_or_none missing None = ended_missing None missing
+
   ended_required : (x : Expression) (e : Environment) → Ended (required x e)
-  ended_required x e = ended_ok_or (value_of x e) UnknownVariable tt
+  ended_required x e = ended_or_nil e.missing (value_of x e)
+
+  ended_sought : (x : Expression) (e : Environment) → Ended (sought x e)
+  ended_sought x e = ended_or_none e.missing (value_of x e)
+
+  ended_whole_is : (d : Datum) → Ended (fallible.◌>>=◌ (ok_or (whole d) UnexpectedValue) (λ n. Ok (Some n)))
+  ended_whole_is d = ended_then (ended_ok_or (whole d) _ tt) (λ n. ended_ok _)
+
+  ended_whole_found : (missing : Missing) (o : Option Datum) → Ended (whole_found missing o)
+  ended_whole_found missing None = ended_ok None
+  ended_whole_found missing (Some nil) = ended_forgiven UnexpectedValue None missing tt
+  ended_whole_found missing (Some (truth b)) = ended_whole_is (truth b)
+  ended_whole_found missing (Some (number z)) = ended_whole_is (number z)
+  ended_whole_found missing (Some (text s)) = ended_whole_is (text s)
+  ended_whole_found missing (Some (array ds)) = ended_whole_is (array ds)
+  ended_whole_found missing (Some (object ps)) = ended_whole_is (object ps)
+
+  ended_sought_whole : (x : Expression) (e : Environment) → Ended (sought_whole x e)
+  unfolding sought_whole
+  ended_sought_whole x e = ended_then (ended_sought x e) (ended_whole_found e.missing)
 
   ended_whole : (x : Expression) (e : Environment) → Ended (needed_whole x e)
   unfolding needed_whole
-  ended_whole x e = ended_then (ended_required x e) (λ d. ended_ok_or _ _ tt)
+  ended_whole x e = ended_then (ended_sought_whole x e) (λ n. ended_ok _)
 
   ended_all_required : (xs : List Expression) (e : Environment) → Ended (all_required xs e)
   unfolding all_required
@@ -79,37 +115,53 @@ module _ (limit : ℕ) (least : (kind : ErrorKind) → T (is_run_kind kind) → 
   ended_calls answers i [] d e = ended_ok d
   ended_calls answers i (call ∷ calls) d e = ended_then (ended_all_required call.arguments e) (λ ds. ended_then (i call.filter d ds) (λ answer. ended_calls answers i calls answer e))
 
-  ended_entry : (o : Option Datum) (calls : List FilterCall) → Ended (entry_value o calls)
-  ended_entry (Some d) calls = ended_ok d
-  ended_entry None [] = ended_err UnknownVariable tt
-  ended_entry None (call ∷ calls) = ended_ok nil
+  ended_answers : (missing : Missing) (answers : FilterAnswers) → ((filter : Filter) (d : Datum) (ds : List Datum) → Ended (answers filter d ds)) → (filter : Filter) (d : Datum) (ds : List Datum) → Ended (answers_in missing answers filter d ds)
+  ended_answers IsFault answers i filter d ds = i filter d ds
+  ended_answers IsNil answers i (hosted name) d ds = i (hosted name) d ds
+  ended_answers IsNil answers i (existing kind) nil ds = ended_cond _ (ended_cond _ (i (existing kind) _ ds) (i (existing kind) _ ds)) (i (existing kind) nil ds)
+  ended_answers IsNil answers i (existing kind) (truth b) ds = i (existing kind) _ ds
+  ended_answers IsNil answers i (existing kind) (number z) ds = i (existing kind) _ ds
+  ended_answers IsNil answers i (existing kind) (text s) ds = i (existing kind) _ ds
+  ended_answers IsNil answers i (existing kind) (array items) ds = i (existing kind) _ ds
+  ended_answers IsNil answers i (existing kind) (object ps) ds = i (existing kind) _ ds
+
+  ended_entry : (missing : Missing) (o : Option Datum) (calls : List FilterCall) → Ended (entry_value missing o calls)
+  ended_entry missing (Some d) calls = ended_ok d
+  ended_entry missing None [] = ended_missing nil missing
+  ended_entry missing None (call ∷ calls) = ended_ok nil
 
   ended_chain : (answers : FilterAnswers) → ((filter : Filter) (d : Datum) (ds : List Datum) → Ended (answers filter d ds)) → (chain : Chain) (e : Environment) → Ended (chain_value answers chain e)
   unfolding chain_value
-  ended_chain answers i chain e = ended_then (ended_entry (value_of chain.entry e) chain.filters) (λ d. ended_calls answers i chain.filters d e)
+  ended_chain answers i chain e = ended_then (ended_entry e.missing (value_of chain.entry e) chain.filters) (λ d. ended_calls (answers_in e.missing answers) (ended_answers e.missing answers i) chain.filters d e)
 
-  ended_contains : (c d : Datum) → Ended (contains c d)
-  ended_contains nil d = ended_err _ tt
-  ended_contains (truth b) d = ended_ok _
-  ended_contains (number z) d = ended_ok _
-  ended_contains (text s) d = ended_ok _
-  ended_contains (array ds) d = ended_ok _
-  ended_contains (object ps) d = ended_ok _
+  ended_contains : (missing : Missing) (c d : Datum) → Ended (contains missing c d)
+  ended_contains missing nil d = ended_forgiven UnexpectedValue false missing tt
+  ended_contains missing (truth b) d = ended_ok _
+  ended_contains missing (number z) d = ended_ok _
+  ended_contains missing (text s) d = ended_ok _
+  ended_contains missing (array ds) d = ended_ok _
+  ended_contains missing (object ps) d = ended_ok _
 
-  ended_comparison : (operator : ComparisonOperator) (l r : Datum) → Ended (comparison_truth operator l r)
+  ended_comparison : (missing : Missing) (operator : ComparisonOperator) (l r : Datum) → Ended (comparison_truth missing operator l r)
   unfolding comparison_truth
-  ended_comparison Equals l r = ended_ok _
-  ended_comparison NotEquals l r = ended_ok _
-  ended_comparison LessThan l r = ended_ok _
-  ended_comparison GreaterThan l r = ended_ok _
-  ended_comparison LessThanEquals l r = ended_ok _
-  ended_comparison GreaterThanEquals l r = ended_ok _
-  ended_comparison Contains l r = ended_contains l r
+  ended_comparison missing Equals l r = ended_ok _
+  ended_comparison missing NotEquals l r = ended_ok _
+  ended_comparison missing LessThan l r = ended_ok _
+  ended_comparison missing GreaterThan l r = ended_ok _
+  ended_comparison missing LessThanEquals l r = ended_ok _
+  ended_comparison missing GreaterThanEquals l r = ended_ok _
+  ended_comparison missing Contains l r = ended_contains missing l r
+
+  ended_found : (missing : Missing) (operator : ComparisonOperator) (l r : Option Datum) → Ended (truth_of_found missing operator l r)
+  ended_found missing operator (Some l) (Some r) = ended_comparison missing operator l r
+  ended_found missing operator (Some l) None = ended_ok _
+  ended_found missing operator None (Some r) = ended_ok _
+  ended_found missing operator None None = ended_ok _
 
   ended_atom : (atom : Atom) (e : Environment) → Ended (atom_truth atom e)
   unfolding atom_truth
   ended_atom (bare x) e = ended_ok _
-  ended_atom (compared x operator y) e = ended_then (ended_required x e) (λ l. ended_then (ended_required y e) (λ r. ended_comparison operator l r))
+  ended_atom (compared x operator y) e = ended_then (ended_sought x e) (λ l. ended_then (ended_sought y e) (λ r. ended_found e.missing operator l r))
 
   ended_all_true : (atoms : List Atom) (e : Environment) → Ended (all_true atoms e)
   unfolding all_true
@@ -140,7 +192,7 @@ module _ (limit : ℕ) (least : (kind : ErrorKind) → T (is_run_kind kind) → 
   ended_amount : (x : Option Expression) (e : Environment) → Ended (amount x e)
   unfolding amount
   ended_amount None e = ended_ok None
-  ended_amount (Some x) e = ended_then (ended_whole x e) (λ n. ended_ok _)
+  ended_amount (Some x) e = ended_sought_whole x e
 
   ended_asked : (window : Window) (ds : List Datum) (e : Environment) → Ended (selected_items window ds e)
   unfolding selected_items

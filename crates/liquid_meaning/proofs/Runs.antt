@@ -5,20 +5,22 @@ use Rattle.liquid_model.specs.Texts.{Text}
 use Rattle.liquid_model.specs.Data.{Datum}
 use Rattle.liquid_model.specs.declared.error.ErrorKind.{ErrorKind}
 use Rattle.liquid_model.specs.Maps.{Map, merged}
-use Rattle.liquid_core.specs.Environment.{Names, Environment}
+use Rattle.liquid_core.specs.Environment.{Names, Environment, own_environment}
 use Rattle.liquid_core.specs.declared.interrupt.Interrupt.{Interrupt}
 use Rattle.liquid_meaning.specs.Runs.{Nothing, Outcome, Run, done, read_environment, evaluate, fault, change, write, go_on, ◌>>=◌, with_scope, ended_with, buffered, apart}
 use Rattle.liquid_meaning.specs.Loops.{until_break, for_all}
 use Rattle.liquid_meaning.specs.Isolation.{KeepsOthers}
 use Rattle.liquid_meaning.proofs.Maps.{AgreeAt, agree_merged}
 
--- e and f hold the same under the names of N, and have the same registers
+-- e and f hold the same under the names of N, and have the same registers; a missing value is the
+-- same in both
 pub record AgreeOn (N : Names) (e f : Environment) : Type 0 where
   pub local : AgreeAt N e.local f.local
   pub assigned : AgreeAt N e.assigned f.assigned
   pub counters : AgreeAt N e.counters f.counters
   pub globals : AgreeAt N e.globals f.globals
   pub registers : e.registers ≡ f.registers
+  pub missing : e.missing ≡ f.missing
 
 -- o, which m gave from e, and p
 pub record Alike {A : Type 0} (N : Names) (e : Environment) (o p : Outcome A) : Type 0 where
@@ -32,10 +34,10 @@ Isolated N m = (e f : Environment) → AgreeOn N e f → Alike N e (m e) (m f)
 
 module _ (N : Names) where
   pub kept_here : (e : Environment) → KeepsOthers N e e
-  kept_here e = record { local = refl; globals = refl; assigned = λ name h. refl; counters = λ name h. refl }
+  kept_here e = record { local = refl; globals = refl; missing = refl; assigned = λ name h. refl; counters = λ name h. refl }
 
   pub kept_on : {e f g : Environment} → KeepsOthers N e f → KeepsOthers N f g → KeepsOthers N e g
-  kept_on k l = record { local = l.local ∙ k.local; globals = l.globals ∙ k.globals; assigned = λ name h. l.assigned name h ∙ k.assigned name h; counters = λ name h. l.counters name h ∙ k.counters name h }
+  kept_on k l = record { local = l.local ∙ k.local; globals = l.globals ∙ k.globals; missing = l.missing ∙ k.missing; assigned = λ name h. l.assigned name h ∙ k.assigned name h; counters = λ name h. l.counters name h ∙ k.counters name h }
 
 module _ {N : Names} where
   pub isolated_done : {A : Type 0} (a : A) → Isolated N (done a)
@@ -83,12 +85,12 @@ module _ {N : Names} where
   pub isolated_with_scope : {A : Type 0} {m : Run A} (scope : Map Datum) → Isolated N m → Isolated N (with_scope scope m)
   unfolding with_scope
   isolated_with_scope scope im e f h =
-      let r = im (record e { local = merged scope e.local }) (record f { local = merged scope f.local }) (record { local = agree_merged N scope _ _ h.local; assigned = h.assigned; counters = h.counters; globals = h.globals; registers = h.registers }) in
+      let r = im (record e { local = merged scope e.local }) (record f { local = merged scope f.local }) (record { local = agree_merged N scope _ _ h.local; assigned = h.assigned; counters = h.counters; globals = h.globals; registers = h.registers; missing = h.missing }) in
       record {
         text = r.text;
         end = r.end;
-        agree = record { local = h.local; assigned = r.agree.assigned; counters = r.agree.counters; globals = r.agree.globals; registers = r.agree.registers };
-        kept = record { local = refl; globals = r.kept.globals; assigned = r.kept.assigned; counters = r.kept.counters };
+        agree = record { local = h.local; assigned = r.agree.assigned; counters = r.agree.counters; globals = r.agree.globals; registers = r.agree.registers; missing = r.agree.missing };
+        kept = record { local = refl; globals = r.kept.globals; missing = r.kept.missing; assigned = r.kept.assigned; counters = r.kept.counters };
       }
 
   pub isolated_buffered : {A : Type 0} {m : Run A} → Isolated N m → Isolated N (buffered m)
@@ -97,10 +99,15 @@ module _ {N : Names} where
       let r = im e f h in
       record { text = refl; end = λ i. ended_with (r.text i) (r.end i); agree = r.agree; kept = r.kept }
 
-  -- whatever m is: it sees nothing of the environment
+  -- whatever m is: it sees nothing of the environment but what a missing value is
   pub isolated_apart : {A : Type 0} (names : Map Datum) (m : Run A) → Isolated N (apart names m)
   unfolding apart
-  isolated_apart names m e f h = record { text = refl; end = refl; agree = h; kept = kept_here N e }
+  isolated_apart names m e f h = record {
+    text = ap (λ x. (m (own_environment x names)).text) h.missing;
+    end = ap (λ x. ended_with (m (own_environment x names)).environment.registers.interrupt (m (own_environment x names)).end) h.missing;
+    agree = h;
+    kept = kept_here N e;
+  }
 
   pub isolated_for_all : (one : ℕ → Datum → Run Nothing) → ((k : ℕ) (d : Datum) → Isolated N (one k d)) → (k : ℕ) (ds : List Datum) → Isolated N (for_all one k ds)
   unfolding for_all

@@ -1,27 +1,30 @@
 -- What is evaluated in two environments that are alike is alike in what is granted.
-use Rattle.std.specs.Prelude.{◌≡◌, ℤ, Bool, true, false, cond, ◌&&◌, T, List, [], ◌∷◌, Option, Some, None, Result, Ok, Err}
+use Rattle.std.specs.Prelude.{◌≡◌, ◌⊎◌, ℤ, Bool, true, false, cond, ◌&&◌, T, List, [], ◌∷◌, Option, Some, None, Result, Ok, Err}
 use Rattle.std.specs.Fmt.{signed_decimal}
 use mathlib.Core.Path.{refl, sym, ap, subst, subst₂, ◌∙◌}
-use Rattle.std.specs.Option.{option_and_then, ok_or, unwrap_or}
+use Rattle.std.proofs.Common.{inl, inr}
+use Rattle.std.specs.Option.{option_and_then, unwrap_or}
 use Rattle.liquid_model.specs.Texts.{Text}
 use Rattle.liquid_model.specs.Data.{Datum, nil, truth, number, text, array, object, scalar, text_of}
 use Rattle.liquid_model.specs.Whole.{whole, fits}
 use Rattle.liquid_model.proofs.Compares.{number_text_is_read}
 use Rattle.liquid_model.specs.declared.error.ErrorKind.{ErrorKind}
-use Rattle.liquid_model.specs.declared.error.ErrorKind.TheVariants.{UnknownVariable}
 use Rattle.liquid_model.specs.Find.{find, step_into}
 use Rattle.liquid_model.specs.Find as finding
 use Rattle.liquid_core.specs.Expression.{Expression, literal, variable, Steps, no_steps, step}
 use Rattle.liquid_core.specs.Environment.{Environment, lookup}
-use Rattle.liquid_core.specs.Expressions.{value_of, path_of, required, all_required, needed_whole}
+use Rattle.liquid_core.specs.Expressions.{value_of, path_of, if_missing, nil_if_missing, none_if_missing, required, sought, all_required, whole_found, sought_whole, needed_whole}
+use Rattle.liquid_core.specs.declared.missing_value.Missing.{Missing}
+use Rattle.liquid_core.specs.declared.missing_value.Missing.TheVariants.{IsFault, IsNil}
 use Rattle.liquid_model.specs.Fallible.{◌>>=◌}
 use Rattle.liquid_evaluation.specs.Calls.{applied}
-use Rattle.liquid_evaluation.specs.Tree.{FilterCall, Chain, Atom, bare, compared, Condition, Bindings}
-use Rattle.liquid_evaluation.specs.Evaluation.{FilterAnswers, entry_value, calls_by, chain_value, bare_truth, atom_truth, all_true, truth_of, amount, bound_values}
-use Rattle.liquid_model.specs.Uses.{Use, everything, there, shape_of, member, Pairwise, Alike, use_at, is_everything, asks_whether}
+use Rattle.liquid_model.specs.FilterAnswers.{FilterAnswer}
+use Rattle.liquid_evaluation.specs.Tree.{Filter, existing, hosted, FilterCall, Chain, Atom, bare, compared, Condition, Bindings}
+use Rattle.liquid_evaluation.specs.Evaluation.{FilterAnswers, accepting_nil, answers_in, entry_value, calls_by, chain_value, truth_of_found, bare_truth, atom_truth, all_true, truth_of, amount, bound_values}
+use Rattle.liquid_model.specs.Uses.{Use, everything, there, shape, shape_of, member, Pairwise, Alike, use_at, is_everything, asks_whether, present}
 use Rattle.liquid_meaning.specs.Reading.{Uses, known_key, key, for_known_key, grants, grants_along, grants_all, grants_optional, grants_filters, Needs, use_before, grants_chain, use_beside, grants_compared, grants_atom, grants_atoms, grants_condition, grants_bindings}
 use Rattle.liquid_meaning.specs.Reads.{AlikeIn, Both, Respects}
-use Rattle.liquid_meaning.proofs.Comparisons.{beside_asks, Sides, sides_compare}
+use Rattle.liquid_meaning.proofs.Comparisons.{beside_asks, Sides, SidesFound, found_compare}
 use Rattle.liquid_model.proofs.Alike.{both_left, both_right, alike_same, alike_shape, alike_at, alike_included, alike_everything, present_asks, alike_present, alike_else}
 
 -- ---- results
@@ -56,6 +59,50 @@ same_then {x = x} {k = k} {l = l} e h = on x ∙ ap (λ z. z >>= l) e
     on : (z : Result _ ErrorKind) → (z >>= k) ≡ (z >>= l)
     on (Ok a) = h a
     on (Err kind) = refl
+
+-- ---- what is forgiven is seen by the shape of the input
+
+is_nil_or : (d : Datum) → (d ≡ nil) ⊎ (d ≡ nil → ⊥)
+is_nil_or nil = inl refl
+is_nil_or (truth b) = inr (λ h. cc)
+is_nil_or (number z) = inr (λ h. cc)
+is_nil_or (text s) = inr (λ h. cc)
+is_nil_or (array ds) = inr (λ h. cc)
+is_nil_or (object ps) = inr (λ h. cc)
+
+nil_by_shape : (d : Datum) → Some nil ≡ Some (shape d) → d ≡ nil
+nil_by_shape nil h = refl
+nil_by_shape (truth b) h = cc
+nil_by_shape (number z) h = cc
+nil_by_shape (text s) h = cc
+nil_by_shape (array ds) h = cc
+nil_by_shape (object ps) h = cc
+
+answered_alone : (answers : FilterAnswer) (arguments : List Datum) (d : Datum) → (d ≡ nil → ⊥) → accepting_nil answers d arguments ≡ answers d arguments
+answered_alone answers arguments nil other = absurd (other refl)
+answered_alone answers arguments (truth b) other = refl
+answered_alone answers arguments (number z) other = refl
+answered_alone answers arguments (text s) other = refl
+answered_alone answers arguments (array ds) other = refl
+answered_alone answers arguments (object ps) other = refl
+
+accepting_alike : (v : Use) (answers : FilterAnswer) (arguments : List Datum) (c d : Datum) → Some (shape c) ≡ Some (shape d)
+    → Both (λ a b. Alike v (Some a) (Some b)) (answers c arguments) (answers d arguments)
+    → Both (λ a b. Alike v (Some a) (Some b)) (accepting_nil answers c arguments) (accepting_nil answers d arguments)
+accepting_alike v answers arguments c d same b = on (is_nil_or c) (is_nil_or d)
+  where
+    on : (c ≡ nil) ⊎ (c ≡ nil → ⊥) → (d ≡ nil) ⊎ (d ≡ nil → ⊥) → Both (λ a b. Alike v (Some a) (Some b)) (accepting_nil answers c arguments) (accepting_nil answers d arguments)
+    on (inl i) (inl j) = both_equal (λ a b. Alike v (Some a) (Some b)) (λ a. alike_same v (Some a)) _ _ (ap (λ x. accepting_nil answers x arguments) (i ∙ sym j))
+    on (inl i) (inr j) = absurd (j (nil_by_shape d (ap (λ x. Some (shape x)) (sym i) ∙ same)))
+    on (inr i) (inl j) = absurd (i (nil_by_shape c (ap (λ x. Some (shape x)) (sym j) ∙ sym same)))
+    on (inr i) (inr j) = subst₂ (Both (λ a b. Alike v (Some a) (Some b))) (sym (answered_alone answers arguments c i)) (sym (answered_alone answers arguments d j)) b
+
+forgiven_alike : (v : Use) (m : Missing) (answers : FilterAnswers) (filter : Filter) (arguments : List Datum) (c d : Datum) → Some (shape c) ≡ Some (shape d)
+    → Both (λ a b. Alike v (Some a) (Some b)) (answers filter c arguments) (answers filter d arguments)
+    → Both (λ a b. Alike v (Some a) (Some b)) (answers_in m answers filter c arguments) (answers_in m answers filter d arguments)
+forgiven_alike v IsFault answers filter arguments c d same b = b
+forgiven_alike v IsNil answers (existing kind) arguments c d same b = accepting_alike v (answers (existing kind)) arguments c d same b
+forgiven_alike v IsNil answers (hosted name) arguments c d same b = b
 
 -- ---- steps
 
@@ -162,76 +209,109 @@ module _ (U : Uses) (e f : Environment) (agree : AlikeIn U e f) where
         any_step x more (λ u v o p a h. steps_alike more u v o p a h) (λ h. value_alike x everything h) (key x) refl u v o p a h
 
   pub required_alike : (x : Expression) (v : Use) → T (asks_whether v) → T (grants U x v) → Both (λ c d. Alike v (Some c) (Some d)) (required x e) (required x f)
-  required_alike x v asks h = at (value_of x e) (value_of x f) (value_alike x v h)
+  required_alike x v asks h = subst (λ m. Both (λ c d. Alike v (Some c) (Some d)) (required x e) (nil_if_missing m (value_of x f))) agree.missing (at e.missing (value_of x e) (value_of x f) (value_alike x v h))
     where
-      at : (o p : Option Datum) → Alike v o p → Both (λ c d. Alike v (Some c) (Some d)) (ok_or o UnknownVariable) (ok_or p UnknownVariable)
-      at None None a = refl
-      at None (Some d) a = let e = alike_shape v None (Some d) asks a in absurd cc
-      at (Some c) None a = let e = alike_shape v (Some c) None asks a in absurd cc
-      at (Some c) (Some d) a = a
+      at : (m : Missing) (o p : Option Datum) → Alike v o p → Both (λ c d. Alike v (Some c) (Some d)) (nil_if_missing m o) (nil_if_missing m p)
+      at IsFault None None a = refl
+      at IsNil None None a = alike_same v (Some nil)
+      at m None (Some d) a = let e = alike_shape v None (Some d) asks a in absurd cc
+      at m (Some c) None a = let e = alike_shape v (Some c) None asks a in absurd cc
+      at m (Some c) (Some d) a = a
 
   -- an expression that is compared
   pub sides_alike : (x : Expression) (v : Use) → T (asks_whether v) → T (grants U x v) → Both (Sides U x) (required x e) (required x f)
   unfolding value_of
   sides_alike (literal d) v asks h = record { seen = λ u g. alike_same u (Some d); left = refl; right = refl }
-  sides_alike (variable name steps) v asks h = at (value_of (variable name steps) e) (value_of (variable name steps) f) (value_alike (variable name steps))
+  sides_alike (variable name steps) v asks h = subst (λ m. Both (Sides U (variable name steps)) (required (variable name steps) e) (nil_if_missing m (value_of (variable name steps) f))) agree.missing
+      (at e.missing (value_of (variable name steps) e) (value_of (variable name steps) f) (value_alike (variable name steps)))
     where
-      at : (o p : Option Datum) → ((u : Use) → T (grants U (variable name steps) u) → Alike u o p) → Both (Sides U (variable name steps)) (ok_or o UnknownVariable) (ok_or p UnknownVariable)
-      at None None k = refl
-      at None (Some d) k = let e = alike_shape v None (Some d) asks (k v h) in absurd cc
-      at (Some c) None k = let e = alike_shape v (Some c) None asks (k v h) in absurd cc
-      at (Some c) (Some d) k = record { seen = k; left = tt; right = tt }
+      at : (m : Missing) (o p : Option Datum) → ((u : Use) → T (grants U (variable name steps) u) → Alike u o p) → Both (Sides U (variable name steps)) (nil_if_missing m o) (nil_if_missing m p)
+      at IsFault None None k = refl
+      at IsNil None None k = record { seen = λ u g. alike_same u (Some nil); left = tt; right = tt }
+      at m None (Some d) k = let e = alike_shape v None (Some d) asks (k v h) in absurd cc
+      at m (Some c) None k = let e = alike_shape v (Some c) None asks (k v h) in absurd cc
+      at m (Some c) (Some d) k = record { seen = k; left = tt; right = tt }
+
+  -- one that may be missing, where that is no fault
+  pub found_alike : (x : Expression) (v : Use) → T (asks_whether v) → T (grants U x v) → Both (SidesFound U x) (sought x e) (sought x f)
+  unfolding value_of
+  found_alike (literal d) v asks h = record { seen = λ u g. alike_same u (Some d); left = refl; right = refl }
+  found_alike (variable name steps) v asks h = subst (λ m. Both (SidesFound U (variable name steps)) (sought (variable name steps) e) (none_if_missing m (value_of (variable name steps) f))) agree.missing
+      (at e.missing (value_of (variable name steps) e) (value_of (variable name steps) f) (value_alike (variable name steps)))
+    where
+      at : (m : Missing) (o p : Option Datum) → ((u : Use) → T (grants U (variable name steps) u) → Alike u o p) → Both (SidesFound U (variable name steps)) (none_if_missing m o) (none_if_missing m p)
+      at IsFault None None k = refl
+      at IsNil None None k = tt
+      at m None (Some d) k = let e = alike_shape v None (Some d) asks (k v h) in absurd cc
+      at m (Some c) None k = let e = alike_shape v (Some c) None asks (k v h) in absurd cc
+      at m (Some c) (Some d) k = record { seen = k; left = tt; right = tt }
 
   pub required_equal : (x : Expression) → T (grants U x everything) → required x e ≡ required x f
-  required_equal x h = ap (λ o. ok_or o UnknownVariable) (value_alike x everything h)
+  required_equal x h = λ i. nil_if_missing (agree.missing i) (value_alike x everything h i)
+
+  sought_whole_equal : (x : Expression) → T (grants U x everything) → sought_whole x e ≡ sought_whole x f
+  unfolding sought_whole
+  sought_whole_equal x h = same_then (λ i. none_if_missing (agree.missing i) (value_alike x everything h i)) (λ o i. whole_found (agree.missing i) o)
 
   pub whole_equal : (x : Expression) → T (grants U x everything) → needed_whole x e ≡ needed_whole x f
   unfolding needed_whole
-  whole_equal x h = same_then (required_equal x h) (λ d. refl)
+  whole_equal x h = same_then (sought_whole_equal x h) (λ n. refl)
 
   pub all_required_equal : (xs : List Expression) → T (grants_all U xs) → all_required xs e ≡ all_required xs f
   unfolding all_required grants_all
   all_required_equal [] h = refl
   all_required_equal (x ∷ xs) h = same_then (required_equal x (both_left (grants U x everything) _ h)) (λ d. same_then (all_required_equal xs (both_right (grants U x everything) _ h)) (λ ds. refl))
 
-  entries_alike : (v : Use) → T (asks_whether v) → (calls : List FilterCall) (o p : Option Datum) → Alike v o p → Both (λ c d. Alike v (Some c) (Some d)) (entry_value o calls) (entry_value p calls)
-  entries_alike v asks [] None None a = refl
+  entries_alike : (v : Use) → T (asks_whether v) → (calls : List FilterCall) (o p : Option Datum) → Alike v o p → Both (λ c d. Alike v (Some c) (Some d)) (entry_value e.missing o calls) (entry_value f.missing p calls)
+  entries_alike v asks [] None None a = subst (λ m. Both (λ c d. Alike v (Some c) (Some d)) (if_missing nil e.missing) (if_missing nil m)) agree.missing (at e.missing)
+    where
+      at : (m : Missing) → Both (λ c d. Alike v (Some c) (Some d)) (if_missing nil m) (if_missing nil m)
+      at IsFault = refl
+      at IsNil = alike_same v (Some nil)
   entries_alike v asks (call ∷ calls) None None a = alike_same v (Some nil)
   entries_alike v asks calls None (Some d) a = let e = alike_shape v None (Some d) asks a in absurd cc
   entries_alike v asks calls (Some c) None a = let e = alike_shape v (Some c) None asks a in absurd cc
   entries_alike v asks calls (Some c) (Some d) a = a
 
-  module _ (answers : FilterAnswers) (needs : Needs) (respects : Respects answers needs) where
+  module _ (given : FilterAnswers) (needs : Needs) (respects : Respects given needs) (m : Missing) where
+    answers_alike : (call : FilterCall) (v : Use) (arguments : List Datum) → all_required call.arguments e ≡ Ok arguments → (c d : Datum) → Alike (present (needs call v)) (Some c) (Some d)
+        → Both (λ a b. Alike v (Some a) (Some b)) (answers_in m given call.filter c arguments) (answers_in m given call.filter d arguments)
+    answers_alike call v arguments is c d a =
+        forgiven_alike v m given call.filter arguments c d (alike_shape (present (needs call v)) (Some c) (Some d) (present_asks (needs call v)) a)
+        (respects call v e arguments is c d (alike_present (needs call v) (Some c) (Some d) a))
+
     calls_alike : (calls : List FilterCall) (v : Use) → T (grants_filters U calls) → (c d : Datum) → Alike (use_before needs calls v) (Some c) (Some d)
-        → Both (λ a b. Alike v (Some a) (Some b)) (applied (calls_by answers calls) c e) (applied (calls_by answers calls) d f)
+        → Both (λ a b. Alike v (Some a) (Some b)) (applied (calls_by (answers_in m given) calls) c e) (applied (calls_by (answers_in m given) calls) d f)
     unfolding applied grants_filters
     calls_alike [] v h c d a = a
     calls_alike (call ∷ calls) v h c d a =
         let w = use_before needs calls v in
-        subst (λ r. Both (λ a b. Alike v (Some a) (Some b)) (all_required call.arguments e >>= (λ arguments. answers call.filter c arguments >>= (λ answer. applied (calls_by answers calls) answer e)))
-        (r >>= (λ arguments. answers call.filter d arguments >>= (λ answer. applied (calls_by answers calls) answer f))))
+        subst (λ r. Both (λ a b. Alike v (Some a) (Some b)) (all_required call.arguments e >>= (λ arguments. answers_in m given call.filter c arguments >>= (λ answer. applied (calls_by (answers_in m given) calls) answer e)))
+        (r >>= (λ arguments. answers_in m given call.filter d arguments >>= (λ answer. applied (calls_by (answers_in m given) calls) answer f))))
         (all_required_equal call.arguments (both_left (grants_all U call.arguments) _ h))
         (called (all_required call.arguments e) refl (λ x y b. calls_alike calls v (both_right (grants_all U call.arguments) _ h) x y b))
       where
         called : (r : Result (List Datum) ErrorKind) → all_required call.arguments e ≡ r
-            → ((x y : Datum) → Alike (use_before needs calls v) (Some x) (Some y) → Both (λ a b. Alike v (Some a) (Some b)) (applied (calls_by answers calls) x e) (applied (calls_by answers calls) y f))
-            → Both (λ a b. Alike v (Some a) (Some b)) (r >>= (λ arguments. answers call.filter c arguments >>= (λ answer. applied (calls_by answers calls) answer e)))
-            (r >>= (λ arguments. answers call.filter d arguments >>= (λ answer. applied (calls_by answers calls) answer f)))
+            → ((x y : Datum) → Alike (use_before needs calls v) (Some x) (Some y) → Both (λ a b. Alike v (Some a) (Some b)) (applied (calls_by (answers_in m given) calls) x e) (applied (calls_by (answers_in m given) calls) y f))
+            → Both (λ a b. Alike v (Some a) (Some b)) (r >>= (λ arguments. answers_in m given call.filter c arguments >>= (λ answer. applied (calls_by (answers_in m given) calls) answer e)))
+            (r >>= (λ arguments. answers_in m given call.filter d arguments >>= (λ answer. applied (calls_by (answers_in m given) calls) answer f)))
         called (Ok arguments) is next = both_then (λ x y. Alike (use_before needs calls v) (Some x) (Some y)) _ _ _ _ _
-            (respects call (use_before needs calls v) e arguments is c d (alike_present (needs call (use_before needs calls v)) (Some c) (Some d) a)) next
+            (answers_alike call (use_before needs calls v) arguments is c d a) next
         called (Err kind) is next = refl
 
     use_before_asks : (calls : List FilterCall) (v : Use) → T (asks_whether v) → T (asks_whether (use_before needs calls v))
     use_before_asks [] v asks = asks
     use_before_asks (call ∷ calls) v asks = present_asks (needs call (use_before needs calls v))
 
+  module _ (answers : FilterAnswers) (needs : Needs) (respects : Respects answers needs) where
     pub chain_alike : (chain : Chain) (v : Use) → T (asks_whether v) → T (grants_chain needs U v chain) → Both (λ c d. Alike v (Some c) (Some d)) (chain_value answers chain e) (chain_value answers chain f)
     unfolding chain_value grants_chain
     chain_alike chain v asks h =
         let u = use_before needs chain.filters v in
         both_then (λ c d. Alike (use_before needs chain.filters v) (Some c) (Some d)) _ _ _ _ _
-        (entries_alike u (use_before_asks chain.filters v asks) chain.filters (value_of chain.entry e) (value_of chain.entry f) (value_alike chain.entry u (both_left (grants U chain.entry u) _ h)))
-        (λ c d a. calls_alike chain.filters v (both_right (grants U chain.entry u) _ h) c d a)
+        (entries_alike u (use_before_asks answers needs respects e.missing chain.filters v asks) chain.filters (value_of chain.entry e) (value_of chain.entry f) (value_alike chain.entry u (both_left (grants U chain.entry u) _ h)))
+        (λ c d a. subst (λ m. Both (λ a b. Alike v (Some a) (Some b)) (applied (calls_by (answers_in e.missing answers) chain.filters) c e) (applied (calls_by (answers_in m answers) chain.filters) d f)) agree.missing
+        (calls_alike answers needs respects e.missing chain.filters v (both_right (grants U chain.entry u) _ h) c d a))
 
   atom_equal : (atom : Atom) → T (grants_atom U atom) → atom_truth atom e ≡ atom_truth atom f
   unfolding atom_truth grants_atom grants_compared
@@ -252,9 +332,13 @@ module _ (U : Uses) (e f : Environment) (agree : AlikeIn U e f) where
       let of_left = both_left (grants U x (use_beside comparison y)) _ h in
       let of_right = both_right (grants U x (use_beside comparison y)) _ h in
       equal_both _ _
-      (both_then (Sides U x) Same _ _ _ _ (sides_alike x (use_beside comparison y) (beside_asks comparison y) of_left) (λ l m a.
-      both_then (Sides U y) Same _ _ _ _ (sides_alike y (use_beside comparison x) (beside_asks comparison x) of_right) (λ r s b.
-      both_equal Same (λ z. refl) _ _ (sides_compare U comparison x y l m r s a b of_left of_right))))
+      (both_then (SidesFound U x) Same _ _ _ _ (found_alike x (use_beside comparison y) (beside_asks comparison y) of_left) (λ l m a.
+      both_then (SidesFound U y) Same _ _ _ _ (found_alike y (use_beside comparison x) (beside_asks comparison x) of_right) (λ r s b.
+      both_equal Same (λ z. refl) _ _ (found_at e.missing f.missing agree.missing l m r s a b of_left of_right))))
+    where
+      found_at : (m n : Missing) → m ≡ n → (l k r s : Option Datum) → SidesFound U x l k → SidesFound U y r s → T (grants U x (use_beside comparison y)) → T (grants U y (use_beside comparison x))
+          → truth_of_found m comparison l r ≡ truth_of_found n comparison k s
+      found_at m n same l k r s a b g h = found_compare U m comparison x y l k r s a b g h ∙ ap (λ z. truth_of_found z comparison k s) same
 
   all_true_equal : (atoms : List Atom) → T (grants_atoms U atoms) → all_true atoms e ≡ all_true atoms f
   unfolding all_true grants_atoms
@@ -269,7 +353,7 @@ module _ (U : Uses) (e f : Environment) (agree : AlikeIn U e f) where
   pub amount_equal : (x : Option Expression) → T (grants_optional U x) → amount x e ≡ amount x f
   unfolding amount grants_optional
   amount_equal None h = refl
-  amount_equal (Some x) h = same_then (whole_equal x h) (λ n. refl)
+  amount_equal (Some x) h = sought_whole_equal x h
 
   -- ---- the pairs of a tag
 

@@ -11,7 +11,7 @@ use Rattle.liquid_model.specs.declared.error.ErrorKind.{ErrorKind}
 use Rattle.liquid_model.specs.declared.error.ErrorKind.TheVariants.{UnexpectedValue, RangeTooLong}
 use Rattle.liquid_core.specs.Expression.{Expression, literal, variable}
 use Rattle.liquid_core.specs.Environment.{Environment}
-use Rattle.liquid_core.specs.Expressions.{value_of, needed_whole}
+use Rattle.liquid_core.specs.Expressions.{value_of, sought_whole}
 use Rattle.liquid_model.specs.Fallible.{◌>>=◌}
 use Rattle.liquid_evaluation.specs.Tree.{Source, each_of, counted, Window}
 use Rattle.liquid_evaluation.specs.Evaluation.{value_items, most_items, not_too_long, source_items, amount, skipped, selected_count, items_in_window, window_items, selected_items}
@@ -145,7 +145,7 @@ of_some z (Some n) = n
 module _ (e : Environment) where
   -- what a literal amount is
   amount_is : (x : Expression) (n : ℕ) → literal_amount x ≡ Some n → amount (Some x) e ≡ Ok (Some (pos n))
-  unfolding amount needed_whole value_of
+  unfolding amount sought_whole value_of
   amount_is (literal (number (pos m))) n h = ap (λ k. Ok (Some (pos (of_some m k)))) h
   amount_is (literal (number (negsuc m))) n h = absurd cc
   amount_is (literal nil) n h = absurd cc

@@ -5,7 +5,8 @@ use Rattle.liquid_model.specs.Texts.{Text}
 use Rattle.liquid_model.specs.Data.{Datum}
 use Rattle.liquid_model.specs.declared.error.ErrorKind.{ErrorKind}
 use Rattle.liquid_model.specs.Maps.{Map, merged}
-use Rattle.liquid_core.specs.Environment.{Environment, new_environment}
+use Rattle.liquid_core.specs.Environment.{Environment, own_environment}
+use Rattle.liquid_core.specs.declared.missing_value.Missing.{Missing}
 use Rattle.liquid_core.specs.declared.interrupt.Interrupt.{Interrupt}
 use Rattle.liquid_meaning.specs.Runs.{Nothing, Outcome, Run, done, read_environment, evaluate, fault, change, write, go_on, ◌>>=◌, with_scope, ended_with, buffered, apart}
 use Rattle.liquid_meaning.specs.Effects.{is_break}
@@ -88,11 +89,11 @@ module _ {U : Uses} where
   pub tied_with_scope : {A : Type 0} {R : A → A → Type 0} {m n : Run A} (s t : Map Datum) → AlikeMaps U s t → Tied U R m n → Tied U R (with_scope s m) (with_scope t n)
   unfolding with_scope
   tied_with_scope s t a mn e f h =
-      let r = mn (record e { local = merged s e.local }) (record f { local = merged t f.local }) (record { local = alike_merged U s t e.local f.local a h.local; assigned = h.assigned; counters = h.counters; globals = h.globals; registers = h.registers }) in
+      let r = mn (record e { local = merged s e.local }) (record f { local = merged t f.local }) (record { local = alike_merged U s t e.local f.local a h.local; assigned = h.assigned; counters = h.counters; globals = h.globals; registers = h.registers; missing = h.missing }) in
       record {
         text = r.text;
         end = r.end;
-        left = record { local = h.local; assigned = r.left.assigned; counters = r.left.counters; globals = r.left.globals; registers = r.left.registers };
+        left = record { local = h.local; assigned = r.left.assigned; counters = r.left.counters; globals = r.left.globals; registers = r.left.registers; missing = r.left.missing };
       }
 
   pub tied_buffered : {A : Type 0} {R : A → A → Type 0} {m n : Run A} → Tied U R m n → Tied U Same (buffered m) (buffered n)
@@ -101,16 +102,16 @@ module _ {U : Uses} where
       let r = mn e f h in
       record { text = refl; end = ended_alike R (m e).text (n f).text (m e).end (n f).end r.end r.text; left = r.left }
 
-  pub new_alike : (s t : Map Datum) → AlikeMaps U s t → AlikeIn U (new_environment s) (new_environment t)
-  new_alike s t a = record { local = a; assigned = alike_empty U; counters = alike_empty U; globals = alike_empty U; registers = refl }
+  pub new_alike : (x y : Missing) (s t : Map Datum) → x ≡ y → AlikeMaps U s t → AlikeIn U (own_environment x s) (own_environment y t)
+  new_alike x y s t is a = record { local = a; assigned = alike_empty U; counters = alike_empty U; globals = alike_empty U; registers = refl; missing = is }
 
   pub tied_apart : {A : Type 0} {R : A → A → Type 0} {m n : Run A} (s t : Map Datum) → AlikeMaps U s t → Tied U R m n → Tied U Same (apart s m) (apart t n)
   unfolding apart
   tied_apart {R = R} {m = m} {n = n} s t a mn e f h =
-      let r = mn (new_environment s) (new_environment t) (new_alike s t a) in
+      let r = mn (own_environment e.missing s) (own_environment f.missing t) (new_alike e.missing f.missing s t h.missing a) in
       record {
         text = r.text;
-        end = ended_alike R (m (new_environment s)).environment.registers.interrupt (n (new_environment t)).environment.registers.interrupt (m (new_environment s)).end (n (new_environment t)).end r.end (ap (λ g. g.interrupt) r.left.registers);
+        end = ended_alike R (m (own_environment e.missing s)).environment.registers.interrupt (n (own_environment f.missing t)).environment.registers.interrupt (m (own_environment e.missing s)).end (n (own_environment f.missing t)).end r.end (ap (λ g. g.interrupt) r.left.registers);
         left = h;
       }
 

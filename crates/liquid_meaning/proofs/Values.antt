@@ -1,19 +1,18 @@
 -- What is evaluated in two environments that agree on the mentioned names is the same.
 use Rattle.std.specs.Prelude.{◌≡◌, true, false, cond, T, List, [], ◌∷◌, Option, Some, None, Result, Ok, Err}
 use mathlib.Core.Path.{refl, ap, ◌∙◌}
-use Rattle.std.specs.Option.{option_and_then, ok_or}
+use Rattle.std.specs.Option.{option_and_then}
 use Rattle.liquid_model.specs.Texts.{Text, ◌else◌}
 use Rattle.liquid_model.specs.Data.{Datum, scalar}
 use Rattle.liquid_model.specs.declared.error.ErrorKind.{ErrorKind}
-use Rattle.liquid_model.specs.declared.error.ErrorKind.TheVariants.{UnknownVariable}
 use Rattle.liquid_model.specs.Find.{find}
 use Rattle.liquid_core.specs.Expression.{Expression, literal, variable, Steps, no_steps, step}
 use Rattle.liquid_evaluation.specs.Calls.{applied}
 use Rattle.liquid_evaluation.specs.Tree.{FilterCall, Chain, Atom, bare, compared, Condition, Source, each_of, counted, Window, Bindings}
 use Rattle.liquid_core.specs.Environment.{Names, Environment, lookup}
 use Rattle.liquid_model.specs.Fallible.{◌>>=◌}
-use Rattle.liquid_core.specs.Expressions.{value_of, path_of, required, all_required, needed_whole}
-use Rattle.liquid_evaluation.specs.Evaluation.{FilterAnswers, entry_value, calls_by, chain_value, bare_truth, atom_truth, all_true, truth_of, source_items, amount, selected_items, bound_values}
+use Rattle.liquid_core.specs.Expressions.{value_of, path_of, nil_if_missing, none_if_missing, required, sought, all_required, whole_found, sought_whole, needed_whole}
+use Rattle.liquid_evaluation.specs.Evaluation.{FilterAnswers, answers_in, entry_value, calls_by, chain_value, truth_of_found, bare_truth, atom_truth, all_true, truth_of, source_items, amount, selected_items, bound_values}
 use Rattle.liquid_evaluation.specs.Names.{expression_names, steps_names, all_names, optional_names, filters_names, chain_names, atom_names, atoms_names, condition_names, source_names, window_names, bound_names}
 use Rattle.liquid_meaning.proofs.Runs.{AgreeOn}
 use Rattle.liquid_meaning.specs.Within.{Within}
@@ -43,11 +42,18 @@ module _ (N : Names) (e f : Environment) (agree : AgreeOn N e f) where
     path_same (step x more) h = λ i. option_and_then (λ d. cond (scalar d) (option_and_then (λ ds. Some (d ∷ ds)) (path_same more (right N (expression_names x) (steps_names more) h) i)) None) (value_same x (left N (expression_names x) (steps_names more) h) i)
 
   pub required_same : (x : Expression) → Within N (expression_names x) → required x e ≡ required x f
-  required_same x h = ap (λ o. ok_or o UnknownVariable) (value_same x h)
+  required_same x h = λ i. nil_if_missing (agree.missing i) (value_same x h i)
+
+  sought_same : (x : Expression) → Within N (expression_names x) → sought x e ≡ sought x f
+  sought_same x h = λ i. none_if_missing (agree.missing i) (value_same x h i)
+
+  sought_whole_same : (x : Expression) → Within N (expression_names x) → sought_whole x e ≡ sought_whole x f
+  unfolding sought_whole
+  sought_whole_same x h = bind_same (sought_same x h) (λ o i. whole_found (agree.missing i) o)
 
   pub whole_same : (x : Expression) → Within N (expression_names x) → needed_whole x e ≡ needed_whole x f
   unfolding needed_whole
-  whole_same x h = bind_same (required_same x h) (λ d. refl)
+  whole_same x h = bind_same (sought_whole_same x h) (λ n. refl)
 
   pub all_required_same : (xs : List Expression) → Within N (all_names xs) → all_required xs e ≡ all_required xs f
   unfolding all_required all_names
@@ -61,12 +67,12 @@ module _ (N : Names) (e f : Environment) (agree : AgreeOn N e f) where
 
   pub chain_same : (answers : FilterAnswers) (chain : Chain) → Within N (chain_names chain) → chain_value answers chain e ≡ chain_value answers chain f
   unfolding chain_value chain_names
-  chain_same answers chain h = bind_same (ap (λ o. entry_value o chain.filters) (value_same chain.entry (left N (expression_names chain.entry) _ h))) (λ entry. calls_same answers chain.filters (right N (expression_names chain.entry) _ h) entry)
+  chain_same answers chain h = bind_same (λ i. entry_value (agree.missing i) (value_same chain.entry (left N (expression_names chain.entry) _ h) i) chain.filters) (λ entry. calls_same (answers_in e.missing answers) chain.filters (right N (expression_names chain.entry) _ h) entry ∙ ap (λ m. applied (calls_by (answers_in m answers) chain.filters) entry f) agree.missing)
 
   atom_same : (atom : Atom) → Within N (atom_names atom) → atom_truth atom e ≡ atom_truth atom f
   unfolding atom_truth atom_names
   atom_same (bare x) h = ap (λ o. Ok (bare_truth o)) (value_same x h)
-  atom_same (compared x comparison y) h = bind_same (required_same x (left N (expression_names x) _ h)) (λ l. bind_same (required_same y (right N (expression_names x) _ h)) (λ r. refl))
+  atom_same (compared x comparison y) h = bind_same (sought_same x (left N (expression_names x) _ h)) (λ l. bind_same (sought_same y (right N (expression_names x) _ h)) (λ r i. truth_of_found (agree.missing i) comparison l r))
 
   all_true_same : (atoms : List Atom) → Within N (atoms_names atoms) → all_true atoms e ≡ all_true atoms f
   unfolding all_true atoms_names
@@ -86,7 +92,7 @@ module _ (N : Names) (e f : Environment) (agree : AgreeOn N e f) where
   pub amount_same : (x : Option Expression) → Within N (optional_names x) → amount x e ≡ amount x f
   unfolding amount optional_names
   amount_same None h = refl
-  amount_same (Some x) h = bind_same (whole_same x h) (λ n. refl)
+  amount_same (Some x) h = sought_whole_same x h
 
   pub asked_same : (window : Window) (ds : List Datum) → Within N (window_names window) → selected_items window ds e ≡ selected_items window ds f
   unfolding selected_items window_names

@@ -19,14 +19,14 @@ pub within_more : (N M : Names) → ((x : Text) → T (N x) → T (M x)) → (xs
 within_more N M k [] h = tt
 within_more N M k (x ∷ xs) h = (k x h.0, within_more N M k xs h.1)
 
-text_ties_itself : (t : Text) → T (same_text t t)
+pub text_ties_itself : (t : Text) → T (same_text t t)
 text_ties_itself t = subst (λ b. T b) (sym (same_key t)) tt
 
-or_left : (a b : Bool) → T a → T (a || b)
+pub or_left : (a b : Bool) → T a → T (a || b)
 or_left true b h = tt
 or_left false b h = absurd h
 
-or_right : (a b : Bool) → T b → T (a || b)
+pub or_right : (a b : Bool) → T b → T (a || b)
 or_right true b h = tt
 or_right false b h = h
 

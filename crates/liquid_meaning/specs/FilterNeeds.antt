@@ -16,7 +16,7 @@ use Rattle.liquid_filters.specs.declared.kind.FilterKind.TheVariants.{Last, Size
 use Rattle.liquid_filters.specs.declared.kind.FilterKind.TheVariants.{Default}
 use Rattle.liquid_evaluation.specs.Tree.{Filter, existing, hosted}
 use Rattle.liquid_evaluation.specs.Evaluation.{answers_with}
-use Rattle.liquid_filter_base.specs.FilterAnswers.{FilterAnswer}
+use Rattle.liquid_model.specs.FilterAnswers.{FilterAnswer}
 use Rattle.liquid_model.specs.Uses.{Use, nothing, everything, parts, no_fields, field, uncounted}
 use Rattle.liquid_model.specs.Uses.{every, there, present, use_of_each, join, items_wanted}
 use Rattle.liquid_meaning.specs.Reading.{Needs}

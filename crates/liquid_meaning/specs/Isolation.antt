@@ -35,10 +35,11 @@ abbrev pub HoldsOutside : Names → Map Datum → Map Datum → Type 0
 HoldsOutside N n m = (name : Text) → T (not (N name)) → m name ≡ n name
 
 -- g has the local names and the data of e, and under names that are not in N the assigned values
--- and counters of e
+-- and counters of e; a missing value is in g what it is in e
 pub record KeepsOthers (N : Names) (e g : Environment) : Type 0 where
   pub local : g.local ≡ e.local
   pub globals : g.globals ≡ e.globals
+  pub missing : g.missing ≡ e.missing
   pub assigned : HoldsOutside N e.assigned g.assigned
   pub counters : HoldsOutside N e.counters g.counters
 
@@ -128,13 +129,13 @@ items_of_render None e = Ok []
 items_of_render (Some each) e = source_items each.0 e
 
 -- what it writes and how it ends depends on its name, its items and its pairs' values alone (and on
--- the partials and the depth)
+-- the partials, the depth, and what a missing value is)
 abbrev pub RenderSeesItsValues : Type 0
 RenderSeesItsValues = (setting : Setting) (depth : ℕ) (x : Expression)
     (each : Option (Source × Text)) (bindings : Bindings) (e f : Environment)
-    → partial_name_text x e ≡ partial_name_text x f → items_of_render each e ≡
-    items_of_render each f →
-    bound_values bindings e ≡ bound_values bindings f
+    → e.missing ≡ f.missing → partial_name_text x e ≡ partial_name_text x f
+    → items_of_render each e ≡ items_of_render each f
+    → bound_values bindings e ≡ bound_values bindings f
     → (let o = meaning setting depth (node (render x each bindings) no_nodes) e in
     let p = meaning setting depth (node (render x each bindings) no_nodes) f in
     (o.text ≡ p.text) × (o.end ≡ p.end))

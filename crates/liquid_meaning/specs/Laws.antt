@@ -7,7 +7,7 @@ use Rattle.liquid_model.specs.Find.{find}
 use Rattle.liquid_model.specs.ErrorKinds.{number_of}
 use Rattle.liquid_model.specs.declared.error.ErrorKind.{ErrorKind}
 use Rattle.liquid_core.specs.Environment.{Environment}
-use Rattle.liquid_filter_base.specs.FilterAnswers.{FilterAnswer}
+use Rattle.liquid_model.specs.FilterAnswers.{FilterAnswer}
 use Rattle.liquid_core.specs.Hosts.{no_host}
 use Rattle.liquid_filters.specs.RunKinds.{EndsAsRun}
 use Rattle.liquid_evaluation.specs.Tree.{Filter, Chain, Source, Window, Nodes, no_nodes, node}

@@ -1,11 +1,14 @@
 pub mod Assigning
 pub mod Effects
 pub mod FilterNeeds
+pub mod FreeNames
 pub mod Isolation
 pub mod Laws
+pub mod Lenient
 pub mod LoopLaws
 pub mod Loops
 pub mod Meaning
+pub mod PartialLaws
 pub mod ProjectedRuns
 pub mod Reading
 pub mod Reads
@@ -13,6 +16,7 @@ pub mod Runs
 pub mod Within
 pub mod Worked
 pub mod WorkedLoops
+pub mod WorkedMissing
 pub mod WorkedNames
 pub mod WorkedPartials
 pub mod WorkedReading

@@ -6,30 +6,33 @@ use Rattle.liquid_model.specs.Data.{Pairs}
 use Rattle.liquid_model.specs.Find.{value_at}
 use Rattle.liquid_model.specs.Maps.{empty}
 use Rattle.liquid_model.specs.Projected.{projected_pairs}
-use Rattle.liquid_core.specs.Environment.{Environment, new_environment}
+use Rattle.liquid_core.specs.Environment.{Environment, own_environment}
+use Rattle.liquid_core.specs.declared.missing_value.Missing.{Missing}
 use Rattle.liquid_evaluation.specs.Tree.{Nodes}
 use Rattle.liquid_meaning.specs.Meaning.{Setting, meaning}
 use Rattle.liquid_meaning.specs.Reading.{Uses, Needs, covers}
 use Rattle.liquid_meaning.specs.Reads.{Respects}
 
--- a new environment with these pairs as data
-abbrev pub over_data : Pairs → Environment
-over_data ps = record (new_environment empty) { globals = λ name. value_at name ps }
+-- a new environment with these pairs as data, and what becomes of a missing value
+abbrev pub over_data : Missing → Pairs → Environment
+over_data missing ps = record (own_environment missing empty) { globals = λ name. value_at name ps }
 
 -- the text and the end of a run over data are those of a run over what is left of the data
 abbrev pub ProjectedRun : Type 0
 ProjectedRun = (needs : Needs) (U : Uses) (setting : Setting) (depth : ℕ) (nodes : Nodes)
-    (ps : Pairs) → Respects setting.answers needs → T (covers needs U setting nodes)
-    → (let o = meaning setting depth nodes (over_data ps) in
-    let p = meaning setting depth nodes (over_data (projected_pairs U false ps)) in
+    (missing : Missing) (ps : Pairs) → Respects setting.answers needs
+    → T (covers needs U setting nodes)
+    → (let o = meaning setting depth nodes (over_data missing ps) in
+    let p = meaning setting depth nodes (over_data missing (projected_pairs U false ps)) in
     (o.text ≡ p.text) × (o.end ≡ p.end))
 
 -- so data of which the same is left give the same page: a page need be made again only where that
 -- changes
 abbrev pub SameSight : Type 0
 SameSight = (needs : Needs) (U : Uses) (setting : Setting) (depth : ℕ) (nodes : Nodes)
-    (ps qs : Pairs) → Respects setting.answers needs → T (covers needs U setting nodes)
+    (missing : Missing) (ps qs : Pairs) → Respects setting.answers needs
+    → T (covers needs U setting nodes)
     → projected_pairs U false ps ≡ projected_pairs U false qs
-    → (let o = meaning setting depth nodes (over_data ps) in
-    let p = meaning setting depth nodes (over_data qs) in
+    → (let o = meaning setting depth nodes (over_data missing ps) in
+    let p = meaning setting depth nodes (over_data missing qs) in
     (o.text ≡ p.text) × (o.end ≡ p.end))

@@ -1,7 +1,7 @@
 -- The law of reading: a run depends on those parts of its environment alone that its template or a
 -- partial can see.
 --     AlikeIn U e f      the environments are alike in what U asks of each name, layer by layer,
---                        and their registers are equal
+--                        and their registers are equal, and what a missing value is
 --     ReadsAlone      two runs from environments that are alike in U write the same text, end
 --                     alike, and leave such environments
 use Rattle.std.specs.Prelude.{◌≡◌, ℕ, T, true, cond, List, Some, Result, Ok, Err}
@@ -28,6 +28,7 @@ pub record AlikeIn (U : Uses) (e f : Environment) : Type 0 where
   pub counters : AlikeMaps U e.counters f.counters
   pub globals : AlikeMaps U e.globals f.globals
   pub registers : e.registers ≡ f.registers
+  pub missing : e.missing ≡ f.missing
 
 -- both are values, which are alike by R, or both are one kind
 abbrev pub Both : {A : Type 0} → (A → A → Type 0) → Result A ErrorKind → Result A ErrorKind → Type 0

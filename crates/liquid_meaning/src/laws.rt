@@ -2,15 +2,18 @@
 
 ghost use Rattle.liquid_meaning.specs.Assigning.{AssignedAnywhere};
 ghost use Rattle.liquid_meaning.specs.FilterNeeds.{KnownRespected};
+ghost use Rattle.liquid_meaning.specs.FreeNames.{FreeDataAlone, FreeNamesAlone, FreeUsesAlone};
 ghost use Rattle.liquid_meaning.specs.Isolation.{Isolation, AgreeingRuns, OthersKept};
 ghost use Rattle.liquid_meaning.specs.Isolation.{RenderLeavesAll, RenderSeesItsValues, Headline};
 ghost use Rattle.liquid_evaluation.specs.Laws.{CountedWindow};
+ghost use Rattle.liquid_meaning.specs.Lenient.{LenientExtends, NoneUnknown};
 ghost use Rattle.liquid_meaning.specs.LoopLaws.{RangeLaw, RowLaw, WindowLaw};
 ghost use Rattle.liquid_meaning.specs.ProjectedRuns.{ProjectedRun, SameSight};
 ghost use Rattle.liquid_meaning.specs.Reads.{AllRespect, NamesCover, ReadsAlone};
 ghost use Rattle.liquid_meaning.specs.Laws.{AssignedInLoop, AssignedStay, ForloopCountsItems};
 ghost use Rattle.liquid_meaning.specs.Laws.{KindsOfOwnRuns, KindsOfRuns, KindsWithHost};
 ghost use Rattle.liquid_meaning.specs.Laws.{TextIsItself};
+ghost use Rattle.liquid_meaning.specs.PartialLaws.{PartialsInReach};
 
 /// The laws of isolation: a run depends on the names that its template or a partial mentions, and
 /// leaves all others alone.
@@ -56,4 +59,27 @@ pub fn reading_laws()
     ensures names { NamesCover }
     ensures projected_run { ProjectedRun }
     ensures same_sight { SameSight }
+{}
+
+/// The laws of missing values: a run in which they are nil writes what the run in which they are
+/// faults writes, and may go on where that ends by `UnknownVariable`, `UnexpectedValue` or
+/// `InvalidInput`; and it never ends by `UnknownVariable`, unless a filter answers that.
+pub fn missing_laws()
+    ensures extends { LenientExtends }
+    ensures known { NoneUnknown }
+{}
+
+/// The law of partials: a template means the same over any partials that have the same under the
+/// names that it leads to, which are those that it can look up, those that the partials of these
+/// can, and so on.
+pub fn partial_laws()
+    ensures in_reach { PartialsInReach }
+{}
+
+/// The laws of free names: a run sees no names of its data but those that its template reads where
+/// nothing else has bound them, and of these no more than the uses that cover it.
+pub fn free_laws()
+    ensures names { FreeNamesAlone }
+    ensures uses { FreeUsesAlone }
+    ensures data { FreeDataAlone }
 {}

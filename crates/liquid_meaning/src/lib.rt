@@ -4,5 +4,7 @@
 mod laws;
 mod worked;
 
-pub use laws::{isolation_laws, loop_laws, reading_laws, run_laws};
+pub use laws::{
+    free_laws, isolation_laws, loop_laws, missing_laws, partial_laws, reading_laws, run_laws,
+};
 pub use worked::{worked_names, worked_runs, worked_uses};

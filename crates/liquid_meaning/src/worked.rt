@@ -1,6 +1,7 @@
 //! Worked runs and names: templates whose meaning can be seen by reading them.
 
 ghost use Rattle.liquid_meaning.specs.WorkedLoops.{WorkedLoops};
+ghost use Rattle.liquid_meaning.specs.WorkedMissing.{WorkedMissing};
 ghost use Rattle.liquid_meaning.specs.WorkedNames.{WorkedNames};
 ghost use Rattle.liquid_meaning.specs.WorkedPartials.{WorkedPartials};
 ghost use Rattle.liquid_meaning.specs.WorkedReading.{WorkedReading};
@@ -11,6 +12,7 @@ pub fn worked_runs()
     ensures stores { WorkedStores }
     ensures loops { WorkedLoops }
     ensures partials { WorkedPartials }
+    ensures missing { WorkedMissing }
 {}
 
 /// Which names some templates mention.

@@ -2,12 +2,17 @@ pub mod Alike
 pub mod AlikeLists
 pub mod Appending
 pub mod Compares
+pub mod Cuts
 pub mod Lawful
 pub mod Maps
+pub mod Ones
 pub mod Projected
 pub mod Quotes
+pub mod Runs
 pub mod Sizes
 pub mod Skipping
+pub mod Standing
 pub mod UseViews
 pub mod Utf8
 pub mod Views
+pub mod WordLaws

@@ -6,9 +6,9 @@ use Rattle.liquid_model.specs.Data.{Datum, text_of}
 use Rattle.liquid_model.specs.ErrorKinds.{is_memory, name_of}
 use Rattle.liquid_model.specs.Quotes.{quotation}
 use Rattle.liquid_model.specs.declared.error.Error.{Error}
-use Rattle.liquid_model.specs.declared.location.Location.{Location}
-use Rattle.liquid_model.specs.declared.location.Origin.{Origin}
-use Rattle.liquid_model.specs.declared.location.Origin.TheVariants.{Template, Partial, Data}
+use Rattle.liquid_model.specs.declared.origin.Location.{Location}
+use Rattle.liquid_model.specs.declared.origin.Origin.{Origin}
+use Rattle.liquid_model.specs.declared.origin.Origin.TheVariants.{Template, Partial, Data}
 
 -- memory ran out, or the fault has this message
 abbrev pub HasMessageUnlessMemory : List ℕ → Error → Type 0

@@ -1,5 +1,7 @@
 pub mod Answer
 pub mod Appended
+pub mod Arguments
+pub mod Bytes
 pub mod Compare
 pub mod Cow
 pub mod Data
@@ -7,8 +9,13 @@ pub mod Digest
 pub mod ErrorKinds
 pub mod Errors
 pub mod Fallible
+pub mod Faults
+pub mod FilterAnswers
 pub mod Find
 pub mod Found
+pub mod Front
+pub mod FrontLaws
+pub mod Joined
 pub mod Laws
 pub mod Lists
 pub mod Maps
@@ -16,9 +23,13 @@ pub mod Order
 pub mod OrderLaws
 pub mod Projected
 pub mod Quotes
+pub mod Satisfies
 pub mod Skipping
+pub mod Text
 pub mod Texts
 pub mod UseViews
 pub mod Uses
+pub mod ValueSizes
 pub mod View
 pub mod Whole
+pub mod Words

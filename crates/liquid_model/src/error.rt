@@ -7,7 +7,7 @@ ghost use Rattle.liquid_model.specs.Quotes.{is_message};
 ghost use Rattle.liquid_model.specs.declared.error.ErrorKind.TheVariants.{Memory};
 
 use crate::line::line_of;
-use crate::location::Location;
+use crate::origin::Location;
 use std::alloc::{AllocError, AllocFailed, Global};
 use std::fmt;
 

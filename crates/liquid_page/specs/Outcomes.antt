@@ -2,7 +2,7 @@
 use Rattle.std.specs.Prelude.{◌≡◌, ℕ, List, [], ◌++◌, codes, string_bytes}
 use Rattle.liquid_model.specs.Errors.{error_text}
 use Rattle.liquid_model.specs.declared.error.ErrorKind.TheVariants.{Memory}
-use Rattle.liquid_excerpts.specs.Paths.{shown_path}
+use Rattle.liquid_files.specs.ShownPaths.{shown_path}
 use Rattle.liquid_page.specs.declared.outcome.Outcome.{Outcome}
 use Rattle.liquid_page.specs.declared.outcome.Outcome.TheVariants.{Done, Usage, Unreadable, Fault}
 

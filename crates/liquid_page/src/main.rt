@@ -8,7 +8,7 @@ mod words;
 
 use crate::outcome::Outcome;
 use crate::page_from_files::{ReadError, ReadFiles, Texts, page};
-use liquid_excerpts::{Excerpt, Reason};
+use liquid_files::{Excerpt, Reason};
 pub use liquid_page_texts::{data_from_json, run};
 use std::alloc::AllocError;
 use std::fs::File;

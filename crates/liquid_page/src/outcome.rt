@@ -3,7 +3,7 @@ ghost use Rattle.std.specs.Prelude.{◌≡◌, Some, MatchResult};
 ghost use Rattle.liquid_page.specs.Outcomes.{IsOutOfMemory, outcome_line, outcome_status};
 ghost use Rattle.liquid_page.specs.declared.outcome.Outcome.TheVariants.{Done, Fault};
 
-use liquid_excerpts::ShownPath;
+use liquid_files::ShownPath;
 use liquid_model::{Error, Result};
 use std::alloc::{AllocError, AllocFailed};
 use std::fmt;

@@ -6,7 +6,7 @@ use Rattle.liquid_model.specs.declared.error.ErrorKind.{ErrorKind}
 use Rattle.liquid_filters.specs.RunKinds.{is_run_kind}
 use Rattle.liquid_filters.proofs.Ended.{Ended, ended_ok, ended_err, ended_then}
 use Rattle.liquid_parser.specs.Parsing.{IsOfSource}
-use Rattle.liquid_language.specs.declared.language.Language.{Language}
+use Rattle.liquid_language.specs.declared.registry.Language.{Language}
 use Rattle.liquid_meaning.specs.Runs.{Nothing}
 use Rattle.liquid_meaning.proofs.RunKinds.{kinds_of_own_runs}
 use Rattle.serde_json.specs.Data as json

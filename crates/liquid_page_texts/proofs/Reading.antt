@@ -12,22 +12,21 @@ use Rattle.liquid_model.specs.declared.error.ErrorKind.{ErrorKind}
 use Rattle.liquid_model.specs.declared.error.ErrorKind.TheVariants.{Memory, Write}
 use Rattle.liquid_evaluation.specs.Tree.{Nodes}
 use Rattle.liquid_parser.specs.Parsing.{IsOnlyTree, HasNoTree, IsOfSource, MayRefuse, ParsesTo}
-use Rattle.liquid_language.specs.declared.language.Language.{Language}
+use Rattle.liquid_language.specs.declared.registry.Language.{Language}
 use Rattle.liquid_engine.specs.Added.{AppendsPart}
 use Rattle.liquid_engine.specs.Performs.{answer_of, is_refused, unit}
-use Rattle.liquid_tags.specs.Standard.{IsStandard}
+use Rattle.liquid_language.specs.Standard.{IsStandard}
 use Rattle.liquid_engine.proofs.Joined.{memory_of}
 use Rattle.liquid_core.specs.Held.{map_of, Outer}
 use Rattle.liquid_model.specs.View.{pairs_view}
 use Rattle.liquid_core.specs.Hosts.{no_host}
-use Rattle.liquid_core.specs.States.{merged_layers, new_layers}
+use Rattle.liquid_core.specs.declared.missing_value.Missing.TheVariants.{IsFault}
 use Rattle.liquid_json.specs.Asked.{AnswersAlike}
 use Rattle.liquid_json.specs.Json.{data_of}
 use Rattle.liquid_meaning.specs.Reading.{Uses}
-use Rattle.liquid_model.proofs.Alike.{alike_same}
 use Rattle.liquid_syntax.specs.Templates.{partials_of}
 use Rattle.liquid_syntax.specs.declared.partials.Partials.{Partials}
-use Rattle.liquid_uses.specs.Covered.{SeesAlone}
+use Rattle.liquid_uses.specs.Covered.{SeesDataAlone}
 use Rattle.liquid_page_texts.specs.Page.{PageTexts, Sources, ArePartials, HasBadPartial, PageInputs, RefusesTexts, no_template, no_data, bad_partial, page, no_page, page_outcome}
 use Rattle.liquid_page_texts.specs.Shown.{ReadsPageTexts, ReadsPartials, ReadsSeen, SamePage, Shows, ShowsPageOf, RanOut}
 
@@ -63,14 +62,11 @@ pub memory_faulted : («data» : List ℕ) (p : Partials) (nodes : Nodes) (e : E
 memory_faulted «data» p nodes e is = subst (λ (k : ErrorKind). Faulted k (data_of «data»)) (sym is) tt
 
 -- a run sees no more of its data than is left
-same_page : (U : Uses) (p : Partials) (nodes : Nodes) (ps qs : Pairs) → AlikeKeys U ps qs → SeesAlone U p nodes → SamePage (partials_of p) nodes ps qs
+same_page : (U : Uses) (p : Partials) (nodes : Nodes) (ps qs : Pairs) → AlikeKeys U ps qs → SeesDataAlone U p nodes → SamePage (partials_of p) nodes ps qs
 unfolding map_of
-same_page U p nodes ps qs alike alone =
-    let runs = alone no_host 32 (merged_layers (new_layers (map_of ps))) (merged_layers (new_layers (map_of qs)))
-    (record { local = λ name. alike_same (U name) _; assigned = λ name. alike_same (U name) _; counters = λ name. alike_same (U name) _; globals = alike; registers = refl }) in
-    (runs.text, runs.end)
+same_page U p nodes ps qs alike alone = alone no_host 32 IsFault ps qs alike
 
-pub seen_by : («data» : List ℕ) (p : Partials) (nodes : Nodes) (U : Uses) (r : Result Outer Error) → SeesAlone U p nodes → AnswersAlike (λ (m : Outer). pairs_view m.entries) U r (data_of «data») → ReadsSeen «data» p nodes r
+pub seen_by : («data» : List ℕ) (p : Partials) (nodes : Nodes) (U : Uses) (r : Result Outer Error) → SeesDataAlone U p nodes → AnswersAlike (λ (m : Outer). pairs_view m.entries) U r (data_of «data») → ReadsSeen «data» p nodes r
 seen_by «data» p nodes U (Ok m) alone h = (h.0, h.1, same_page U p nodes h.0 (pairs_view m.entries) h.2 alone)
 seen_by «data» p nodes U (Err e) alone h = h
 

@@ -13,10 +13,10 @@ use Rattle.liquid_evaluation.specs.Evaluation.{answers_with}
 use Rattle.liquid_evaluation.specs.Tree.{Nodes}
 use Rattle.liquid_parser.specs.Parsing.{IsOnlyTree, HasNoTree, IsOfSource}
 use Rattle.liquid_language.specs.Entries.{put_entry}
-use Rattle.liquid_language.specs.declared.language.Language.{Language}
+use Rattle.liquid_language.specs.declared.registry.Language.{Language}
 use Rattle.liquid_meaning.specs.Runs.{Nothing, Outcome}
 use Rattle.liquid_meaning.specs.Meaning.{meaning}
-use Rattle.liquid_tags.specs.Standard.{IsStandard}
+use Rattle.liquid_language.specs.Standard.{IsStandard}
 use Rattle.liquid_json.specs.Json.{data_of}
 
 -- names and texts of partials, in their order

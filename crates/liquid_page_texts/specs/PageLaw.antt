@@ -4,7 +4,7 @@ use Rattle.liquid_model.specs.Texts.{Text}
 use Rattle.liquid_model.specs.declared.error.ErrorKind.{ErrorKind}
 use Rattle.liquid_filters.specs.RunKinds.{is_run_kind}
 use Rattle.liquid_parser.specs.Parsing.{IsOfSource}
-use Rattle.liquid_language.specs.declared.language.Language.{Language}
+use Rattle.liquid_language.specs.declared.registry.Language.{Language}
 use Rattle.liquid_page_texts.specs.Page.{PageTexts, IsPage}
 
 -- the fault that a page ends by is one of a run or of a source: never `Memory` and never `Write`

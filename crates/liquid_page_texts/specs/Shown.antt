@@ -14,11 +14,11 @@ use Rattle.liquid_json.specs.Json.{data_of}
 use Rattle.liquid_evaluation.specs.Tree.{Nodes}
 use Rattle.liquid_syntax.specs.Templates.{tree_of, partials_of}
 use Rattle.liquid_parser.specs.Parsing.{IsOfSource}
-use Rattle.liquid_language.specs.declared.language.Language.{Language}
+use Rattle.liquid_language.specs.declared.registry.Language.{Language}
 use Rattle.liquid_syntax.specs.declared.partials.Partials.{Partials}
 use Rattle.liquid_engine.specs.Added.{AppendsPart}
 use Rattle.liquid_engine.specs.Performs.{answer_of, is_refused, unit}
-use Rattle.liquid_tags.specs.Standard.{IsStandard}
+use Rattle.liquid_language.specs.Standard.{IsStandard}
 use Rattle.liquid_meaning.specs.Runs.{Nothing}
 use Rattle.liquid_page_texts.specs.Page.{Sources, PageTexts, TemplateTrees, ArePartials}
 use Rattle.liquid_page_texts.specs.Page.{HasBadPartial, PageInputs}

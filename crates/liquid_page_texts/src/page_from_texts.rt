@@ -13,11 +13,10 @@ ghost use Rattle.liquid_page_texts.specs.Shown.{ShowsStandard, page_inputs_view}
 use liquid_core::{Error, ErrorKind, Object, Result};
 use liquid_engine::{CountedWrite, DEFAULT_DEPTH, Renderable, RuntimeBuilder};
 use liquid_json::{data_for, data_from_json};
-use liquid_language::Language;
+use liquid_language::{Language, language};
 use liquid_parser::parse_with_source;
 use liquid_syntax::{Partials, Template};
-use liquid_tags::language;
-use liquid_uses::uses_of;
+use liquid_uses::data_uses;
 use std::alloc::Global;
 use std::mem;
 
@@ -144,7 +143,7 @@ fn read_seen(alloc: Global, data: &str, template: &Template, partials: &Partials
     if !is_long(data, template, partials) {
         return data_from_json(alloc, data);
     }
-    let uses = uses_of(alloc, template, partials)?;
+    let uses = data_uses(alloc, template, partials)?;
     data_for(alloc, data, &uses)
 }
 

@@ -11,7 +11,7 @@ use Rattle.liquid_lexer.specs.Readers.{IsOfKind}
 use Rattle.liquid_lexer.specs.declared.fault.FaultKind.TheVariants.{Expected}
 use Rattle.liquid_lexer.specs.declared.fault.ParseError.{ParseError}
 use Rattle.liquid_lexer.specs.declared.fault.ParseError.TheVariants as errors
-use Rattle.liquid_words.proofs.WordLaws.{bind_some, from_some}
+use Rattle.liquid_model.proofs.WordLaws.{bind_some, from_some}
 use Rattle.liquid_evaluation.specs.Tree.{case_of}
 use Rattle.liquid_parser.specs.inside.Classifies.{ReadsBlock}
 use Rattle.liquid_parser.specs.Classification.{case_for, many_or}

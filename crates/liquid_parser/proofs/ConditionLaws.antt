@@ -12,7 +12,7 @@ use Rattle.liquid_evaluation.specs.Tree.{Atom, bare, compared, Condition}
 use Rattle.liquid_evaluation.specs.declared.comparison.ComparisonOperator.{ComparisonOperator}
 use Rattle.liquid_lexer.specs.declared.symbol.Symbol.{Symbol}
 use Rattle.liquid_lexer.specs.declared.symbol.Symbol.TheVariants.{Equals, NotEquals, LessOrGreater, LessThanEquals, GreaterThanEquals, LessThan, GreaterThan, Assign, Colon, Comma, Bar}
-use Rattle.liquid_words.proofs.WordLaws.{from_some, map_some}
+use Rattle.liquid_model.proofs.WordLaws.{from_some, map_some}
 use Rattle.liquid_evaluation.specs.declared.comparison.ComparisonOperator.TheVariants as operators
 
 -- ---- what is written is read

@@ -6,7 +6,7 @@ use Rattle.liquid_core.specs.Expression.{Expression}
 use Rattle.liquid_parser.specs.inside.ConditionAnswers.{operator_before, operator_first, before_alternatives}
 use Rattle.liquid_parser.specs.ConditionReading.{operator_of, with_atom, atom_joined, compared_or, condition_of, after_value, after_operator, after_atom, alternatives_of}
 use Rattle.liquid_lexer.specs.Tokens.{Token, value, range, symbol, value_first, is_word, past_word}
-use Rattle.liquid_words.proofs.WordLaws.{from_some}
+use Rattle.liquid_model.proofs.WordLaws.{from_some}
 use Rattle.liquid_evaluation.specs.Tree.{Atom, bare, compared, Condition}
 use Rattle.liquid_evaluation.specs.declared.comparison.ComparisonOperator.{ComparisonOperator}
 

@@ -9,11 +9,11 @@ use Rattle.liquid_core.specs.declared.expression.Variable as declared
 use Rattle.liquid_model.specs.Texts.{Text}
 use Rattle.liquid_lexer.specs.Tokens.{Token, value, symbol, value_first, past}
 use Rattle.liquid_lexer.specs.declared.symbol.Symbol.TheVariants.{Colon}
-use Rattle.liquid_words.proofs.WordLaws.{bind_some, map_some, from_some, guard_opt}
+use Rattle.liquid_model.proofs.WordLaws.{bind_some, map_some, from_some, guard_opt}
 use Rattle.liquid_evaluation.specs.Groups.{values_group}
-use Rattle.liquid_parser.specs.Cycles.{Cycle, with_group, grouped_of, IsName, an_identifier, a_literal, IsCycle, without_name, with_name, name_alone, is_cycle_name, has_no_steps, any_values_of, named_of, after_first, cycle_of}
+use Rattle.liquid_parser.specs.Cycles.{Cycle, with_group, grouped_of, IsName, an_identifier, a_literal, IsCycle, without_name, with_name, name_alone, is_cycle_name, has_no_steps, named_of, after_first, cycle_of}
 use Rattle.liquid_parser.specs.Repeated.{AreRepeated, no_more, one_more}
-use Rattle.liquid_parser.specs.ValueLists.{a_comma, IsFurther, a_further, IsValuesEnd, no_value, a_last_comma, AreValues, some_values, further_of}
+use Rattle.liquid_parser.specs.ValueLists.{a_comma, IsFurther, a_further, IsValuesEnd, no_value, a_last_comma, AreValues, some_values, any_values_of, further_of}
 use Rattle.liquid_parser.specs.declared.value_items.Separators.TheVariants.{Commas}
 use Rattle.liquid_parser.proofs.ItemLaws.{all_further_takes, all_further_again, values_takes, values_again}
 use Rattle.liquid_parser.proofs.TokenLaws.{past_is, first_value}
@@ -45,14 +45,14 @@ name_seen x v b is without with_some = steps_seen v.indexes.items b without with
 
 -- ---- what is read is a cycle
 
-any_values_take : (name : Expression) (ts : List Token) (xs : List Expression) → IsName name → any_values_of ts ≡ Some xs → IsCycle (Some name) xs (value name ∷ symbol Colon ∷ ts)
+any_values_take : (name : Expression) (ts : List Token) (xs : List Expression) → IsName name → any_values_of Commas ts ≡ Some xs → IsCycle (Some name) xs (value name ∷ symbol Colon ∷ ts)
 any_values_take name [] xs is h = subst (λ (xs : List Expression). IsCycle (Some name) xs (value name ∷ symbol Colon ∷ [])) (from_some h) (name_alone is)
 any_values_take name (t ∷ ts) xs is h = with_name is (values_takes Commas xs (t ∷ ts) h)
 
 named_takes : (name : Expression) (ts : List Token) (c : Cycle) → named_of name ts ≡ Some c → IsCycle c.0 c.1 (value name ∷ symbol Colon ∷ ts)
 named_takes name ts c h =
-    let (named, made) = guard_opt (is_cycle_name name) (option_map (λ xs. (Some name, xs)) (any_values_of ts)) c h in
-    let (xs, read, same) = map_some (any_values_of ts) (λ xs. (Some name, xs)) c made in
+    let (named, made) = guard_opt (is_cycle_name name) (option_map (λ xs. (Some name, xs)) (any_values_of Commas ts)) c h in
+    let (xs, read, same) = map_some (any_values_of Commas ts) (λ xs. (Some name, xs)) c made in
     subst (λ (c : Cycle). IsCycle c.0 c.1 (value name ∷ symbol Colon ∷ ts)) same (any_values_take name ts xs (name_is name named) read)
 
 first_takes : (x : Expression) (ts : List Token) (o : Option (List Token)) (c : Cycle) → past Colon ts ≡ o → after_first x ts o ≡ Some c → IsCycle c.0 c.1 (value x ∷ ts)
@@ -73,12 +73,12 @@ no_colon xs ts (no_more no_value) = refl
 no_colon xs ts (no_more a_last_comma) = refl
 no_colon xs ts (one_more (a_further x a_comma) more) = refl
 
-any_values_again : (xs : List Expression) (ts : List Token) → AreValues Commas xs ts → any_values_of ts ≡ Some xs
+any_values_again : (xs : List Expression) (ts : List Token) → AreValues Commas xs ts → any_values_of Commas ts ≡ Some xs
 any_values_again xs ts (some_values x more) = values_again Commas xs ts (some_values x more)
 
-named_again : (name : Expression) (xs : List Expression) (ts : List Token) → IsName name → any_values_of ts ≡ Some xs → named_of name ts ≡ Some (Some name, xs)
+named_again : (name : Expression) (xs : List Expression) (ts : List Token) → IsName name → any_values_of Commas ts ≡ Some xs → named_of name ts ≡ Some (Some name, xs)
 named_again name xs ts is h =
-    ap (λ (b : Bool). cond b (option_map (λ xs. (Some name, xs)) (any_values_of ts)) None) (name_again name is)
+    ap (λ (b : Bool). cond b (option_map (λ xs. (Some name, xs)) (any_values_of Commas ts)) None) (name_again name is)
     ∙ ap (λ (o : Option (List Expression)). option_map (λ xs. (Some name, xs)) o) h
 
 pub cycle_again : (name : Option Expression) (xs : List Expression) (ts : List Token) → IsCycle name xs ts → cycle_of ts ≡ Some (name, xs)

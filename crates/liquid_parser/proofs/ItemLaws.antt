@@ -1,5 +1,5 @@
 -- Values, loops and pairs are read just where the grammar says so.
-use Rattle.std.proofs.Common.{◌≡◌, ◌<◌, suc, nat_eq, rules, List, [], ◌∷◌, ◌++◌, length, Bool, true, false, codes, cond, Option, Some, None, refl, sym, ap, subst, ◌∙◌, arith}
+use Rattle.std.proofs.Common.{◌≡◌, ◌<◌, suc, nat_eq, rules, List, [], ◌∷◌, ◌++◌, length, Bool, true, false, codes, cond, Option, Some, None, refl, sym, ap, subst, ◌∙◌, arith, append_assoc}
 use Rattle.std.specs.Option.{option_and_then, option_map}
 use Rattle.std.proofs.lemmas.Option.{cond_some}
 use Rattle.liquid_core.specs.Expression.{Expression}
@@ -9,18 +9,18 @@ use Rattle.liquid_lexer.specs.Tokens.{tokens_view}
 use Rattle.liquid_lexer.specs.declared.item.Item.{Item}
 use Rattle.liquid_lexer.specs.declared.symbol.Symbol.{Symbol}
 use Rattle.liquid_lexer.specs.declared.symbol.Symbol.TheVariants.{Colon, Comma}
-use Rattle.liquid_words.proofs.WordLaws.{bind_some, map_some, from_some}
+use Rattle.liquid_model.proofs.WordLaws.{bind_some, map_some, from_some}
 use Rattle.liquid_evaluation.specs.Tree.{Bindings, Source, each_of, counted}
 use Rattle.liquid_parser.specs.Bound.{ArePairs, IsOneOf, IsPair, IsPairsEnd, a_pair, any_item, after_comma, ends_pairs, is_separated, last_comma, mark_of, no_item, one_first, pair_first, bound_pairs, past_comma, unseparated}
 use Rattle.liquid_parser.specs.Loops.{source_token, source_of, source_first, Part, limit_is, offset_is, cols_is, is_reversed, IsLoopPart, a_limit, an_offset, a_reversal, a_width, Parts, no_parts, with_parts, with_part, IsNothing, is_nothing, Head, head_with, IsLoop, a_loop, part_value, read_or_else, own_part, part_first, parts_of, parts_after, loop_of}
 use Rattle.liquid_parser.specs.Repeated.{AreRepeated}
-use Rattle.liquid_parser.specs.ValueLists.{IsSeparator, a_comma, an_or, IsFurther, a_further, IsValuesEnd, no_value, a_last_comma, AreValues, some_values, is_separator, past_separator, further_first, ends_values, further_of, values_of}
+use Rattle.liquid_parser.specs.ValueLists.{IsSeparator, a_comma, an_or, IsFurther, a_further, no_separator, IsValuesEnd, no_value, a_last_comma, AreValues, some_values, is_separator, without_separator, past_separator, further_first, ends_values, further_of, values_of}
 use Rattle.liquid_parser.specs.declared.loop_items.LoopTag.{LoopTag}
 use Rattle.liquid_parser.specs.declared.loop_items.LoopTag.TheVariants.{Each, Rows}
 use Rattle.liquid_parser.specs.declared.pair_items.PairStyle.{PairStyle}
 use Rattle.liquid_parser.specs.declared.pair_items.PairStyle.TheVariants.{Include, JekyllInclude, Render}
 use Rattle.liquid_parser.specs.declared.value_items.Separators.{Separators}
-use Rattle.liquid_parser.specs.declared.value_items.Separators.TheVariants.{Commas, CommasOr}
+use Rattle.liquid_parser.specs.declared.value_items.Separators.TheVariants.{Commas, CommasOr, OptionalCommas}
 use Rattle.liquid_parser.proofs.ConditionLaws.{word_is}
 use Rattle.liquid_parser.proofs.Printed.{first_word}
 use Rattle.liquid_parser.proofs.Repetition.{after_those, repeated_takes, repeated_again, more_turn, end_turn, stuck_turn}
@@ -28,34 +28,49 @@ use Rattle.liquid_parser.proofs.TokenLaws.{symbol_is, past_again, past_is, past_
 
 -- ---- values
 
-or_is : (t : Token) (b : Bool) → is_symbol Comma t ≡ b → cond b true (is_word (codes "or") t) ≡ true → IsSeparator CommasOr t
-or_is t true e h = subst (IsSeparator CommasOr) (sym (symbol_is Comma t e)) a_comma
-or_is t false e h = subst (IsSeparator CommasOr) (sym (word_is (codes "or") t h)) an_or
+comma_is : (s : Separators) (t : Token) → is_symbol Comma t ≡ true → IsSeparator s (t ∷ [])
+comma_is s t h = subst (λ (t : Token). IsSeparator s (t ∷ [])) (sym (symbol_is Comma t h)) a_comma
 
-separator_is : (s : Separators) (t : Token) → is_separator s t ≡ true → IsSeparator s t
-separator_is Commas t h = subst (IsSeparator Commas) (sym (symbol_is Comma t h)) a_comma
+or_is : (t : Token) (b : Bool) → is_symbol Comma t ≡ b → cond b true (is_word (codes "or") t) ≡ true → IsSeparator CommasOr (t ∷ [])
+or_is t true e h = comma_is CommasOr t e
+or_is t false e h = subst (λ (t : Token). IsSeparator CommasOr (t ∷ [])) (sym (word_is (codes "or") t h)) an_or
+
+separator_is : (s : Separators) (t : Token) → is_separator s t ≡ true → IsSeparator s (t ∷ [])
+separator_is Commas t h = comma_is Commas t h
 separator_is CommasOr t h = or_is t (is_symbol Comma t) refl h
+separator_is OptionalCommas t h = comma_is OptionalCommas t h
 
-separator_again : (s : Separators) (t : Token) → IsSeparator s t → is_separator s t ≡ true
-separator_again Commas t a_comma = refl
-separator_again CommasOr t a_comma = refl
-separator_again CommasOr t an_or = refl
+no_separator_is : (s : Separators) (ts rest : List Token) → without_separator s ts ≡ Some rest → (us : List Token) × (ts ≡ us ++ rest) × IsSeparator s us
+no_separator_is Commas ts rest h = absurd cc
+no_separator_is CommasOr ts rest h = absurd cc
+no_separator_is OptionalCommas ts rest h = ([], from_some h, no_separator)
 
-past_separator_is : (s : Separators) (ts rest : List Token) → past_separator s ts ≡ Some rest → (t : Token) × (ts ≡ t ∷ rest) × IsSeparator s t
-past_separator_is s [] rest h = absurd cc
-past_separator_is s (t ∷ ts) rest h = let (e, same) = cond_some (is_separator s t) ts rest h in (t, ap (λ (ts : List Token). t ∷ ts) same, separator_is s t e)
+separated_by : (s : Separators) (t : Token) (ts rest : List Token) (b : Bool) → is_separator s t ≡ b → cond b (Some ts) (without_separator s (t ∷ ts)) ≡ Some rest → (us : List Token) × (t ∷ ts ≡ us ++ rest) × IsSeparator s us
+separated_by s t ts rest true e h = (t ∷ [], ap (λ (ts : List Token). t ∷ ts) (from_some h), separator_is s t e)
+separated_by s t ts rest false e h = no_separator_is s (t ∷ ts) rest h
+
+past_separator_is : (s : Separators) (ts rest : List Token) → past_separator s ts ≡ Some rest → (us : List Token) × (ts ≡ us ++ rest) × IsSeparator s us
+past_separator_is s [] rest h = no_separator_is s [] rest h
+past_separator_is s (t ∷ ts) rest h = separated_by s t ts rest (is_separator s t) refl h
 
 further_takes : (s : Separators) (ts : List Token) (x : Expression) (rest : List Token) → further_first s ts ≡ Some (x, rest) → (us : List Token) × (ts ≡ us ++ rest) × IsFurther s x us
 further_takes s ts x rest h =
     let (mid, following, front) = bind_some (past_separator s ts) value_first (x, rest) h in
-    let (t, cut, is) = past_separator_is s ts mid following in
-    (t ∷ value x ∷ [], cut ∙ ap (λ (ts : List Token). t ∷ ts) (first_value mid x rest front), a_further x is)
+    let (us, cut, is) = past_separator_is s ts mid following in
+    (us ++ value x ∷ [], cut ∙ ap (λ (ts : List Token). us ++ ts) (first_value mid x rest front) ∙ sym (append_assoc us (value x ∷ []) rest), a_further x is)
 
 further_again : (s : Separators) (x : Expression) (ts rest : List Token) → IsFurther s x ts → (further_first s (ts ++ rest) ≡ Some (x, rest)) × (ends_values s (ts ++ rest) ≡ false)
-further_again s x ts rest (a_further {t = t} y is) = (ap (λ (b : Bool). option_and_then value_first (cond b (Some (value x ∷ rest)) None)) (separator_again s t is), refl)
+further_again Commas x ts rest (a_further y a_comma) = (refl, refl)
+further_again CommasOr x ts rest (a_further y a_comma) = (refl, refl)
+further_again CommasOr x ts rest (a_further y an_or) = (refl, refl)
+further_again OptionalCommas x ts rest (a_further y a_comma) = (refl, refl)
+further_again OptionalCommas x ts [] (a_further y no_separator) = (refl, refl)
+further_again OptionalCommas x ts (t ∷ rest) (a_further y no_separator) = (refl, refl)
 
 further_long : (s : Separators) (x : Expression) (ts : List Token) → IsFurther s x ts → 0 < length ts
-further_long s x ts (a_further y is) = omega arith
+further_long s x ts (a_further y a_comma) = omega arith
+further_long s x ts (a_further y an_or) = omega arith
+further_long s x ts (a_further y no_separator) = omega arith
 
 pub further_shorter : (s : Separators) (ts : List Token) (x : Expression × List Token) → further_first s ts ≡ Some x → length x.1 < length ts
 further_shorter s ts x h = let (us, cut, is) = further_takes s ts x.0 x.1 h in cut_shorter ts us x.1 cut (further_long s x.0 us is)
@@ -64,6 +79,7 @@ values_end_is : (s : Separators) (ts : List Token) → ends_values s ts ≡ true
 values_end_is s [] h = no_value
 values_end_is Commas (t ∷ []) h = subst (λ (t : Token). IsValuesEnd Commas (t ∷ [])) (sym (symbol_is Comma t h)) a_last_comma
 values_end_is CommasOr (t ∷ []) h = absurd cc
+values_end_is OptionalCommas (t ∷ []) h = absurd cc
 values_end_is s (t ∷ u ∷ ts) h = absurd cc
 
 values_end_again : (s : Separators) (ts : List Token) → IsValuesEnd s ts → ends_values s ts ≡ true

@@ -8,6 +8,7 @@ pub mod ConditionTurns
 pub mod CycleLaws
 pub mod Finished
 pub mod Grow
+pub mod HostTagLaws
 pub mod ItemLaws
 pub mod NestingLaws
 pub mod ParseTurns

@@ -14,8 +14,8 @@ use Rattle.liquid_language.specs.declared.block.Block.{Block}
 use Rattle.liquid_language.specs.declared.block.Block.TheVariants.{If, Unless, Capture, Case, For, TableRow}
 use Rattle.liquid_language.specs.declared.block.BlockContext.{BlockContext}
 use Rattle.liquid_language.specs.declared.block.Role.{Role}
-use Rattle.liquid_language.specs.declared.block.Role.TheVariants.{End, Control as Word, Tag, Block as Start}
-use Rattle.liquid_language.specs.declared.language.BlockKind.TheVariants as blocks
+use Rattle.liquid_language.specs.declared.block.Role.TheVariants.{End, Control as Word, Tag, Block as Start, HostTag}
+use Rattle.liquid_language.specs.declared.registry.BlockKind.TheVariants as blocks
 use Rattle.liquid_parser.specs.Nesting.{Opening, Statement, leaf, closed, begins, elsif, arm, otherwise, ends, refused}
 use Rattle.liquid_parser.specs.OpenBlocks.{Level, level, State, begun, block_depth, context_of, statement_step, at_end, with_node}
 use Rattle.liquid_parser.specs.Parsing.{ReadsTo}
@@ -24,14 +24,15 @@ use Rattle.liquid_lexer.specs.Pieces as pieces
 use Rattle.liquid_lexer.specs.Pieces.{Piece, stripped}
 use Rattle.liquid_lexer.specs.Readers.{Fails}
 use Rattle.liquid_lexer.specs.SourceReading.{Markup, markup_at, text_step, source_at}
+use Rattle.liquid_language.specs.Styles.{style_of}
 use Rattle.liquid_syntax.specs.Templates.{tree_of}
 use Rattle.liquid_evaluation.specs.Tree.{Node, Nodes, no_nodes, Whens}
 use Rattle.liquid_lexer.specs.ValueReading.{text_at}
-use Rattle.liquid_words.specs.Front.{past_byte}
+use Rattle.liquid_model.specs.Front.{past_byte}
 use Rattle.liquid_parser.specs.declared.build.Builder.{Builder}
 use Rattle.liquid_lexer.specs.declared.fault.ParseError.{ParseError}
 use Rattle.liquid_lexer.specs.declared.fault.ParseError.TheVariants as errors
-use Rattle.liquid_language.specs.declared.language.Language.{Language}
+use Rattle.liquid_language.specs.declared.registry.Language.{Language}
 use Rattle.liquid_lexer.specs.declared.piece.Body.{Body}
 use Rattle.liquid_lexer.specs.declared.piece.Body.TheVariants as bodies
 use Rattle.liquid_syntax.specs.declared.template.Template.{Template}
@@ -55,7 +56,7 @@ refused_all l (errors.Fault f) source h = no_tree l source h
 
 -- the state after all pieces of the source
 abbrev pub all_of : Language → Text → Option State
-all_of l source = source_at (body_of l) (piece_step l) (length source) false begun_with source
+all_of l source = source_at (style_of l) (body_of l) (piece_step l) (length source) false begun_with source
 
 at_once : (l : Language) (source : Text) → template_at l source ≡ option_and_then (λ s. at_end s.0 s.1) (all_of l source)
 unfolding template_at
@@ -127,6 +128,7 @@ tag_starts l is ts None h = absurd cc
 tag_starts l is ts (Some End) h = absurd cc
 tag_starts l is ts (Some (Word word)) h = absurd cc
 tag_starts l is ts (Some (Tag kind)) h = absurd cc
+tag_starts l is ts (Some (HostTag n)) h = absurd cc
 tag_starts l is ts (Some (Start blocks.If)) h = two_starts If (if_of ts)
 tag_starts l is ts (Some (Start blocks.Unless)) h = two_starts Unless (unless_of ts)
 tag_starts l is ts (Some (Start blocks.Capture)) h = one_starts Capture (capture_of ts)
@@ -175,23 +177,23 @@ module _ (l : Language) (m : Markup × Text) (ls : List Level) (cur : Nodes) whe
 -- ---- a turn
 
 module _ (l : Language) (all : Option State) (rest t following : Text) (n : ℕ) (front : Bool) (ls : List Level) (cur : Nodes)
-    (so_far : all ≡ source_at (body_of l) (piece_step l) n front (ls, cur) rest) (cut : (t, following) ≡ text_at rest) where
+    (so_far : all ≡ source_at (style_of l) (body_of l) (piece_step l) n front (ls, cur) rest) (cut : (t, following) ≡ text_at rest) where
   pub last_text : (st : Text) → past_byte 123 following ≡ None → st ≡ stripped front t false → all ≡ Some (ls, text_added st cur)
   last_text st none e =
-      so_far ∙ last_turn rest t following cut (body_of l) (piece_step l) n front (ls, cur) none ∙ text_taken l (stripped front t false) ls cur
+      so_far ∙ last_turn rest t following cut (style_of l) (body_of l) (piece_step l) n front (ls, cur) none ∙ text_taken l (stripped front t false) ls cur
       ∙ ap (λ st. Some (ls, text_added st cur)) (sym e)
 
   module _ (inside : List ℕ) (is : Some inside ≡ past_byte 123 following) where
-    pub markup_refused : (e : ParseError) → Fails e (markup_at inside) → Fails e all
-    markup_refused e h = fails_by e (markup_at inside) all (λ g. so_far ∙ no_markup rest t following cut (body_of l) (piece_step l) n front (ls, cur) inside (sym is) g) h
+    pub markup_refused : (e : ParseError) → Fails e (markup_at (style_of l) inside) → Fails e all
+    markup_refused e h = fails_by e (markup_at (style_of l) inside) all (λ g. so_far ∙ no_markup rest t following cut (style_of l) (body_of l) (piece_step l) n front (ls, cur) inside (sym is) g) h
 
-    module _ (m : Markup × List ℕ) (found : markup_at inside ≡ Some m) (st : Text) (strip : st ≡ stripped front t m.0.before) where
+    module _ (m : Markup × List ℕ) (found : markup_at (style_of l) inside ≡ Some m) (st : Text) (strip : st ≡ stripped front t m.0.before) where
       texted : text_step (piece_step l) (stripped front t m.0.before) (ls, cur) ≡ Some (ls, text_added st cur)
       texted = ap (λ t. text_step (piece_step l) t (ls, cur)) (sym strip) ∙ text_taken l st ls cur
 
       refused_by : (o : Option (Markup × List ℕ)) → whole_at l (ls, text_added st cur) m ≡ o → option_and_then (λ v. piece_step l (ls, text_added st cur) v.0.piece) o ≡ None → all ≡ None
-      refused_by None e h = so_far ∙ no_body rest t following cut (body_of l) (piece_step l) n front (ls, cur) inside (sym is) m found (ls, text_added st cur) texted e
-      refused_by (Some v) e h = so_far ∙ no_step rest t following cut (body_of l) (piece_step l) n front (ls, cur) inside (sym is) m found (ls, text_added st cur) texted v e h
+      refused_by None e h = so_far ∙ no_body rest t following cut (style_of l) (body_of l) (piece_step l) n front (ls, cur) inside (sym is) m found (ls, text_added st cur) texted e
+      refused_by (Some v) e h = so_far ∙ no_step rest t following cut (style_of l) (body_of l) (piece_step l) n front (ls, cur) inside (sym is) m found (ls, text_added st cur) texted v e h
 
       -- a body without its end, or a piece that can't stand there
       pub piece_refused : (e : ParseError) → Fails e (option_and_then (λ v. piece_step l (ls, text_added st cur) v.0.piece) (whole_at l (ls, text_added st cur) m)) → Fails e all
@@ -199,8 +201,8 @@ module _ (l : Language) (all : Option State) (rest t following : Text) (n : ℕ)
 
       module _ (v : Markup × List ℕ) (closed : whole_at l (ls, text_added st cur) m ≡ Some v) where
         pub went_on : (s : State) → length rest ≤ n → piece_step l (ls, text_added st cur) v.0.piece ≡ Some s
-            → all ≡ source_at (body_of l) (piece_step l) (n - 1) v.0.after s v.1
-        went_on s le g = so_far ∙ next_turn rest t following cut (body_of l) (piece_step l) n front (ls, cur) inside (sym is) m found (ls, text_added st cur) texted v closed le s g
+            → all ≡ source_at (style_of l) (body_of l) (piece_step l) (n - 1) v.0.after s v.1
+        went_on s le g = so_far ∙ next_turn rest t following cut (style_of l) (body_of l) (piece_step l) n front (ls, cur) inside (sym is) m found (ls, text_added st cur) texted v closed le s g
 
         pub went_shorter : length v.1 < length rest
-        went_shorter = turn_shorter rest t following cut (body_of l) (piece_step l) n front (ls, cur) inside (sym is) m found (ls, text_added st cur) texted v closed
+        went_shorter = turn_shorter rest t following cut (style_of l) (body_of l) (piece_step l) n front (ls, cur) inside (sym is) m found (ls, text_added st cur) texted v closed

@@ -6,7 +6,7 @@ use Rattle.liquid_model.specs.Texts.{Text}
 use Rattle.liquid_lexer.specs.Items as items
 use Rattle.liquid_lexer.specs.Tokens.{Token, tokens_of, value, value_first}
 use Rattle.liquid_lexer.specs.declared.symbol.Symbol.TheVariants.{Colon}
-use Rattle.liquid_words.proofs.WordLaws.{bind_some, map_some, from_some}
+use Rattle.liquid_model.proofs.WordLaws.{bind_some, map_some, from_some}
 use Rattle.liquid_evaluation.specs.Tree.{Bindings}
 use Rattle.liquid_parser.specs.Bound.{a_pair, pair_first, bound_pairs}
 use Rattle.liquid_parser.specs.PartialItems.{IsInclude, IsJekyllInclude, include_of, included_pairs, jekyll_name, jekyll_of, name_alone, name_and_pairs, spelled_name}

@@ -13,9 +13,9 @@ use Rattle.liquid_lexer.specs.Tokens.{Token, value, range, symbol, word, word_of
 use Rattle.liquid_parser.specs.Classification.{assign_of}
 use Rattle.liquid_language.specs.Registered.{registered_in}
 use Rattle.liquid_evaluation.specs.Tree.{FilterCall, Chain, assign}
-use Rattle.liquid_language.specs.declared.language.Language.{Language}
+use Rattle.liquid_language.specs.declared.registry.Language.{Language}
 use Rattle.liquid_lexer.specs.declared.symbol.Symbol.TheVariants.{Equals, NotEquals, LessOrGreater, LessThanEquals, GreaterThanEquals, LessThan, GreaterThan, Assign, Colon, Comma, Bar}
-use Rattle.liquid_words.proofs.WordLaws.{bind_some, map_some, from_some}
+use Rattle.liquid_model.proofs.WordLaws.{bind_some, map_some, from_some}
 
 -- ---- options
 
@@ -26,7 +26,7 @@ module _ (l : Filters) where
   more_again [] (filter name is counts more) h = ap (λ o. option_map (λ fs. ([], fs)) o) h
   more_again (v ∷ vs) a h = ap (λ o. option_map (λ x. (v ∷ x.0, x.1)) o) (more_again vs a h)
 
-  called_again : (vs : List Expression) {fs : List FilterCall} {rest : List Token} → AreFilters l fs rest → filters_of l rest ≡ Some fs → called_of l (arguments vs ++ rest) ≡ Some (vs, fs)
+  pub called_again : (vs : List Expression) {fs : List FilterCall} {rest : List Token} → AreFilters l fs rest → filters_of l rest ≡ Some fs → called_of l (arguments vs ++ rest) ≡ Some (vs, fs)
   unfolding filters_of
   called_again [] none h = refl
   called_again [] (filter name is counts more) h = ap (λ o. option_map (λ fs. ([], fs)) o) h
@@ -36,7 +36,7 @@ module _ (l : Filters) where
   call_again name kind xs fs known counts =
       ap (λ o. option_map (λ call. call ∷ fs) (accepted_call name o xs)) known ∙ ap (λ (b : Bool). option_map (λ call. call ∷ fs) (cond b (Some (record { filter = called_as name kind; arguments = xs })) None)) counts
 
-  filters_again : {fs : List FilterCall} {is : List Token} → AreFilters l fs is → filters_of l is ≡ Some fs
+  pub filters_again : {fs : List FilterCall} {is : List Token} → AreFilters l fs is → filters_of l is ≡ Some fs
   unfolding filters_of
   filters_again none = refl
   filters_again (filter {filter = kind} {xs = xs} {calls = fs} name known counts more) =

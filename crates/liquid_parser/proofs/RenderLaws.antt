@@ -4,7 +4,7 @@ use Rattle.std.specs.Option.{option_and_then, option_map}
 use Rattle.liquid_core.specs.Expression.{Expression}
 use Rattle.liquid_model.specs.Texts.{Text}
 use Rattle.liquid_lexer.specs.Tokens.{Token, value, word, value_first, word_first, past_word}
-use Rattle.liquid_words.proofs.WordLaws.{bind_some, map_some}
+use Rattle.liquid_model.proofs.WordLaws.{bind_some, map_some}
 use Rattle.liquid_evaluation.specs.Tree.{Bindings, Source, each_of, counted}
 use Rattle.liquid_parser.specs.Bound.{ArePairs, after_comma, last_comma, no_item, bound_pairs, unseparated}
 use Rattle.liquid_parser.specs.Loops.{read_or_else, source_first, source_token}

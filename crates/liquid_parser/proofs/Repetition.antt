@@ -2,7 +2,7 @@
 use Rattle.std.proofs.Common.{◌≡◌, ℕ, zero, suc, ◌<◌, ◌≤◌, arith, List, [], ◌∷◌, ◌++◌, length, Bool, true, false, Option, Some, None, refl, sym, ap, subst, ◌∙◌, append_assoc}
 use Rattle.std.specs.Option.{option_map}
 use Rattle.liquid_lexer.specs.Tokens.{Token}
-use Rattle.liquid_words.proofs.WordLaws.{map_some, from_some}
+use Rattle.liquid_model.proofs.WordLaws.{map_some, from_some}
 use Rattle.liquid_parser.specs.Repeated.{AreRepeated, no_more, one_more, repeats_by, repeated_at, repeated_of}
 
 -- what is read after the first ones

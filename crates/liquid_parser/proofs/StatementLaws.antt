@@ -1,5 +1,5 @@
 -- A piece is read as just what the written grammar says that it is.
-use Rattle.std.proofs.Common.{◌≡◌, List, [], ◌∷◌, Option, Some, None, option_map, refl, sym, ap, subst, ◌∙◌}
+use Rattle.std.proofs.Common.{◌≡◌, ℕ, List, [], ◌∷◌, Option, Some, None, option_map, refl, sym, ap, subst, ◌∙◌}
 use Rattle.liquid_model.specs.Texts.{Text}
 use Rattle.liquid_lexer.specs.Pieces as pieces
 use Rattle.liquid_lexer.specs.Pieces.{Piece}
@@ -8,13 +8,16 @@ use Rattle.liquid_lexer.specs.Tokens.{Token, tokens_of, word_first, past}
 use Rattle.liquid_lexer.specs.declared.piece.Body.{Body}
 use Rattle.liquid_lexer.specs.declared.piece.Body.TheVariants as bodies
 use Rattle.liquid_lexer.specs.declared.symbol.Symbol.TheVariants.{Assign}
-use Rattle.liquid_words.proofs.WordLaws.{bind_some, map_some}
+use Rattle.liquid_model.proofs.WordLaws.{bind_some, map_some}
+use Rattle.std.specs.Option.{option_and_then}
 use Rattle.liquid_parser.specs.ChainReading.{chain_of}
 use Rattle.liquid_parser.specs.ConditionReading.{condition_of}
 use Rattle.liquid_parser.specs.Classification.{leaf_or, assign_of, if_node, unless_node, bare, word_alone, value_alone, one_or, many_or, arm_or, capture_of, case_for, two_or, elsif_or, ends_or, tag_statement, raw_statement, comment_statement, reads}
-use Rattle.liquid_parser.specs.Statements.{IsStatement, is_text, is_output, is_end, is_elsif, is_else, is_assign, is_if, is_unless, is_bare_else, is_capture, is_case, is_when, is_break, is_continue, is_increment, is_decrement, is_include, is_jekyll_include, is_render, is_cycle, is_ifchanged, is_for, is_tablerow, is_raw, is_comment}
+use Rattle.liquid_parser.specs.Statements.{IsStatement, is_text, is_output, is_end, is_elsif, is_else, is_assign, is_if, is_unless, is_bare_else, is_capture, is_case, is_when, is_break, is_continue, is_increment, is_decrement, is_include, is_jekyll_include, is_render, is_cycle, is_ifchanged, is_for, is_tablerow, is_host_tag, is_raw, is_comment}
+use Rattle.liquid_parser.specs.HostTags.{host_chain_of, host_tag_of}
 use Rattle.liquid_parser.specs.Loops.{Head, for_node, loop_of, row_node}
 use Rattle.liquid_parser.specs.PartialItems.{Rendered, include_node, include_of, jekyll_node, jekyll_of, render_node, render_of}
+use Rattle.liquid_language.specs.HostTags.{TagCall, call_at}
 use Rattle.liquid_language.specs.Registered.{registered_in}
 use Rattle.liquid_parser.specs.Cycles.{Cycle, cycle_node, cycle_of, with_group}
 use Rattle.liquid_parser.specs.Nesting.{of_one, Statement, leaf, closed, begins, elsif, arm, otherwise, ends, refused}
@@ -24,10 +27,10 @@ use Rattle.liquid_language.specs.declared.block.Block.TheVariants.{If, Unless, C
 use Rattle.liquid_language.specs.declared.block.Control.TheVariants.{Elsif, Else, BareElse, When}
 use Rattle.liquid_language.specs.declared.block.BlockContext.{BlockContext}
 use Rattle.liquid_language.specs.declared.block.Role.{Role}
-use Rattle.liquid_language.specs.declared.block.Role.TheVariants.{End, Control as Word, Tag, Block as Start}
-use Rattle.liquid_language.specs.declared.language.BlockKind.TheVariants as blocks
-use Rattle.liquid_language.specs.declared.language.Language.{Language}
-use Rattle.liquid_language.specs.declared.language.TagKind.TheVariants as tags
+use Rattle.liquid_language.specs.declared.block.Role.TheVariants.{End, Control as Word, Tag, Block as Start, HostTag}
+use Rattle.liquid_language.specs.declared.registry.BlockKind.TheVariants as blocks
+use Rattle.liquid_language.specs.declared.registry.Language.{Language}
+use Rattle.liquid_language.specs.declared.registry.TagKind.TheVariants as tags
 use Rattle.liquid_parser.proofs.ConditionLaws.{condition_takes, condition_again}
 use Rattle.liquid_core.specs.Expression.{Expression}
 use Rattle.liquid_parser.specs.ValueLists.{values_of}
@@ -35,6 +38,7 @@ use Rattle.liquid_parser.specs.declared.loop_items.LoopTag.TheVariants.{Each, Ro
 use Rattle.liquid_parser.specs.declared.value_items.Separators.TheVariants.{CommasOr}
 use Rattle.liquid_parser.proofs.Alone.{one_word, one_value}
 use Rattle.liquid_parser.proofs.CycleLaws.{cycle_takes, cycle_again}
+use Rattle.liquid_parser.proofs.HostTagLaws.{host_takes, host_again}
 use Rattle.liquid_parser.proofs.ItemLaws.{loop_takes, loop_again, values_takes, values_again}
 use Rattle.liquid_parser.proofs.NestingLaws.{Stands}
 use Rattle.liquid_parser.proofs.PartialLaws.{include_takes, include_again, jekyll_takes, jekyll_again}
@@ -65,6 +69,10 @@ statement_says l x p statement (is_tablerow {h = h} {is = is} r g) = ap (tag_sta
 statement_says l x p statement (is_include {name = name} {ps = ps} {is = is} r g) = ap (tag_statement l is (tokens_of is)) r ∙ ap (λ (o : Option (Expression × Bindings)). leaf_or (option_map include_node o)) (include_again name ps (tokens_of is) g)
 statement_says l x p statement (is_jekyll_include {name = name} {ps = ps} {is = is} r g) = ap (tag_statement l is (tokens_of is)) r ∙ ap (λ (o : Option (Text × Bindings)). leaf_or (option_map jekyll_node o)) (jekyll_again name ps is g)
 statement_says l x p statement (is_render {name = name} {each = each} {ps = ps} {is = is} r g) = ap (tag_statement l is (tokens_of is)) r ∙ ap (λ (o : Option (Expression × Rendered)). leaf_or (option_map render_node o)) (render_again name each ps (tokens_of is) g)
+statement_says l x p statement (is_host_tag {called = called} {c = c} {is = is} r at h) =
+    ap (tag_statement l is (tokens_of is)) r
+    ∙ ap (λ (o : Option TagCall). leaf_or (option_and_then (λ called. option_map output (host_chain_of (registered_in l.filters) called (tokens_of is))) o)) at
+    ∙ ap (λ (o : Option Chain). leaf_or (option_map output o)) (host_again (registered_in l.filters) called c (tokens_of is) h)
 statement_says l x p statement (is_raw {t = t} h) = ap (raw_statement t) h
 statement_says l x p statement (is_comment h) = ap comment_statement h
 
@@ -109,6 +117,14 @@ module _ (l : Language) (x : BlockContext) (statement : Statement) (stands : Sta
   bare_stands w [] n rule h = subst (IsStatement l x (pieces.tag w [])) h rule
   bare_stands w (i ∷ is) n rule h = never statement h stands
 
+  host_stands : (w : Text) (is : List Item) (n : ℕ) (o : Option Node) → role_of l x w ≡ Some (HostTag n) → host_tag_of l n (tokens_of is) ≡ o → leaf_or o ≡ statement → IsStatement l x (pieces.tag w is) statement
+  host_stands w is n None r e h = never statement h stands
+  host_stands w is n (Some node) r e h =
+      let known = registered_in l.filters in
+      let (called, at, more) = bind_some (call_at l n) _ node e in
+      let (c, read, same) = map_some (host_chain_of known called (tokens_of is)) output node more in
+      subst (IsStatement l x (pieces.tag w is)) (ap leaf same ∙ h) (is_host_tag r at (host_takes known called c (tokens_of is) read))
+
   -- of a tag whose items are one word, one value ..
   part_stands : {A : Type 0} (w : Text) (is : List Item) (o : Option A) (to : Option A → Statement) → to None ≡ refused → to o ≡ statement → ((a : A) → o ≡ Some a → IsStatement l x (pieces.tag w is) (to (Some a))) → IsStatement l x (pieces.tag w is) statement
   part_stands w is None to none h rule = never statement (sym none ∙ h) stands
@@ -117,6 +133,7 @@ module _ (l : Language) (x : BlockContext) (statement : Statement) (stands : Sta
   tag_stands : (w : Text) (is : List Item) (role : Option Role) → role_of l x w ≡ role → tag_statement l is (tokens_of is) role ≡ statement → IsStatement l x (pieces.tag w is) statement
   tag_stands w is None r h = never statement h stands
   tag_stands w is (Some End) r h = end_stands w is r h
+  tag_stands w is (Some (HostTag n)) r h = host_stands w is n (host_tag_of l n (tokens_of is)) r refl h
   tag_stands w is (Some (Word Elsif)) r h = elsif_stands w is (condition_of (tokens_of is)) r refl h
   tag_stands w is (Some (Word Else)) r h = subst (IsStatement l x (pieces.tag w is)) h (is_else r)
   tag_stands w is (Some (Tag tags.Assign)) r h = assign_stands w is (assign_of l (tokens_of is)) r refl h

@@ -5,22 +5,23 @@ use Rattle.liquid_model.specs.Texts.{Text}
 use Rattle.liquid_parser.specs.Classification.{tag_statement, raw_statement, comment_statement, reads}
 use Rattle.liquid_language.specs.Roles.{role_of, verbatim_body}
 use Rattle.liquid_language.specs.declared.block.Role.{Role}
-use Rattle.liquid_language.specs.declared.block.Role.TheVariants.{End, Control as Word, Tag, Block as Start}
-use Rattle.liquid_language.specs.declared.language.BlockKind.TheVariants as blocks
+use Rattle.liquid_language.specs.declared.block.Role.TheVariants.{End, Control as Word, Tag, Block as Start, HostTag}
+use Rattle.liquid_language.specs.declared.registry.BlockKind.TheVariants as blocks
 use Rattle.liquid_lexer.specs.declared.piece.Body.{Body}
 use Rattle.liquid_lexer.specs.declared.piece.Body.TheVariants as bodies
 use Rattle.liquid_parser.specs.OpenBlocks.{Level, State, context_of, statement_step, at_end, go, read_pieces}
 use Rattle.liquid_lexer.specs.Pieces.{Piece, text, output, tag, raw, comment}
 use Rattle.liquid_lexer.specs.SourceReading.{all_steps, source_at, TakesWanted}
+use Rattle.liquid_language.specs.Styles.{style_of}
 use Rattle.liquid_parser.specs.Parsing.{IsTemplate, IsOnlyTree, HasNoTree}
 use Rattle.liquid_parser.specs.inside.TemplateReading.{body_of, piece_step, begun_with, template_at}
 use Rattle.liquid_evaluation.specs.Tree.{Nodes, no_nodes}
-use Rattle.liquid_language.specs.declared.language.Language.{Language}
+use Rattle.liquid_language.specs.declared.registry.Language.{Language}
 use Rattle.liquid_parser.specs.Statements.{IsStatement}
 use Rattle.liquid_parser.proofs.StatementLaws.{statement_says, statement_stands}
 use Rattle.liquid_parser.proofs.NestingLaws.{tree_takes, tree_again}
 use Rattle.liquid_lexer.proofs.SourceLaws.{source_takes, source_again}
-use Rattle.liquid_words.proofs.WordLaws.{bind_some, from_some}
+use Rattle.liquid_model.proofs.WordLaws.{bind_some, from_some}
 
 module _ (l : Language) where
   bare_tag : (role : Option Role) (s next : State) → statement_step (tag_statement l [] [] role) s.0 s.1 ≡ Some next → verbatim_body role ≡ None
@@ -28,6 +29,7 @@ module _ (l : Language) where
   bare_tag (Some End) s next h = refl
   bare_tag (Some (Word word)) s next h = refl
   bare_tag (Some (Tag kind)) s next h = refl
+  bare_tag (Some (HostTag n)) s next h = refl
   bare_tag (Some (Start blocks.If)) s next h = refl
   bare_tag (Some (Start blocks.Unless)) s next h = refl
   bare_tag (Some (Start blocks.Capture)) s next h = refl
@@ -70,15 +72,15 @@ module _ (l : Language) where
   pub template_takes : (t : Nodes) (source : Text) → template_at l source ≡ Some t → IsTemplate l t source
   unfolding template_at IsTemplate
   template_takes t source h =
-      let (s, at_s, ends) = bind_some (source_at (body_of l) (piece_step l) (length source) false begun_with source) (λ s. at_end s.0 s.1) t h in
-      let (ps, is, steps) = source_takes (body_of l) (piece_step l) (length source) false begun_with source s at_s in
+      let (s, at_s, ends) = bind_some (source_at (style_of l) (body_of l) (piece_step l) (length source) false begun_with source) (λ s. at_end s.0 s.1) t h in
+      let (ps, is, steps) = source_takes (style_of l) (body_of l) (piece_step l) (length source) false begun_with source s at_s in
       (ps, is, tree_takes (IsStatement l) (reads l) (statement_says l) (statement_stands l) t ps (sym (steps_read ps [] no_nodes) ∙ ap (option_and_then (λ s. at_end s.0 s.1)) steps ∙ ends))
 
   pub template_again : (t : Nodes) (source : Text) → IsTemplate l t source → template_at l source ≡ Some t
   unfolding template_at IsTemplate
   template_again t source (ps, is, nodes) =
       let (s, steps, ends) = bind_some (all_steps (piece_step l) ps begun_with) (λ s. at_end s.0 s.1) t (steps_read ps [] no_nodes ∙ tree_again (IsStatement l) (reads l) (statement_says l) (statement_stands l) t ps nodes) in
-      ap (option_and_then (λ s. at_end s.0 s.1)) (source_again (body_of l) (piece_step l) agrees is (length source) (omega arith) begun_with s steps) ∙ ends
+      ap (option_and_then (λ s. at_end s.0 s.1)) (source_again (style_of l) (body_of l) (piece_step l) agrees is (length source) (omega arith) begun_with s steps) ∙ ends
 
   pub only_tree : (t : Nodes) (source : Text) → template_at l source ≡ Some t → IsOnlyTree l t source
   only_tree t source h = λ u. (λ is. from_some (sym (template_again u source is) ∙ h), λ e. template_takes u source (h ∙ ap Some (sym e)))

@@ -8,7 +8,7 @@ use Rattle.liquid_model.specs.Texts.{Text}
 use Rattle.liquid_lexer.specs.Tokens.{Token, value, range, symbol, word, symbol_number, is_symbol, past, past_word, is_word, value_first}
 use Rattle.liquid_lexer.specs.declared.symbol.Symbol.{Symbol}
 use Rattle.liquid_lexer.specs.declared.symbol.Symbol.TheVariants.{Equals, NotEquals, LessOrGreater, LessThanEquals, GreaterThanEquals, LessThan, GreaterThan, Assign, Colon, Comma, Bar}
-use Rattle.liquid_words.proofs.WordLaws.{from_some}
+use Rattle.liquid_model.proofs.WordLaws.{from_some}
 use Rattle.liquid_parser.proofs.ConditionLaws.{word_is}
 
 -- the symbol at a place

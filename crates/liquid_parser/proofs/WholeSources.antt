@@ -1,19 +1,26 @@
--- What is said of whole sources: one without openers is one text, and a source has at most one tree.
-use Rattle.std.proofs.Common.{◌≡◌, ℕ, List, [], ◌∷◌, Bool, true, false, not, ◌==◌, ◌||◌, ◌&&◌, refl, sym, ap, subst, ◌∙◌, append-nil}
+-- What is said of whole sources: one without openers is one text, a source has at most one tree, and without paths tags have items.
+use Rattle.std.proofs.Common.{◌≡◌, ℕ, List, [], ◌∷◌, Bool, true, false, cond, not, ◌==◌, ◌||◌, ◌&&◌, refl, sym, ap, subst, ◌∙◌, append-nil}
 use Rattle.std.proofs.lemmas.Bool.{eqb-true}
-use Rattle.liquid_words.specs.Bytes.{plain, open_brace, percent}
+use Rattle.liquid_model.specs.Bytes.{plain, open_brace, percent}
 use Rattle.liquid_lexer.specs.Openers.{opener}
 use Rattle.liquid_lexer.specs.Pieces as pieces
 use Rattle.liquid_lexer.specs.Pieces.{last}
-use Rattle.liquid_words.specs.Words.{IsRun}
+use Rattle.liquid_model.specs.Words.{IsRun}
 use Rattle.liquid_lexer.specs.declared.item.Delimiter.{Delimiter}
 use Rattle.liquid_lexer.specs.declared.item.Delimiter.TheVariants.{Output, Tag}
-use Rattle.liquid_words.proofs.WordLaws.{from_some}
+use Rattle.liquid_model.proofs.WordLaws.{from_some}
 use Rattle.liquid_parser.specs.Statements.{is_text}
 use Rattle.liquid_parser.specs.Nesting.{none, is_leaf}
 use Rattle.liquid_parser.specs.Parsing.{IsTemplate}
-use Rattle.liquid_parser.specs.TemplateLaw.{HasNoOpener, PlainSources, AtMostOneTemplate}
+use Rattle.liquid_parser.specs.TemplateLaw.{HasNoOpener, PlainSources, AtMostOneTemplate, ItemsWithoutPaths}
 use Rattle.liquid_parser.proofs.TemplateLaws.{template_again}
+use Rattle.liquid_model.specs.Maps.{listed}
+use Rattle.liquid_model.specs.Texts.{Text}
+use Rattle.liquid_lexer.proofs.SourceLaws.{items_only, items_styled}
+use Rattle.liquid_lexer.specs.declared.style.Style.TheVariants.{Items}
+use Rattle.liquid_language.specs.Languages.{kinds_of}
+use Rattle.liquid_language.specs.Styles.{style_of, style_of_kind}
+use Rattle.liquid_language.specs.declared.registry.Language.{Language}
 
 -- no opener begins at the front
 NoneBegins : List ℕ → Type 0
@@ -48,3 +55,9 @@ plain_sources l (b ∷ bs) h = (pieces.text (b ∷ bs) ∷ [], last (plain_run (
 
 pub at_most_one_template : AtMostOneTemplate
 at_most_one_template l source t u this that = from_some (sym (template_again l t source this) ∙ template_again l u source that)
+
+items_of_all : (l : Language) → l.include_paths ≡ false → (w : Text) → style_of l w ≡ Items
+items_of_all l e w = ap (λ (b : Bool). cond b (style_of_kind (listed (kinds_of l.tags) w)) Items) e
+
+pub items_without_paths : ItemsWithoutPaths
+items_without_paths l ps source e = (items_only (style_of l) (items_of_all l e) false ps source, items_styled (style_of l) (items_of_all l e) false ps source)

@@ -7,7 +7,7 @@ use Rattle.liquid_parser.specs.Classification.{assign_of}
 use Rattle.liquid_language.specs.Registered.{registered_in}
 use Rattle.liquid_lexer.specs.Tokens.{Token}
 use Rattle.liquid_evaluation.specs.Tree.{Chain, assign}
-use Rattle.liquid_language.specs.declared.language.Language.{Language}
+use Rattle.liquid_language.specs.declared.registry.Language.{Language}
 
 -- tokens are read as a chain exactly where the grammar says that they are it
 abbrev pub ReadsChains : Type 0

@@ -10,6 +10,7 @@ use Rattle.liquid_lexer.specs.declared.piece.Body.TheVariants as bodies
 use Rattle.liquid_lexer.specs.declared.symbol.Symbol.TheVariants as symbols
 use Rattle.liquid_parser.specs.ChainReading.{chain_of}
 use Rattle.liquid_parser.specs.ConditionReading.{condition_of}
+use Rattle.liquid_parser.specs.HostTags.{host_tag_of}
 use Rattle.liquid_parser.specs.Loops.{for_node, loop_of, row_node}
 use Rattle.liquid_parser.specs.PartialItems.{include_node, include_of, jekyll_node, jekyll_of}
 use Rattle.liquid_parser.specs.PartialItems.{render_node, render_of}
@@ -33,12 +34,12 @@ use Rattle.liquid_language.specs.declared.block.Control.TheVariants as words
 use Rattle.liquid_language.specs.declared.block.BlockContext.{BlockContext}
 use Rattle.liquid_language.specs.declared.block.Role.{Role}
 use Rattle.liquid_language.specs.declared.block.Role.TheVariants.{End, Control as Word, Tag}
-use Rattle.liquid_language.specs.declared.block.Role.TheVariants.{Block as Start}
-use Rattle.liquid_language.specs.declared.language.BlockKind.{BlockKind}
-use Rattle.liquid_language.specs.declared.language.BlockKind.TheVariants as blocks
-use Rattle.liquid_language.specs.declared.language.Language.{Language}
-use Rattle.liquid_language.specs.declared.language.TagKind.{TagKind}
-use Rattle.liquid_language.specs.declared.language.TagKind.TheVariants as tags
+use Rattle.liquid_language.specs.declared.block.Role.TheVariants.{Block as Start, HostTag}
+use Rattle.liquid_language.specs.declared.registry.BlockKind.{BlockKind}
+use Rattle.liquid_language.specs.declared.registry.BlockKind.TheVariants as blocks
+use Rattle.liquid_language.specs.declared.registry.Language.{Language}
+use Rattle.liquid_language.specs.declared.registry.TagKind.{TagKind}
+use Rattle.liquid_language.specs.declared.registry.TagKind.TheVariants as tags
 use Rattle.liquid_parser.specs.declared.loop_items.LoopTag.TheVariants.{Each, Rows}
 
 abbrev pub leaf_or : Option Node → Statement
@@ -162,6 +163,7 @@ tag_statement l is ts (Some End) = ends_or ts
 tag_statement l is ts (Some (Word word)) = control_statement ts word
 tag_statement l is ts (Some (Tag kind)) = leaf_statement l is ts kind
 tag_statement l is ts (Some (Start kind)) = block_statement ts kind
+tag_statement l is ts (Some (HostTag n)) = leaf_or (host_tag_of l n ts)
 
 abbrev pub raw_statement : Text → Option Body → Statement
 raw_statement t (Some bodies.Raw) = closed (raw t)
@@ -189,6 +191,7 @@ is_start (Some End) = false
 is_start (Some (Word word)) = false
 is_start (Some (Tag kind)) = false
 is_start (Some (Start kind)) = true
+is_start (Some (HostTag n)) = false
 
 -- the piece is the start of a block, whatever its items are
 abbrev pub starts_block : Language → BlockContext → pieces.Piece → Bool

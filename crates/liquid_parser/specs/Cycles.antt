@@ -12,7 +12,7 @@ use Rattle.liquid_lexer.specs.Tokens.{Token, value, symbol, value_first, past}
 use Rattle.liquid_lexer.specs.declared.symbol.Symbol.TheVariants.{Colon}
 use Rattle.liquid_evaluation.specs.Groups.{group_of}
 use Rattle.liquid_evaluation.specs.Tree.{Node, cycle}
-use Rattle.liquid_parser.specs.ValueLists.{AreValues, further_of, values_of}
+use Rattle.liquid_parser.specs.ValueLists.{AreValues, any_values_of, further_of}
 use Rattle.liquid_parser.specs.declared.value_items.Separators.TheVariants.{Commas}
 
 -- ---- the grammar
@@ -45,15 +45,10 @@ abbrev pub is_cycle_name : Expression → Bool
 is_cycle_name (literal d) = true
 is_cycle_name (variable w steps) = has_no_steps steps
 
--- values, or nothing
-abbrev pub any_values_of : List Token → Option (List Expression)
-any_values_of [] = Some []
-any_values_of (t ∷ ts) = values_of Commas (t ∷ ts)
-
 -- what follows a name and its `:`
 abbrev pub named_of : Expression → List Token → Option Cycle
-named_of name ts = cond (is_cycle_name name) (option_map (λ xs. (Some name, xs)) (any_values_of ts))
-    None
+named_of name ts =
+    cond (is_cycle_name name) (option_map (λ xs. (Some name, xs)) (any_values_of Commas ts)) None
 
 -- what follows a first value, from the `:` on where there is one
 abbrev pub after_first : Expression → List Token → Option (List Token) → Option Cycle

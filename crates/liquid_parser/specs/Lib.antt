@@ -8,6 +8,8 @@ pub mod ConditionReading
 pub mod Conditions
 pub mod Cycles
 pub mod Faults
+pub mod HostTagLaw
+pub mod HostTags
 pub mod Loops
 pub mod Nesting
 pub mod NestingLaw

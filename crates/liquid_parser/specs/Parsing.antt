@@ -9,17 +9,19 @@ use Rattle.liquid_model.specs.declared.error.ErrorKind.{ErrorKind}
 use Rattle.liquid_parser.specs.Statements.{IsStatement}
 use Rattle.liquid_parser.specs.Nesting.{AreNodes}
 use Rattle.liquid_lexer.specs.Pieces.{Piece, IsSource}
+use Rattle.liquid_lexer.specs.Styles.{styled}
 use Rattle.liquid_syntax.specs.Templates.{tree_of}
 use Rattle.liquid_evaluation.specs.Tree.{Nodes}
+use Rattle.liquid_language.specs.Styles.{style_of}
 use Rattle.liquid_language.specs.declared.block.BlockContext.TheVariants.{Outside}
-use Rattle.liquid_language.specs.declared.language.Language.{Language}
+use Rattle.liquid_language.specs.declared.registry.Language.{Language}
 use Rattle.liquid_syntax.specs.declared.template.Template.{Template}
 use Rattle.liquid_lexer.specs.declared.fault.ParseError.{ParseError}
 use Rattle.liquid_lexer.specs.declared.fault.ParseError.TheVariants as errors
 
 -- The source is pieces, and they are the nodes, of which blocks nest at most 200 deep.
 unfoldable pub IsTemplate : Language → Nodes → Text → Type 0
-IsTemplate l t source = (ps : List Piece) × IsSource false ps source ×
+IsTemplate l t source = (ps : List Piece) × IsSource (styled (style_of l)) false ps source ×
     AreNodes (IsStatement l) Outside 200 t ps []
 
 -- the tree is the source's, and none but it is

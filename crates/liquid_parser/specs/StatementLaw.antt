@@ -5,7 +5,7 @@ use Rattle.liquid_parser.specs.Classification.{reads}
 use Rattle.liquid_parser.specs.Statements.{IsStatement}
 use Rattle.liquid_parser.specs.Nesting.{Statement, refused}
 use Rattle.liquid_language.specs.declared.block.BlockContext.{BlockContext}
-use Rattle.liquid_language.specs.declared.language.Language.{Language}
+use Rattle.liquid_language.specs.declared.registry.Language.{Language}
 
 -- a piece is read as a statement exactly where the grammar says that it is that, and refused where
 -- the grammar gives it none

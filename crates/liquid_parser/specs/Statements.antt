@@ -1,5 +1,5 @@
 -- The written grammar of a single piece: what it is, where it stands.
-use Rattle.std.specs.Prelude.{◌≡◌, List, [], ◌∷◌, Option, Some}
+use Rattle.std.specs.Prelude.{◌≡◌, ℕ, List, [], ◌∷◌, Option, Some}
 use Rattle.liquid_model.specs.Texts.{Text}
 use Rattle.liquid_lexer.specs.Items.{Item}
 use Rattle.liquid_lexer.specs.Pieces as pieces
@@ -8,7 +8,9 @@ use Rattle.liquid_lexer.specs.declared.piece.Body.TheVariants.{Raw, Comment}
 use Rattle.liquid_parser.specs.Chains.{IsChain, IsAssign}
 use Rattle.liquid_parser.specs.Conditions.{IsCondition}
 use Rattle.liquid_parser.specs.Cycles.{IsCycle}
+use Rattle.liquid_parser.specs.HostTags.{IsHostChain}
 use Rattle.liquid_parser.specs.Loops.{Head, IsLoop, for_node, row_node}
+use Rattle.liquid_language.specs.HostTags.{TagCall, call_at}
 use Rattle.liquid_language.specs.Registered.{registered_in}
 use Rattle.liquid_parser.specs.Nesting.{of_one, of_two, of_many, Statement, leaf, closed, begins}
 use Rattle.liquid_parser.specs.Nesting.{elsif, arm, otherwise, ends}
@@ -27,10 +29,10 @@ use Rattle.liquid_language.specs.declared.block.Block.TheVariants.{IfChanged, Fo
 use Rattle.liquid_language.specs.declared.block.Control.TheVariants.{Elsif, Else, BareElse, When}
 use Rattle.liquid_language.specs.declared.block.BlockContext.{BlockContext}
 use Rattle.liquid_language.specs.declared.block.Role.TheVariants.{End, Control as Word, Tag}
-use Rattle.liquid_language.specs.declared.block.Role.TheVariants.{Block as Start}
-use Rattle.liquid_language.specs.declared.language.BlockKind.TheVariants as blocks
-use Rattle.liquid_language.specs.declared.language.Language.{Language}
-use Rattle.liquid_language.specs.declared.language.TagKind.TheVariants as tags
+use Rattle.liquid_language.specs.declared.block.Role.TheVariants.{Block as Start, HostTag}
+use Rattle.liquid_language.specs.declared.registry.BlockKind.TheVariants as blocks
+use Rattle.liquid_language.specs.declared.registry.Language.{Language}
+use Rattle.liquid_language.specs.declared.registry.TagKind.TheVariants as tags
 use Rattle.liquid_parser.specs.declared.loop_items.LoopTag.TheVariants.{Each, Rows}
 
 pub data IsStatement (l : Language) (x : BlockContext) : pieces.Piece → Statement → Type 0 where
@@ -94,6 +96,11 @@ pub data IsStatement (l : Language) (x : BlockContext) : pieces.Piece → Statem
       {is : List Item} → role_of l x w ≡ Some (Tag tags.Render) →
       IsRender name each ps (tokens_of is) →
       IsStatement l x (pieces.tag w is) (leaf (render name each ps))
+  -- a host's tag is the output of its call
+  is_host_tag : {w : Text} {n : ℕ} {called : TagCall} {c : Chain} {is : List Item} →
+      role_of l x w ≡ Some (HostTag n) → call_at l n ≡ Some called →
+      IsHostChain (registered_in l.filters) called c (tokens_of is) →
+      IsStatement l x (pieces.tag w is) (leaf (output c))
   -- a block whose body isn't read has no items, and with its body it is a piece of its own
   is_raw : {w t : Text} → verbatim_body (role_of l x w) ≡ Some Raw →
       IsStatement l x (pieces.raw w t) (closed (raw t))

@@ -1,11 +1,14 @@
 -- Laws of whole sources.
-use Rattle.std.specs.Prelude.{◌≡◌, [], ◌∷◌, ◌++◌}
+use Rattle.std.specs.Prelude.{◌≡◌, List, [], ◌∷◌, ◌++◌, false}
 use Rattle.liquid_model.specs.Texts.{Text}
-use Rattle.liquid_words.specs.Bytes.{open_brace}
+use Rattle.liquid_model.specs.Bytes.{open_brace}
 use Rattle.liquid_lexer.specs.Openers.{opener}
+use Rattle.liquid_lexer.specs.Pieces.{Piece, IsSource}
+use Rattle.liquid_lexer.specs.Styles.{only_items, styled}
 use Rattle.liquid_lexer.specs.declared.item.Delimiter.{Delimiter}
 use Rattle.liquid_parser.specs.Parsing.{IsTemplate}
-use Rattle.liquid_language.specs.declared.language.Language.{Language}
+use Rattle.liquid_language.specs.Styles.{style_of}
+use Rattle.liquid_language.specs.declared.registry.Language.{Language}
 use Rattle.liquid_evaluation.specs.Tree.{Nodes, no_nodes, node, plain}
 
 -- `{{` and `{%` stand nowhere in the text
@@ -27,3 +30,9 @@ PlainSources = (l : Language) (source : Text) → HasNoOpener source →
 abbrev pub AtMostOneTemplate : Type 0
 AtMostOneTemplate = (l : Language) (source : Text) (t u : Nodes) → IsTemplate l t source →
     IsTemplate l u source → t ≡ u
+
+-- in a language without paths, items alone stand after the names of tags
+abbrev pub ItemsWithoutPaths : Type 0
+ItemsWithoutPaths = (l : Language) (ps : List Piece) (source : Text) → l.include_paths ≡ false →
+    (IsSource (styled (style_of l)) false ps source → IsSource only_items false ps source) ×
+    (IsSource only_items false ps source → IsSource (styled (style_of l)) false ps source)

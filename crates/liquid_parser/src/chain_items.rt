@@ -84,7 +84,7 @@ fn read_filter(
 
 /// The filter of the name with these arguments. `UnknownFilter` where none is registered, and
 /// `FilterArguments` where it doesn't take their number.
-fn accepted(
+pub(crate) fn accepted(
     known: &FilterRegistry,
     name: String,
     arguments: Vec<Expression>,

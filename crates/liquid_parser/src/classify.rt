@@ -11,12 +11,14 @@ ghost use Rattle.liquid_parser.specs.Classification.{raw_statement, reads, tag_s
 ghost use Rattle.liquid_language.specs.Roles.{role_of};
 
 mod blocks;
+mod host_tags;
 mod leaf_tags;
 mod tags;
 
 use crate::build::Statement;
 use crate::chain_items::{expected_before, read_chain};
 use blocks::{read_block, read_control};
+use host_tags::read_host_tag;
 use leaf_tags::read_leaf;
 use liquid_language::{BlockContext, Language, Role, role_of, verbatim_body};
 use liquid_lexer::{Body, Expectation, Fault, FaultKind, Item, ParseError, Piece};
@@ -112,6 +114,7 @@ fn read_tag(
         Some(Role::Control(control)) => read_control(alloc, control, items, at),
         Some(Role::Tag(kind)) => read_leaf(alloc, language, kind, items, at),
         Some(Role::Block(kind)) => read_block(alloc, kind, items, at),
+        Some(Role::HostTag(number)) => read_host_tag(alloc, language, number, items, at),
     }
 }
 

@@ -1,17 +1,16 @@
 //! The items of `cycle`, read from those of a piece.
-ghost use Rattle.std.specs.Prelude.{◌≡◌, length, map};
+ghost use Rattle.std.specs.Prelude.{◌≡◌, length};
 ghost use Rattle.std.specs.Option.{option_map};
 ghost use Rattle.liquid_core.specs.ExpressionView.{expression_view};
 ghost use Rattle.liquid_lexer.specs.Readers.{Parses};
 ghost use Rattle.liquid_lexer.specs.Tokens.{tokens_view};
-ghost use Rattle.liquid_parser.specs.Cycles.{any_values_of, grouped_of, grouped_view};
-ghost use Rattle.liquid_parser.specs.Cycles.{is_cycle_name};
-ghost use Rattle.liquid_parser.specs.Cycles.{named_of, with_group};
+ghost use Rattle.liquid_parser.specs.Cycles.{grouped_of, grouped_view, is_cycle_name, named_of};
+ghost use Rattle.liquid_parser.specs.Cycles.{with_group};
 ghost use Rattle.liquid_parser.specs.Faults.{FaultsAs, FaultsAt};
 
 use crate::chain_items::{expected, expected_before};
 use crate::group::{named_group, values_group};
-use crate::value_items::{Separators, read_further, read_values};
+use crate::value_items::{Separators, read_any_values, read_further};
 use liquid_core::Expression;
 use liquid_lexer::{Expectation, FaultKind, Item, ParseError, Symbol, next_value, skip};
 use std::alloc::Global;
@@ -58,7 +57,7 @@ fn read_named(
         let from_name = items.len().saturating_add(2);
         return Err(expected(at, from_name, Expectation::GroupName));
     }
-    let values = read_any_values(alloc, items, at)?;
+    let values = read_any_values(alloc, items, Separators::Commas, at)?;
     let group = named_group(alloc, &name, &values)?;
     Ok((group, values))
 }
@@ -71,21 +70,4 @@ fn is_name(value: &Expression) -> bool
         Expression::Literal(_) => true,
         Expression::Variable(variable) => variable.indexes.is_empty(),
     }
-}
-
-/// The values that all the items are, if there are any.
-fn read_any_values(
-    alloc: Global,
-    items: VecDeque<Item<'_>>,
-    at: &str,
-) -> Result<Vec<Expression>, ParseError>
-    ensures values { Parses (λ xs. map expression_view xs.items) result
-        (any_values_of (tokens_view items.entry.items)) }
-    ensures kind { FaultsAs FaultKind.Expected result }
-    ensures place { FaultsAt (length at.now) result }
-{
-    if items.is_empty() {
-        return Ok(Vec::new(alloc));
-    }
-    read_values(alloc, items, Separators::Commas, at)
 }

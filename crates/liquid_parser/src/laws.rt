@@ -1,16 +1,19 @@
 //! Laws of the definitions that contracts speak of.
 ghost use Rattle.liquid_parser.specs.ChainLaw.{ReadsChains, ReadsAssigns};
 ghost use Rattle.liquid_parser.specs.ConditionLaw.{ReadsConditions};
+ghost use Rattle.liquid_parser.specs.HostTagLaw.{HostTagsAreOutputs, NoHostTags};
 ghost use Rattle.liquid_parser.specs.StatementLaw.{ReadsStatements};
 ghost use Rattle.liquid_parser.specs.RepeatedLaw.{ReadsLoops, ReadsPairs, ReadsValues};
 ghost use Rattle.liquid_parser.specs.NestingLaw.{ReadsTheGrammar, AtMostOneTree};
-ghost use Rattle.liquid_parser.specs.TemplateLaw.{PlainSources, AtMostOneTemplate};
+ghost use Rattle.liquid_parser.specs.TemplateLaw.{AtMostOneTemplate, ItemsWithoutPaths};
+ghost use Rattle.liquid_parser.specs.TemplateLaw.{PlainSources};
 
 /// A source without `{{` and `{%` is itself, one text, in every language; and a source has at most
-/// one tree in a language.
+/// one tree in a language. Where a language has no `include_paths`, each tag has items alone.
 pub fn template_laws()
     ensures plain { PlainSources }
     ensures unique { AtMostOneTemplate }
+    ensures items { ItemsWithoutPaths }
 {}
 
 /// Reading with a stack of open blocks gives a list of pieces the tree of the written grammar, and
@@ -24,6 +27,13 @@ pub fn nesting_laws()
 /// says that it is that.
 pub fn statement_law()
     ensures { ReadsStatements }
+{}
+
+/// A host's tag is the node that an output of its call is; and where none is registered, no tag is
+/// a host's.
+pub fn host_tag_laws()
+    ensures outputs { HostTagsAreOutputs }
+    ensures none { NoHostTags }
 {}
 
 /// A chain of filters and an `assign` are read exactly where the written grammar says that the

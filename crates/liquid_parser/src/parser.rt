@@ -1,5 +1,6 @@
 //! From a source to its template.
 ghost use Rattle.std.specs.Prelude.{[], IfErr, List, Some, false, length};
+ghost use Rattle.liquid_language.specs.Styles.{style_of};
 ghost use Rattle.liquid_lexer.specs.PieceView.{markup_view};
 ghost use Rattle.liquid_lexer.specs.Readers.{TellsOf};
 ghost use Rattle.liquid_lexer.specs.SourceReading.{source_at};
@@ -16,10 +17,10 @@ use crate::faults::too_nested;
 use crate::positions::Positions;
 use liquid_core::{Error, Result};
 use liquid_explanations::explanation_of;
-use liquid_language::{Language, body_after};
-use liquid_lexer::{Markup, ParseError, read_body, read_markup, stripped, text_before};
+use liquid_language::{Language, body_after, markup_after};
+use liquid_lexer::{Markup, ParseError, read_body, stripped, text_before};
+use liquid_model::{location, past_byte};
 use liquid_syntax::Template;
-use liquid_words::{location, past_byte};
 use std::alloc::{AllocError, Global};
 
 /// The most bytes of a source that a template keeps.
@@ -113,8 +114,9 @@ impl Reader<'_> {
         language: &Language,
     ) -> std::result::Result<(), ParseError>
         requires { IsBuilding self.old.builder [] no_nodes }
-        ensures { AdvancesTo (source_at (body_of language.now) (piece_step language.now)
-            (length source.now) false begun_with source.now) self.new.builder result }
+        ensures { AdvancesTo (source_at (style_of language.now) (body_of language.now)
+            (piece_step language.now) (length source.now) false begun_with source.now)
+            self.new.builder result }
     {
         let mut strip_next = false;
         let mut rest = source;
@@ -123,7 +125,7 @@ impl Reader<'_> {
             let Some(inside) = past_byte(following, b'{') else {
                 return self.text(alloc, stripped(strip_next, text, false), rest.len());
             };
-            let found = read_markup(alloc, inside)?;
+            let found = markup_after(alloc, language, inside)?;
             self.text(
                 alloc,
                 stripped(strip_next, text, found.0.before),

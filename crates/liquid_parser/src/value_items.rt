@@ -5,7 +5,8 @@ ghost use Rattle.liquid_lexer.specs.Readers.{Parses};
 ghost use Rattle.liquid_lexer.specs.Tokens.{tokens_view};
 ghost use Rattle.liquid_parser.specs.Faults.{FaultsAs, FaultsAt};
 ghost use Rattle.liquid_parser.specs.inside.ValueAnswers.{SkipsSeparator};
-ghost use Rattle.liquid_parser.specs.ValueLists.{ends_values, further_first, further_of, values_of};
+ghost use Rattle.liquid_parser.specs.ValueLists.{any_values_of, ends_values, further_first};
+ghost use Rattle.liquid_parser.specs.ValueLists.{further_of, values_of};
 
 use crate::chain_items::expected_before;
 use liquid_core::Expression;
@@ -20,15 +21,21 @@ pub enum Separators {
     Commas,
     /// A `,` or the word `or`.
     CommasOr,
+    /// A `,` or nothing.
+    OptionalCommas,
 }
 
-/// Takes the separator off the front, and answers whether one stood there.
+/// Takes the separator off the front, and answers whether one stood there or none is needed.
 fn skip_separator(items: &mut VecDeque<Item<'_>>, separators: Separators) -> bool
     ensures { SkipsSeparator separators items.old.items items.new.items result }
 {
     match separators {
         Separators::Commas => skip(items, Symbol::Comma),
         Separators::CommasOr => skip(items, Symbol::Comma) || skip_word(items, "or"),
+        Separators::OptionalCommas => {
+            skip(items, Symbol::Comma);
+            true
+        }
     }
 }
 
@@ -61,7 +68,7 @@ fn ends_values(items: &VecDeque<Item<'_>>, separators: Separators) -> bool
 {
     match separators {
         Separators::Commas => is_last_comma(items),
-        Separators::CommasOr => items.is_empty(),
+        Separators::CommasOr | Separators::OptionalCommas => items.is_empty(),
     }
 }
 
@@ -70,6 +77,7 @@ fn further_wanted(separators: Separators) -> Expectation {
     match separators {
         Separators::Commas => Expectation::FurtherValue,
         Separators::CommasOr => Expectation::FurtherAlternative,
+        Separators::OptionalCommas => Expectation::Value,
     }
 }
 
@@ -90,6 +98,24 @@ pub fn read_values(
         return Err(expected_before(at, items, Expectation::Value));
     };
     read_further(alloc, first, items, separators, at)
+}
+
+/// The values that all the items are, if there are any.
+pub(crate) fn read_any_values(
+    alloc: Global,
+    items: VecDeque<Item<'_>>,
+    separators: Separators,
+    at: &str,
+) -> Result<Vec<Expression>, ParseError>
+    ensures values { Parses (λ xs. map expression_view xs.items) result
+        (any_values_of separators (tokens_view items.entry.items)) }
+    ensures kind { FaultsAs FaultKind.Expected result }
+    ensures place { FaultsAt (length at.now) result }
+{
+    if items.is_empty() {
+        return Ok(Vec::new(alloc));
+    }
+    read_values(alloc, items, separators, at)
 }
 
 /// The first value, and those that all the items are after it, each with a separator before it.

@@ -3,3 +3,4 @@ pub mod Making
 pub mod Named
 pub mod Over
 pub mod Runs
+pub mod Within

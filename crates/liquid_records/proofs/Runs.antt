@@ -9,10 +9,10 @@ use Rattle.liquid_model.specs.Data.{Pairs}
 use Rattle.liquid_model.specs.Maps.{insert}
 use Rattle.liquid_model.specs.Texts.{Text}
 use Rattle.liquid_model.specs.declared.error.ErrorKind.{ErrorKind}
-use Rattle.liquid_disk.specs.Files.{File, Files, holds, with_file}
-use Rattle.liquid_records.specs.Records.{Made, Reason}
+use Rattle.liquid_files.specs.Files.{File, Files, holds, with_file}
+use Rattle.liquid_records.specs.Records.{Made, Reason, limited}
 use Rattle.liquid_records.specs.Steps.{EarlierNames, Fate, no_page, again, unwritten, IsNamed, IsTried, Leaves}
-use Rattle.liquid_records.specs.Runs.{Records, Stand, IsTaken, AreRecordsTaken, tried, written_names, page_name, page_names, AreApart, HasPage, HavePages}
+use Rattle.liquid_records.specs.Runs.{Records, Stand, IsTaken, IsTakenWithin, AreRecordsTaken, tried, written_names, page_name, page_names, AreApart, HasPage, HavePages}
 
 -- ---- files and names
 
@@ -155,39 +155,59 @@ has_page (Ok made) n old f new files t stay = by_name (old.names made.name) t.st
     by_name (Some before) s = subst (λ g. HasPage (Ok made) g files) (sym s.0) tt
     by_name None s = tries s.1 s.0
 
+-- ---- one record, whose page a limit may have ended
+
+module _ (limit : Bool) (made : Result Made Reason) (n : ℕ) (old : Stand) where
+  does_within : (f : Fate) (new : Stand) → IsTakenWithin limit made n old f new → Does n old f new
+  does_within f new (inl t) = does made n old f new t
+  does_within f new (inr t) = does (Err limited) n old f new t.1
+
+  page_stays_within : (f : Fate) (new : Stand) → IsTakenWithin limit made n old f new → (q : Text) → list_any (bytes_eq q) (page_name f) ≡ false → new.files q ≡ old.files q
+  page_stays_within f new (inl t) q h = page_stays made n old f new t q h
+  page_stays_within f new (inr t) q h = page_stays (Err limited) n old f new t.1 q h
+
+  -- no page is there where a limit ended it
+  no_page_within : (m : Result Made Reason) (f : Fate) (files : Files) → f ≡ Err (no_page limited) → HasPage m f files
+  no_page_within (Ok made) f files e = subst (λ g. HasPage (Ok made) g files) (sym e) tt
+  no_page_within (Err why) f files e = subst (λ g. HasPage (Err why) g files) (sym e) tt
+
+  has_page_within : (f : Fate) (new : Stand) (files : Files) → IsTakenWithin limit made n old f new → ((q : Text) → IsSome (new.names q) → files q ≡ new.files q) → HasPage made f files
+  has_page_within f new files (inl t) stay = has_page made n old f new files t stay
+  has_page_within f new files (inr t) stay = no_page_within made f files t.1.step.0
+
 -- ---- all records
 
-module _ (comes : Result Pairs ErrorKind → Result Made Reason) where
+module _ (limit : Bool) (comes : Result Pairs ErrorKind → Result Made Reason) where
   -- a name that came is written no more
-  later : (records : Records) (old : Stand) (fates : List Fate) (new : Stand) → AreRecordsTaken comes records old fates new → (q : Text) → IsSome (old.names q)
+  later : (records : Records) (old : Stand) (fates : List Fate) (new : Stand) → AreRecordsTaken limit comes records old fates new → (q : Text) → IsSome (old.names q)
       → (list_any (bytes_eq q) (written_names fates) ≡ false) × (new.files q ≡ old.files q)
   later [] old [] new t q s = (refl, ap (λ x. x.files q) t)
   later [] old (f ∷ fs) new t q s = absurd t
   later (r ∷ rs) old [] new t q s = absurd t
   later (r ∷ rs) old (f ∷ fs) new t q s =
-      let d = does (comes r.1) r.0 old f t.0 t.1 in
+      let d = does_within limit (comes r.1) r.0 old f t.0 t.1 in
       let un = untried d q s in
       let rest = later rs t.0 fs new t.2 q (names_stay d q s) in
       (joined d q (written_names fs) un rest.0, rest.1 ∙ file_stays d q un)
 
-  pub never_twice : (records : Records) (old : Stand) (fates : List Fate) (new : Stand) → AreRecordsTaken comes records old fates new → AreApart (written_names fates)
+  pub never_twice : (records : Records) (old : Stand) (fates : List Fate) (new : Stand) → AreRecordsTaken limit comes records old fates new → AreApart (written_names fates)
   never_twice [] old [] new t = tt
   never_twice [] old (f ∷ fs) new t = absurd t
   never_twice (r ∷ rs) old [] new t = absurd t
   never_twice (r ∷ rs) old (f ∷ fs) new t =
-      set_apart (does (comes r.1) r.0 old f t.0 t.1) (written_names fs) (λ q s. (later rs t.0 fs new t.2 q s).0) (never_twice rs t.0 fs new t.2)
+      set_apart (does_within limit (comes r.1) r.0 old f t.0 t.1) (written_names fs) (λ q s. (later rs t.0 fs new t.2 q s).0) (never_twice rs t.0 fs new t.2)
 
-  pub pages_stand : (records : Records) (old : Stand) (fates : List Fate) (new : Stand) → AreRecordsTaken comes records old fates new → HavePages comes records fates new.files
+  pub pages_stand : (records : Records) (old : Stand) (fates : List Fate) (new : Stand) → AreRecordsTaken limit comes records old fates new → HavePages comes records fates new.files
   pages_stand [] old [] new t = tt
   pages_stand [] old (f ∷ fs) new t = tt
   pages_stand (r ∷ rs) old [] new t = tt
   pages_stand (r ∷ rs) old (f ∷ fs) new t =
-      (has_page (comes r.1) r.0 old f t.0 new.files t.1 (λ q s. (later rs t.0 fs new t.2 q s).1), pages_stand rs t.0 fs new t.2)
+      (has_page_within limit (comes r.1) r.0 old f t.0 new.files t.1 (λ q s. (later rs t.0 fs new t.2 q s).1), pages_stand rs t.0 fs new t.2)
 
-  pub others_stay : (records : Records) (old : Stand) (fates : List Fate) (new : Stand) → AreRecordsTaken comes records old fates new → (q : Text) → list_any (bytes_eq q) (page_names fates) ≡ false → new.files q ≡ old.files q
+  pub others_stay : (records : Records) (old : Stand) (fates : List Fate) (new : Stand) → AreRecordsTaken limit comes records old fates new → (q : Text) → list_any (bytes_eq q) (page_names fates) ≡ false → new.files q ≡ old.files q
   others_stay [] old [] new t q h = ap (λ x. x.files q) t
   others_stay [] old (f ∷ fs) new t q h = absurd t
   others_stay (r ∷ rs) old [] new t q h = absurd t
   others_stay (r ∷ rs) old (f ∷ fs) new t q h =
       let both = split_page q f (page_names fs) h in
-      others_stay rs t.0 fs new t.2 q both.1 ∙ page_stays (comes r.1) r.0 old f t.0 t.1 q both.0
+      others_stay rs t.0 fs new t.2 q both.1 ∙ page_stays_within limit (comes r.1) r.0 old f t.0 t.1 q both.0

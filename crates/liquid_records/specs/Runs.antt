@@ -1,18 +1,18 @@
 -- A merge over a list of records, and what holds of it.
---     AreRecordsTaken comes records old fates new      the records were taken one after another;
---       comes says what each comes to
+--     AreRecordsTaken limit comes records old fates new      the records were taken one after
+--       another; comes says what each comes to, unless a limit ended its page
 --     written_names fates      the names of the files that were written, or refused by the disk
 --     page_names fates      the names of those that were written
-use Rattle.std.specs.Prelude.{◌≡◌, ℕ, false, List, [], ◌∷◌, ◌++◌, bytes_eq, ⊤, Some, Result, Ok}
-use Rattle.std.specs.Prelude.{Err}
+use Rattle.std.specs.Prelude.{◌≡◌, ◌⊎◌, ℕ, Bool, true, false, List, [], ◌∷◌, ◌++◌, bytes_eq, ⊤}
+use Rattle.std.specs.Prelude.{Some, Result, Ok, Err}
 use Rattle.std.specs.List.{list_any}
 use Rattle.liquid_model.specs.Data.{Pairs}
 use Rattle.liquid_model.specs.Maps.{empty}
 use Rattle.liquid_model.specs.Texts.{Text}
 use Rattle.liquid_model.specs.declared.error.ErrorKind.{ErrorKind}
 use Rattle.liquid_evaluation.specs.Tree.{Nodes}
-use Rattle.liquid_disk.specs.Files.{Files, holds}
-use Rattle.liquid_records.specs.Records.{Job, Made, Reason, record_outcome}
+use Rattle.liquid_files.specs.Files.{Files, holds}
+use Rattle.liquid_records.specs.Records.{Job, Made, Reason, limited, record_outcome}
 use Rattle.liquid_records.specs.Steps.{EarlierNames, Fate, IsRecordStep, Leaves, unwritten}
 
 -- records by their numbers: the data of each, or the kind of its fault
@@ -30,13 +30,17 @@ pub record IsTaken (made : Result Made Reason) (n : ℕ) (old : Stand) (fate : F
   pub step : IsRecordStep n made old.names fate new.names
   pub left : Leaves made fate old.files (Some new.files)
 
-abbrev pub AreRecordsTaken : (Result Pairs ErrorKind → Result Made Reason) → Records → Stand →
-    List Fate →
-    Stand → Type 0
-AreRecordsTaken comes [] old [] new = new ≡ old
-AreRecordsTaken comes (r ∷ rs) old (f ∷ fs) new = (m : Stand) × IsTaken (comes r.1) r.0 old f m ×
-    AreRecordsTaken comes rs m fs new
-AreRecordsTaken comes _ old _ new = ⊥
+-- one record was taken, or a limit ended its page, where there is one
+abbrev pub IsTakenWithin : Bool → Result Made Reason → ℕ → Stand → Fate → Stand → Type 0
+IsTakenWithin limit made n old fate new = IsTaken made n old fate new
+    ⊎ ((limit ≡ true) × IsTaken (Err limited) n old fate new)
+
+abbrev pub AreRecordsTaken : Bool → (Result Pairs ErrorKind → Result Made Reason) → Records →
+    Stand → List Fate → Stand → Type 0
+AreRecordsTaken limit comes [] old [] new = new ≡ old
+AreRecordsTaken limit comes (r ∷ rs) old (f ∷ fs) new = (m : Stand) ×
+    IsTakenWithin limit (comes r.1) r.0 old f m × AreRecordsTaken limit comes rs m fs new
+AreRecordsTaken limit comes _ old _ new = ⊥
 
 -- the name of a file that a record wrote, or tried to write
 abbrev pub tried : Fate → List Text
@@ -75,8 +79,8 @@ HavePages comes _ _ files = ⊤
 
 -- a merge that begins over these files
 abbrev pub IsMerge : Job → Nodes → Records → Files → List Fate → Stand → Type 0
-IsMerge job pattern records files fates new = AreRecordsTaken (record_outcome job (Some pattern))
-    records (record { names = empty; files = files }) fates new
+IsMerge job pattern records files fates new = AreRecordsTaken job.has_limit
+    (record_outcome job (Some pattern)) records (record { names = empty; files = files }) fates new
 
 -- ---- the laws
 

@@ -1,12 +1,13 @@
 -- A merge, record after record: which names came before, and what becomes of a record and of the
 -- files.
 --     IsRecordStep n made names fate after      what became of record n, and the names after it
+--     IsStepWithin limit n made names fate after      the same, or a limit ended its page
 --     Leaves made fate old new      the files after it
-use Rattle.std.specs.Prelude.{◌≡◌, ◌⊎◌, ℕ, Option, Some, None, Result, Ok, Err}
+use Rattle.std.specs.Prelude.{◌≡◌, ◌⊎◌, ℕ, Bool, true, Option, Some, None, Result, Ok, Err}
 use Rattle.liquid_model.specs.Maps.{Map, insert}
 use Rattle.liquid_model.specs.Texts.{Text}
-use Rattle.liquid_disk.specs.Files.{Files, holds, with_file}
-use Rattle.liquid_records.specs.Records.{Made, Reason}
+use Rattle.liquid_files.specs.Files.{Files, holds, with_file}
+use Rattle.liquid_records.specs.Records.{Made, Reason, limited}
 
 -- the names that came before, each with the number of its record
 abbrev pub EarlierNames : Type 0
@@ -37,6 +38,12 @@ IsNamed n name None names fate after = IsTried name fate × (after ≡ insert na
 abbrev pub IsRecordStep : ℕ → Result Made Reason → EarlierNames → Fate → EarlierNames → Type 0
 IsRecordStep n (Err why) names fate after = (fate ≡ Err (no_page why)) × (after ≡ names)
 IsRecordStep n (Ok made) names fate after = IsNamed n made.name (names made.name) names fate after
+
+-- the same, or a limit ended its page, where there is one
+abbrev pub IsStepWithin : Bool → ℕ → Result Made Reason → EarlierNames → Fate → EarlierNames →
+    Type 0
+IsStepWithin limit n made names fate after = IsRecordStep n made names fate after
+    ⊎ ((limit ≡ true) × IsRecordStep n (Err limited) names fate after)
 
 -- the file of a page that was written holds the page, and no other file changes
 abbrev pub Leaves : Result Made Reason → Fate → Files → Option Files → Type 0

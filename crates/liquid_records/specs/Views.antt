@@ -1,9 +1,13 @@
 -- Jobs, pages and reasons, as contracts see them.
-use Rattle.std.specs.Prelude.{ℕ, Option, option_map, Result, Ok, Err, String, string_bytes}
+use Rattle.std.specs.Prelude.{ℕ, Bool, ◌||◌, Option, is_some, option_map, Result, Ok, Err}
+use Rattle.std.specs.Prelude.{String, string_bytes}
 use Rattle.std.specs.Borrow.{Bor}
 use Rattle.std.specs.BTreeMap.{get_by_text}
 use Rattle.std.specs.declared.alloc.Global.{Global}
 use Rattle.liquid_core.specs.Held.{held}
+use Rattle.liquid_model.specs.FilterAnswers.{FilterAnswer}
+use Rattle.liquid_model.specs.Texts.{Text}
+use Rattle.liquid_engine.specs.declared.limits.Limits.{Limits}
 use Rattle.liquid_evaluation.specs.Tree.{Nodes}
 use Rattle.liquid_syntax.specs.Templates.{tree_of, partials_of}
 use Rattle.liquid_syntax.specs.declared.template.Template.{Template}
@@ -13,15 +17,23 @@ use Rattle.liquid_records.specs.declared.job.Job.{Job}
 use Rattle.liquid_records.specs.declared.job.Made.{Made}
 use Rattle.liquid_records.specs.declared.job.Why.{Why}
 use Rattle.liquid_records.specs.declared.job.Why.TheVariants.{NoData, Unnamed, BadName, Faulted}
+use Rattle.liquid_records.specs.declared.job.Why.TheVariants.{Limited}
 use Rattle.liquid_records.specs.declared.merge.Failure.{Failure}
 use Rattle.liquid_records.specs.declared.merge.Failure.TheVariants.{NoPage, Again, Unwritten}
 use Rattle.liquid_records.specs.declared.merge.Merge.{Merge}
 
-abbrev pub job_view : Job → seen.Job
-job_view j = record {
+-- of bytes or of turns
+abbrev pub has_page_limit : Limits → Bool
+has_page_limit limits = is_some limits.bytes || is_some limits.turns
+
+abbrev pub job_view : {H : Type 0} → (H → Text → FilterAnswer) → Job H → seen.Job
+job_view named j = record {
   template = tree_of j.template;
   partials = partials_of j.partials;
   depth = j.depth;
+  named = named j.host;
+  missing = j.missing;
+  has_limit = has_page_limit j.limits;
   shared = held j.shared;
 }
 
@@ -36,6 +48,7 @@ why_view (NoData e) = seen.no_data e.kind
 why_view (Unnamed e) = seen.unnamed e.kind
 why_view (BadName name) = seen.bad_name (string_bytes name)
 why_view (Faulted e) = seen.faulted e.kind
+why_view (Limited reached) = seen.limited
 
 -- what a call answers, its value seen by view
 abbrev pub outcome_view : {X Y : Type 0} → (X → Y) → Result X Why → Result Y seen.Reason
@@ -53,11 +66,11 @@ fate_view (Err failure) = Err (failure_view failure)
 
 -- ---- merges
 
-abbrev pub job_of : Merge → seen.Job
-job_of m = job_view m.job
+abbrev pub job_of : {H : Type 0} → (H → Text → FilterAnswer) → Merge H → seen.Job
+job_of named m = job_view named m.job
 
-abbrev pub pattern_of : Merge → Nodes
+abbrev pub pattern_of : {H : Type 0} → Merge H → Nodes
 pattern_of m = tree_of m.pattern
 
-abbrev pub merge_names : Merge → EarlierNames
+abbrev pub merge_names : {H : Type 0} → Merge H → EarlierNames
 merge_names m = λ name. get_by_text m.names name

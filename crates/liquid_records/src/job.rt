@@ -1,29 +1,40 @@
 //! One template over many records.
-ghost use Rattle.std.specs.Prelude.{◌≡◌, Ok, string_bytes};
+ghost use Rattle.std.specs.Prelude.{◌≡◌, Ok, IfErr, IfOk, None, string_bytes, true};
 ghost use Rattle.liquid_model.specs.Answer.{IsValueOrMemory};
 ghost use Rattle.liquid_model.specs.View.{pairs_view};
 ghost use Rattle.liquid_syntax.specs.Templates.{tree_of};
+ghost use Rattle.liquid_engine.specs.LimitedPages.{PageWithin};
+ghost use Rattle.liquid_engine.specs.Limits.{unlimited};
 ghost use Rattle.liquid_engine.specs.Pages.{page_view};
 ghost use Rattle.liquid_json.specs.Json.{data_of};
-ghost use Rattle.liquid_records.specs.Records.{checked_name, record_outcome, made_by, made_page};
+ghost use Rattle.liquid_records.specs.Records.{RecordComesTo, checked_name, made_by, made_page};
+ghost use Rattle.liquid_records.specs.Records.{record_outcome};
 ghost use Rattle.liquid_records.specs.Records.{record_file_name};
-ghost use Rattle.liquid_records.specs.Records.{page_name, record_page};
-ghost use Rattle.liquid_records.specs.Views.{job_view, made_view, outcome_view, pattern_view};
+ghost use Rattle.liquid_records.specs.Records.{page_name, pattern_page, record_page};
+ghost use Rattle.liquid_records.specs.Views.{has_page_limit, job_view, made_view, outcome_view};
+ghost use Rattle.liquid_records.specs.Views.{pattern_view};
 
 use crate::data::{lay_over, take_off};
 use crate::file_name::is_file_name;
-use liquid_core::{Error, ErrorKind, Object, Result};
-use liquid_engine::{Page, render_page};
+use liquid_core::{Error, ErrorKind, Missing, NamedFilters, Object, Result};
+use liquid_engine::{
+    LimitReached, LimitedPage, Limits, Page, Surroundings, render_hosted_page, render_page,
+};
 use liquid_json::data_from_json;
 use liquid_syntax::{Partials, Template};
 use std::alloc::Global;
 
-/// A template with its partials, how deep these may be nested, and the data that all records share.
+/// A template with its partials, how deep these may be nested, the filters of a host that it may
+/// call, what becomes of a missing value in its page, what the page may take, and the data that all
+/// records share.
 #[derive(Drop)]
-pub struct Job {
+pub struct Job<H> {
     pub template: Template,
     pub partials: Partials,
     pub depth: u32,
+    pub host: H,
+    pub missing: Missing,
+    pub limits: Limits,
     pub shared: Object,
 }
 
@@ -45,15 +56,21 @@ pub enum Why {
     BadName(String),
     /// Its page ends by a fault.
     Faulted(Error),
+    /// A limit ended its page.
+    Limited(LimitReached),
 }
 
 /// What a record comes to.
 pub type RecordResult<T> = std::result::Result<T, Why>;
 
-impl Job {
+impl<H: NamedFilters> Job<H> {
     /// What a record with these members comes to, over the shared data: the record's member stands
     /// in front of the shared one of its name.
-    /// Where there is a pattern, its page is the name of the record's file.
+    /// Where there is a pattern, its page is the name of the record's file. A value that is missing
+    /// in the pattern is a fault, whatever becomes of it in the page, no limit ends the name, and
+    /// it calls no filter of the host.
+    ///
+    /// Where a limit ends the page, the record comes to that. Without one no page ends so.
     ///
     /// The answer is `Memory` where a growth was refused, and no other kind. The job is as it was,
     /// on every answer.
@@ -63,10 +80,11 @@ impl Job {
         data: Object,
         pattern: Option<&Template>,
     ) -> Result<RecordResult<Made>>
-        ensures made { IsValueOrMemory (outcome_view made_view) result
-            (record_outcome (job_view self.old) (pattern_view pattern.entry)
-            (Ok (pairs_view «data».entries))) }
-        ensures same { job_view self.new ≡ job_view self.old }
+        ensures made { IfOk result (λ r. RecordComesTo (job_view H.named self.old)
+            (record_outcome (job_view H.named self.old) (pattern_view pattern.entry)
+            (Ok (pairs_view «data».entries))) (outcome_view made_view r)) }
+        ensures memory { IfErr result (λ e. e.kind ≡ ErrorKind.Memory) }
+        ensures same { job_view H.named self.new ≡ job_view H.named self.old }
     {
         let covered = lay_over(alloc, &mut self.shared, data)?;
         let outcome = self.made_over(alloc, pattern);
@@ -81,9 +99,11 @@ impl Job {
         text: &str,
         pattern: Option<&Template>,
     ) -> Result<RecordResult<Made>>
-        ensures made { IsValueOrMemory (outcome_view made_view) result
-            (record_outcome (job_view self.old) (pattern_view pattern.entry) (data_of text.now)) }
-        ensures same { job_view self.new ≡ job_view self.old }
+        ensures made { IfOk result (λ r. RecordComesTo (job_view H.named self.old)
+            (record_outcome (job_view H.named self.old) (pattern_view pattern.entry)
+            (data_of text.now)) (outcome_view made_view r)) }
+        ensures memory { IfErr result (λ e. e.kind ≡ ErrorKind.Memory) }
+        ensures same { job_view H.named self.new ≡ job_view H.named self.old }
     {
         match data_from_json(alloc, text) {
             Ok(data) => self.make_page(alloc, data, pattern),
@@ -97,38 +117,103 @@ impl Job {
     /// The name and the page, over the data as it stands.
     #[tactic(auto, using(crate::proofs::Making::made_is, crate::proofs::Making::unnamed_is))]
     fn made_over(&self, alloc: Global, pattern: Option<&Template>) -> Result<RecordResult<Made>>
-        ensures { IsValueOrMemory (outcome_view made_view) result
-            (made_by (job_view self.now) (pattern_view pattern.entry)) }
+        ensures made { IfOk result (λ r. RecordComesTo (job_view H.named self.now)
+            (made_by (job_view H.named self.now) (pattern_view pattern.entry))
+            (outcome_view made_view r)) }
+        ensures memory { IfErr result (λ e. e.kind ≡ ErrorKind.Memory) }
     {
         match self.name_over(alloc, pattern)? {
-            Ok(name) => {
-                let page = self.page(alloc, &self.template)?;
-                Ok(page_named(name, page))
-            }
+            Ok(name) => self.made_under(alloc, name),
             Err(why) => Ok(Err(why)),
         }
+    }
+
+    /// The page under its name. Without a limit none ends it.
+    fn made_under(&self, alloc: Global, name: String) -> Result<RecordResult<Made>>
+        ensures made { IfOk result (λ r. RecordComesTo (job_view H.named self.now)
+            (made_page (string_bytes name) (record_page (job_view H.named self.now)))
+            (outcome_view made_view r)) }
+        ensures memory { IfErr result (λ e. e.kind ≡ ErrorKind.Memory) }
+    {
+        if self.has_page_limit() {
+            return self.made_within(alloc, name);
+        }
+        self.made_whole(alloc, name)
+    }
+
+    /// The page under its name, without limits.
+    #[tactic(auto, using(crate::proofs::Making::whole_is))]
+    fn made_whole(&self, alloc: Global, name: String) -> Result<RecordResult<Made>>
+        ensures made { IfOk result (λ r. RecordComesTo (job_view H.named self.now)
+            (made_page (string_bytes name) (record_page (job_view H.named self.now)))
+            (outcome_view made_view r)) }
+        ensures memory { IfErr result (λ e. e.kind ≡ ErrorKind.Memory) }
+    {
+        let limits = Limits {
+            bytes: None,
+            turns: None,
+        };
+        let shown = self.shown_within(alloc, limits)?;
+        Ok(page_named(name, shown.page))
+    }
+
+    fn has_page_limit(&self) -> bool
+        ensures { result ≡ has_page_limit self.now.limits }
+    {
+        self.limits.bytes.is_some() || self.limits.turns.is_some()
+    }
+
+    /// The page under its name, within limits.
+    #[tactic(auto, using(crate::proofs::Making::page_is, crate::proofs::Making::page_whole))]
+    fn made_within(&self, alloc: Global, name: String) -> Result<RecordResult<Made>>
+        requires { has_page_limit self.now.limits ≡ true }
+        ensures made { IfOk result (λ r. RecordComesTo (job_view H.named self.now)
+            (made_page (string_bytes name) (record_page (job_view H.named self.now)))
+            (outcome_view made_view r)) }
+        ensures memory { IfErr result (λ e. e.kind ≡ ErrorKind.Memory) }
+    {
+        let shown = self.shown_within(alloc, self.limits)?;
+        match shown.limit {
+            Some(reached) => Ok(Err(Why::Limited(reached))),
+            None => Ok(page_named(name, shown.page)),
+        }
+    }
+
+    /// The page within these limits.
+    fn shown_within(&self, alloc: Global, limits: Limits) -> Result<LimitedPage>
+        ensures page { IfOk result (λ p. PageWithin (record_page (job_view H.named self.now)) p) }
+        ensures free { limits ≡ unlimited → IfOk result (λ p. p.limit ≡ None) }
+        ensures memory { IfErr result (λ e. e.kind ≡ ErrorKind.Memory) }
+    {
+        let around = Surroundings {
+            partials: &self.partials,
+            depth: self.depth,
+            missing: self.missing,
+            limits,
+        };
+        render_hosted_page(alloc, &self.template, &self.host, around, &self.shared)
     }
 
     /// The name of the page's file.
     #[tactic(auto, using(crate::proofs::Making::name_is))]
     fn name_over(&self, alloc: Global, pattern: Option<&Template>) -> Result<RecordResult<String>>
         ensures { IsValueOrMemory (outcome_view string_bytes) result
-            (record_file_name (job_view self.now) (pattern_view pattern.entry)) }
+            (record_file_name (job_view H.named self.now) (pattern_view pattern.entry)) }
     {
         match pattern {
             Some(pattern) => {
-                let page = self.page(alloc, pattern)?;
+                let page = self.pattern_page(alloc, pattern)?;
                 Ok(name_in(page))
             }
             None => Ok(Ok(String::new(alloc))),
         }
     }
 
-    fn page(&self, alloc: Global, template: &Template) -> Result<Page>
+    fn pattern_page(&self, alloc: Global, pattern: &Template) -> Result<Page>
         ensures { IsValueOrMemory page_view result
-            (record_page (job_view self.now) (tree_of template.now)) }
+            (pattern_page (job_view H.named self.now) (tree_of pattern.now)) }
     {
-        render_page(alloc, template, &self.partials, self.depth, &self.shared)
+        render_page(alloc, pattern, &self.partials, self.depth, &self.shared)
     }
 }
 

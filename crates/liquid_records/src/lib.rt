@@ -12,5 +12,5 @@ mod messages;
 pub use file_name::is_file_name;
 pub use job::{Job, Made, RecordResult, Why};
 pub use laws::merge_laws;
-pub use liquid_disk::{Disk, DiskFault};
+pub use liquid_files::{Disk, DiskFault};
 pub use merge::{Failure, Fate, Merge};

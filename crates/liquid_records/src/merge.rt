@@ -5,14 +5,14 @@ ghost use Rattle.liquid_model.specs.View.{pairs_view};
 ghost use Rattle.liquid_json.specs.Json.{data_of};
 ghost use Rattle.liquid_syntax.specs.Templates.{tree_of};
 ghost use Rattle.liquid_records.specs.Records.{record_outcome};
-ghost use Rattle.liquid_records.specs.Steps.{IsRecordStep, Leaves};
+ghost use Rattle.liquid_records.specs.Steps.{IsRecordStep, IsStepWithin, Leaves};
 ghost use Rattle.liquid_records.specs.Views.{fate_view, job_of, job_view, made_view, merge_names};
 ghost use Rattle.liquid_records.specs.Views.{outcome_view, pattern_of};
 ghost use Rattle.liquid_records.specs.inside.Puts.{map_names};
 
 use crate::job::{Job, Made, RecordResult, Why};
-use liquid_core::{ErrorKind, Object, Result};
-use liquid_disk::{Disk, DiskFault};
+use liquid_core::{ErrorKind, NamedFilters, Object, Result};
+use liquid_files::{Disk, DiskFault};
 use liquid_json::data_from_json;
 use liquid_syntax::Template;
 use std::alloc::Global;
@@ -34,16 +34,16 @@ pub type Fate = std::result::Result<String, Failure>;
 
 /// A job whose pages go into files that a pattern names, and the names that came before.
 #[derive(Drop)]
-pub struct Merge {
-    job: Job,
+pub struct Merge<H> {
+    job: Job<H>,
     pattern: Template,
     names: BTreeMap<String, usize>,
 }
 
-impl Merge {
+impl<H: NamedFilters> Merge<H> {
     /// A merge before its first record. It takes no memory.
-    pub fn new(alloc: Global, job: Job, pattern: Template) -> Merge
-        ensures job { job_of result ≡ job_view job }
+    pub fn new(alloc: Global, job: Job<H>, pattern: Template) -> Merge<H>
+        ensures job { job_of H.named result ≡ job_view H.named job }
         ensures pattern { pattern_of result ≡ tree_of pattern }
         ensures names { merge_names result ≡ empty }
     {
@@ -55,7 +55,7 @@ impl Merge {
     }
 
     /// Writes the page of a record with these members into its file. The answer is the file's name,
-    /// or why the record has no page there: then no file changed.
+    /// or why the record has no page there, as where a limit ends it: then no file changed.
     ///
     /// It is `Memory` where a growth was refused, and no other kind; then no file changed, and the
     /// merge is as it was, so that the next record can be taken.
@@ -67,14 +67,14 @@ impl Merge {
         disk: &mut D,
     ) -> Result<Fate>
         ensures step { IfOk result
-            (λ fate. IsRecordStep number
-            (record_outcome (job_of self.old) (Some (pattern_of self.old))
+            (λ fate. IsStepWithin (job_of H.named self.old).has_limit number
+            (record_outcome (job_of H.named self.old) (Some (pattern_of self.old))
             (Ok (pairs_view «data».entries)))
             (merge_names self.old) (fate_view fate) (merge_names self.new)) }
         ensures files { IfSome (D.files disk.old) (λ f. IfOk result (λ fate.
-            Leaves (record_outcome (job_of self.old) (Some (pattern_of self.old))
+            Leaves (record_outcome (job_of H.named self.old) (Some (pattern_of self.old))
             (Ok (pairs_view «data».entries))) (fate_view fate) f (D.files disk.new))) }
-        ensures job { job_of self.new ≡ job_of self.old }
+        ensures job { job_of H.named self.new ≡ job_of H.named self.old }
         ensures pattern { pattern_of self.new ≡ pattern_of self.old }
         ensures names { OnErr result (merge_names self.new ≡ merge_names self.old) }
         ensures untouched { OnErr result (D.files disk.new ≡ D.files disk.old) }
@@ -93,14 +93,16 @@ impl Merge {
         disk: &mut D,
     ) -> Result<Fate>
         ensures step { IfOk result
-            (λ fate. IsRecordStep number
-            (record_outcome (job_of self.old) (Some (pattern_of self.old)) (data_of text.now))
+            (λ fate. IsStepWithin (job_of H.named self.old).has_limit number
+            (record_outcome (job_of H.named self.old) (Some (pattern_of self.old))
+            (data_of text.now))
             (merge_names self.old) (fate_view fate) (merge_names self.new)) }
         ensures files { IfSome (D.files disk.old) (λ f. IfOk result (λ fate.
             Leaves
-            (record_outcome (job_of self.old) (Some (pattern_of self.old)) (data_of text.now))
+            (record_outcome (job_of H.named self.old) (Some (pattern_of self.old))
+            (data_of text.now))
             (fate_view fate) f (D.files disk.new))) }
-        ensures job { job_of self.new ≡ job_of self.old }
+        ensures job { job_of H.named self.new ≡ job_of H.named self.old }
         ensures pattern { pattern_of self.new ≡ pattern_of self.old }
         ensures names { OnErr result (merge_names self.new ≡ merge_names self.old) }
         ensures untouched { OnErr result (D.files disk.new ≡ D.files disk.old) }

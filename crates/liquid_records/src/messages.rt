@@ -5,7 +5,8 @@ ghost use Rattle.liquid_records.specs.Messages.{failure_text, why_text};
 use crate::job::Why;
 use crate::merge::Failure;
 use liquid_core::Quoted;
-use liquid_disk::DiskFault;
+use liquid_engine::LimitReached;
+use liquid_files::DiskFault;
 use std::fmt;
 
 /// What follows the number of the record.
@@ -16,6 +17,12 @@ impl fmt::Display for Why {
         match self {
             Why::NoData(fault) => write!(f, "{fault}"),
             Why::Faulted(fault) => write!(f, "{fault}"),
+            Why::Limited(LimitReached::Bytes) => {
+                f.write_str("its page takes more than its limit allows")
+            }
+            Why::Limited(LimitReached::Turns) => {
+                f.write_str("its page takes more turns than its limit allows")
+            }
             Why::Unnamed(fault) => write!(f, "the name of its file: {fault}"),
             Why::BadName(name) => {
                 let name = Quoted {

@@ -4,7 +4,7 @@ use Rattle.std.specs.Str.{IsUtf8, is_utf8}
 use Rattle.std.proofs.lemmas.Str.{IsUtf8-from_is_utf8, is_utf8-from_IsUtf8}
 use Rattle.liquid_model.specs.Data.{text}
 use Rattle.liquid_model.specs.declared.error.ErrorKind.TheVariants.{InvalidInput}
-use Rattle.liquid_filter_base.specs.Arguments.{Answer}
+use Rattle.liquid_model.specs.Arguments.{Answer}
 use Rattle.liquid_shopify_host_filters.specs.Codecs.{decoded_text}
 
 pub is_decoded : (bytes made : List ℕ) → IsUtf8 bytes → made ≡ bytes → decoded_text bytes ≡ Ok (text made)

@@ -4,7 +4,7 @@ use Rattle.std.proofs.Math.Seq.{drop-append_seam}
 use Rattle.std.proofs.lemmas.Bool.{and_parts}
 use Rattle.std.proofs.lemmas.Bool.Decides.{nat_tests}
 use Rattle.std.specs.Str.Pattern.{LacksTextAt, RFindsText}
-use Rattle.liquid_filter_base.specs.Text.{begins}
+use Rattle.liquid_model.specs.Text.{begins}
 use Rattle.liquid_shopify_host_filters.specs.Last.{occurs, replaced_last}
 
 eq_own : (x : ℕ) → (x == x) ≡ true

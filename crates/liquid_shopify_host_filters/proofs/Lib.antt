@@ -1,5 +1,3 @@
-pub mod Amounts
-pub mod Bolds
 pub mod CodecLaws
 pub mod Decoded
 pub mod Faults

@@ -5,7 +5,8 @@ use Rattle.liquid_model.specs.Fallible.{◌>>=◌}
 use Rattle.liquid_model.specs.Texts.{Text}
 use Rattle.liquid_model.specs.declared.error.ErrorKind.{ErrorKind}
 use Rattle.liquid_shopify_host_filters.specs.Laws.{SumGoesOn}
-use Rattle.liquid_shopify_host_filters.specs.Sums.{sum_with_term, term, total}
+use Rattle.liquid_shopify_host_filters.specs.Sums.{sum_with_term, total}
+use Rattle.liquid_decimals.specs.Sums.{term}
 
 abbrev Sum : Type 0
 Sum = Result ℤ ErrorKind

@@ -8,7 +8,7 @@ use Rattle.std.specs.Str.{all_scalars, chars, encode_utf8_all, IsUtf8}
 use lib.Utf8.{low_scalar, scalar}
 use Rattle.liquid_model.specs.Data.{text}
 use Rattle.liquid_model.specs.Texts.{Text}
-use Rattle.liquid_filter_base.specs.Arguments.{Answer}
+use Rattle.liquid_model.specs.Arguments.{Answer}
 use Rattle.liquid_shopify_host_filters.specs.Laws.{HandleTwiceIsOnce, SquishTwiceIsOnce}
 use Rattle.liquid_shopify_host_filters.specs.Words.{after_at, is_left_out, is_space, is_word_character, character_role, separator, shaped, shown_at, worded, worded_text}
 use Rattle.liquid_shopify_host_filters.specs.declared.words.Place.{Place}

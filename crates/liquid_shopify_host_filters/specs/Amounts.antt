@@ -4,18 +4,9 @@ use Rattle.std.specs.Prelude.{negsuc, List, [], ◌∷◌, ◌++◌, length, Opt
 use Rattle.std.specs.Prelude.{if◌then◌else◌}
 use Rattle.std.specs.Fmt.{decimal}
 use Rattle.liquid_model.specs.Texts.{Text}
+use Rattle.liquid_decimals.specs.Written.{digit_groups, minus_sign}
 use Rattle.liquid_shopify_host_filters.specs.Styles.{point, thousands}
 use Rattle.liquid_shopify_host_filters.specs.declared.money.MoneyStyle.{MoneyStyle}
-
--- a separator stands before n digits where these are groups of three
-abbrev pub separator_at : Text → ℕ → Text
-separator_at separator n = if nat_lt 0 n && (n % 3 == 0) then separator else []
-
--- digits with a separator between groups of three, counted from the last
-abbrev pub digit_groups : Text → Text → Text
-digit_groups separator [] = []
-digit_groups separator (d ∷ ds) = d ∷ (separator_at separator (length ds)
-    ++ digit_groups separator ds)
 
 abbrev pub two_decimal_digits : ℕ → Text
 two_decimal_digits n = decimal (n / 10) ++ decimal (n % 10)
@@ -45,10 +36,6 @@ abbrev pub amount_of : MoneyStyle → ℤ → Text
 amount_of style z =
     (amount_sign (point style) z ++ units_text style (unsigned_abs z))
     ++ cents_text (point style) (unsigned_abs z % 100)
-
-abbrev pub minus_sign : ℤ → Text
-minus_sign (pos n) = []
-minus_sign (negsuc n) = codes "-"
 
 -- the whole units of an amount of cents
 abbrev pub whole_amount : MoneyStyle → ℤ → Text

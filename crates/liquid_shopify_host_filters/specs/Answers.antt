@@ -2,17 +2,14 @@
 use Rattle.std.specs.Prelude.{List, map, string_bytes}
 use Rattle.liquid_model.specs.Data.{Datum}
 use Rattle.liquid_model.specs.Texts.{Text}
-use Rattle.liquid_filter_base.specs.Arguments.{Answer}
+use Rattle.liquid_model.specs.Arguments.{Answer}
 use Rattle.liquid_shopify_host_filters.specs.Codecs.{decode_answer, encode_answer}
-use Rattle.liquid_shopify_host_filters.specs.Codecs.{hmac_sha256_answer, md5_answer, sha1_answer}
-use Rattle.liquid_shopify_host_filters.specs.Codecs.{sha256_answer}
-use Rattle.liquid_shopify_host_filters.specs.Examples.{count_answer, paragraph_answer}
-use Rattle.liquid_shopify_host_filters.specs.Examples.{prettyprint_answer, price_answer}
+use Rattle.liquid_shopify_host_filters.specs.Codecs.{hmac_sha256_answer, json_answer}
+use Rattle.liquid_shopify_host_filters.specs.Codecs.{md5_answer, sha1_answer, sha256_answer}
 use Rattle.liquid_shopify_host_filters.specs.Html.{img_tag_answer, link_to_answer}
 use Rattle.liquid_shopify_host_filters.specs.Html.{link_to_collection_answer, script_tag_answer}
 use Rattle.liquid_shopify_host_filters.specs.Html.{stylesheet_tag_answer}
 use Rattle.liquid_shopify_host_filters.specs.Images.{product_img_url_answer}
-use Rattle.liquid_shopify_host_filters.specs.JsonTexts.{json_answer}
 use Rattle.liquid_shopify_host_filters.specs.Last.{remove_last_answer, replace_last_answer}
 use Rattle.liquid_shopify_host_filters.specs.Lookups.{shopify_find_answer, find_index_answer}
 use Rattle.liquid_shopify_host_filters.specs.Lookups.{has_answer}
@@ -31,9 +28,8 @@ use Rattle.liquid_shopify_host_filters.specs.declared.kind.ShopifyKind.TheVarian
 use Rattle.liquid_shopify_host_filters.specs.declared.kind.ShopifyKind.TheVariants.{Base64Decode}
 use Rattle.liquid_shopify_host_filters.specs.declared.kind.ShopifyKind.TheVariants.{Base64Encode}
 use Rattle.liquid_shopify_host_filters.specs.declared.kind.ShopifyKind.TheVariants.{Camelize}
-use Rattle.liquid_shopify_host_filters.specs.declared.kind.ShopifyKind.TheVariants.{Count, Find}
+use Rattle.liquid_shopify_host_filters.specs.declared.kind.ShopifyKind.TheVariants.{Find}
 use Rattle.liquid_shopify_host_filters.specs.declared.kind.ShopifyKind.TheVariants.{FindIndex}
-use Rattle.liquid_shopify_host_filters.specs.declared.kind.ShopifyKind.TheVariants.{FormatAsMoney}
 use Rattle.liquid_shopify_host_filters.specs.declared.kind.ShopifyKind.TheVariants.{GlobalAssetUrl}
 use Rattle.liquid_shopify_host_filters.specs.declared.kind.ShopifyKind.TheVariants.{Handle}
 use Rattle.liquid_shopify_host_filters.specs.declared.kind.ShopifyKind.TheVariants.{Handleize, Has}
@@ -50,9 +46,6 @@ use Rattle.liquid_shopify_host_filters.specs.declared.kind.ShopifyKind.TheVarian
 use Rattle.liquid_shopify_host_filters.specs.declared.kind.ShopifyKind.TheVariants.{MoneyWithCurrency}
 use Rattle.liquid_shopify_host_filters.specs.declared.kind.ShopifyKind.TheVariants.{MoneyWithoutCurrency}
 use Rattle.liquid_shopify_host_filters.specs.declared.kind.ShopifyKind.TheVariants.{MoneyWithoutTrailingZeros}
-use Rattle.liquid_shopify_host_filters.specs.declared.kind.ShopifyKind.TheVariants.{Paragraph}
-use Rattle.liquid_shopify_host_filters.specs.declared.kind.ShopifyKind.TheVariants.{Prettyprint}
-use Rattle.liquid_shopify_host_filters.specs.declared.kind.ShopifyKind.TheVariants.{Price}
 use Rattle.liquid_shopify_host_filters.specs.declared.kind.ShopifyKind.TheVariants.{ProductImgUrl}
 use Rattle.liquid_shopify_host_filters.specs.declared.kind.ShopifyKind.TheVariants.{Reject}
 use Rattle.liquid_shopify_host_filters.specs.declared.kind.ShopifyKind.TheVariants.{RemoveLast}
@@ -81,10 +74,8 @@ shopify_answer AssetUrl shop d args = prefixed_answer (string_bytes shop.assets)
 shopify_answer Base64Decode shop d args = decode_answer d
 shopify_answer Base64Encode shop d args = encode_answer d
 shopify_answer Camelize shop d args = camelize_answer d
-shopify_answer Count shop d args = count_answer d
 shopify_answer Find shop d args = shopify_find_answer d args
 shopify_answer FindIndex shop d args = find_index_answer d args
-shopify_answer FormatAsMoney shop d args = money_answer shop.money d
 shopify_answer GlobalAssetUrl shop d args = prefixed_answer (string_bytes shop.global_assets) d
 shopify_answer Handle shop d args = handle_answer d
 shopify_answer Handleize shop d args = handle_answer d
@@ -106,9 +97,6 @@ shopify_answer Money shop d args = money_answer shop.money d
 shopify_answer MoneyWithCurrency shop d args = money_answer shop.money_with_currency d
 shopify_answer MoneyWithoutCurrency shop d args = amount_answer shop.money d
 shopify_answer MoneyWithoutTrailingZeros shop d args = trimmed_answer shop.money d
-shopify_answer Paragraph shop d args = paragraph_answer d
-shopify_answer Prettyprint shop d args = prettyprint_answer d
-shopify_answer Price shop d args = price_answer d
 shopify_answer ProductImgUrl shop d args = product_img_url_answer (string_bytes shop.images) d args
 shopify_answer Reject shop d args = reject_answer d args
 shopify_answer RemoveLast shop d args = remove_last_answer d args

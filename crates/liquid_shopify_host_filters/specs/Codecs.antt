@@ -1,4 +1,4 @@
--- The filters that encode texts, and those that make digests of them.
+-- The filters that encode, and those that make digests.
 use Rattle.std.specs.Prelude.{ℕ, nat_lt, bit_xor, List, [], ◌++◌, length, drop, map, replicate}
 use Rattle.std.specs.Prelude.{Result, Ok, Err, if◌then◌else◌}
 use Rattle.std.specs.Str.{is_utf8}
@@ -12,7 +12,8 @@ use Rattle.sha2.specs.Sha256.{sha256}
 use Rattle.liquid_model.specs.Data.{Datum, text, text_of}
 use Rattle.liquid_model.specs.Texts.{Text}
 use Rattle.liquid_model.specs.declared.error.ErrorKind.TheVariants.{InvalidInput}
-use Rattle.liquid_filter_base.specs.Arguments.{Answer, text_or}
+use Rattle.liquid_model.specs.Arguments.{Answer, text_or}
+use Rattle.liquid_json.specs.JsonTexts.{json_text}
 
 -- `base64_encode`: RFC 4648 with padding
 abbrev pub encode_answer : Datum → Answer
@@ -29,6 +30,10 @@ decoded (Err e) = Err InvalidInput
 -- `base64_decode`
 abbrev pub decode_answer : Datum → Answer
 decode_answer d = decoded (decode_of standard (text_of d))
+
+-- `json`
+abbrev pub json_answer : Datum → Answer
+json_answer d = Ok (text (json_text d))
 
 -- `md5`, `sha1`, `sha256`: digests in hexadecimal, in lower case
 abbrev pub md5_answer : Datum → Answer

@@ -3,7 +3,7 @@
 use Rattle.std.specs.Prelude.{List, [], ◌++◌, drop, Ok, codes, if◌then◌else◌}
 use Rattle.liquid_model.specs.Data.{Datum, text, text_of, truthy}
 use Rattle.liquid_model.specs.Texts.{Text}
-use Rattle.liquid_filter_base.specs.Arguments.{Answer, text_or}
+use Rattle.liquid_model.specs.Arguments.{Answer, text_or}
 use Rattle.liquid_shopify_host_filters.specs.Urls.{collection_url}
 
 -- `img_tag`

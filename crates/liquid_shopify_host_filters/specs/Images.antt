@@ -6,8 +6,8 @@ use Rattle.std.specs.Char.{is_ascii_alphanumeric}
 use Rattle.liquid_model.specs.Data.{Datum, text, text_of}
 use Rattle.liquid_model.specs.Texts.{Text}
 use Rattle.liquid_model.specs.declared.error.ErrorKind.TheVariants.{InvalidArgument, InvalidInput}
-use Rattle.liquid_filter_base.specs.Arguments.{Answer, text_or}
-use Rattle.liquid_filter_base.specs.Text.{begins}
+use Rattle.liquid_model.specs.Arguments.{Answer, text_or}
+use Rattle.liquid_model.specs.Text.{begins}
 
 -- letters, digits, _ and, where they count, hyphens
 abbrev pub is_part : Bool → ℕ → Bool

@@ -6,9 +6,8 @@ use Rattle.liquid_shopify_host_filters.specs.declared.kind.ShopifyKind.TheVarian
 use Rattle.liquid_shopify_host_filters.specs.declared.kind.ShopifyKind.TheVariants.{Base64Decode}
 use Rattle.liquid_shopify_host_filters.specs.declared.kind.ShopifyKind.TheVariants.{Base64Encode}
 use Rattle.liquid_shopify_host_filters.specs.declared.kind.ShopifyKind.TheVariants.{Camelize}
-use Rattle.liquid_shopify_host_filters.specs.declared.kind.ShopifyKind.TheVariants.{Count, Find}
+use Rattle.liquid_shopify_host_filters.specs.declared.kind.ShopifyKind.TheVariants.{Find}
 use Rattle.liquid_shopify_host_filters.specs.declared.kind.ShopifyKind.TheVariants.{FindIndex}
-use Rattle.liquid_shopify_host_filters.specs.declared.kind.ShopifyKind.TheVariants.{FormatAsMoney}
 use Rattle.liquid_shopify_host_filters.specs.declared.kind.ShopifyKind.TheVariants.{GlobalAssetUrl}
 use Rattle.liquid_shopify_host_filters.specs.declared.kind.ShopifyKind.TheVariants.{Handle}
 use Rattle.liquid_shopify_host_filters.specs.declared.kind.ShopifyKind.TheVariants.{Handleize, Has}
@@ -25,9 +24,6 @@ use Rattle.liquid_shopify_host_filters.specs.declared.kind.ShopifyKind.TheVarian
 use Rattle.liquid_shopify_host_filters.specs.declared.kind.ShopifyKind.TheVariants.{MoneyWithCurrency}
 use Rattle.liquid_shopify_host_filters.specs.declared.kind.ShopifyKind.TheVariants.{MoneyWithoutCurrency}
 use Rattle.liquid_shopify_host_filters.specs.declared.kind.ShopifyKind.TheVariants.{MoneyWithoutTrailingZeros}
-use Rattle.liquid_shopify_host_filters.specs.declared.kind.ShopifyKind.TheVariants.{Paragraph}
-use Rattle.liquid_shopify_host_filters.specs.declared.kind.ShopifyKind.TheVariants.{Prettyprint}
-use Rattle.liquid_shopify_host_filters.specs.declared.kind.ShopifyKind.TheVariants.{Price}
 use Rattle.liquid_shopify_host_filters.specs.declared.kind.ShopifyKind.TheVariants.{ProductImgUrl}
 use Rattle.liquid_shopify_host_filters.specs.declared.kind.ShopifyKind.TheVariants.{Reject}
 use Rattle.liquid_shopify_host_filters.specs.declared.kind.ShopifyKind.TheVariants.{RemoveLast}
@@ -48,10 +44,8 @@ shopify_filter_name AssetUrl = codes "asset_url"
 shopify_filter_name Base64Decode = codes "base64_decode"
 shopify_filter_name Base64Encode = codes "base64_encode"
 shopify_filter_name Camelize = codes "camelize"
-shopify_filter_name Count = codes "count"
 shopify_filter_name Find = codes "find"
 shopify_filter_name FindIndex = codes "find_index"
-shopify_filter_name FormatAsMoney = codes "format_as_money"
 shopify_filter_name GlobalAssetUrl = codes "global_asset_url"
 shopify_filter_name Handle = codes "handle"
 shopify_filter_name Handleize = codes "handleize"
@@ -71,9 +65,6 @@ shopify_filter_name Money = codes "money"
 shopify_filter_name MoneyWithCurrency = codes "money_with_currency"
 shopify_filter_name MoneyWithoutCurrency = codes "money_without_currency"
 shopify_filter_name MoneyWithoutTrailingZeros = codes "money_without_trailing_zeros"
-shopify_filter_name Paragraph = codes "paragraph"
-shopify_filter_name Prettyprint = codes "prettyprint"
-shopify_filter_name Price = codes "price"
 shopify_filter_name ProductImgUrl = codes "product_img_url"
 shopify_filter_name Reject = codes "reject"
 shopify_filter_name RemoveLast = codes "remove_last"

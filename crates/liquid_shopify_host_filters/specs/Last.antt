@@ -2,8 +2,8 @@
 use Rattle.std.specs.Prelude.{Bool, ◌||◌, List, [], ◌∷◌, ◌++◌, length, drop, Ok, if◌then◌else◌}
 use Rattle.liquid_model.specs.Data.{Datum, text, text_of}
 use Rattle.liquid_model.specs.Texts.{Text}
-use Rattle.liquid_filter_base.specs.Arguments.{Answer, text_or}
-use Rattle.liquid_filter_base.specs.Text.{begins}
+use Rattle.liquid_model.specs.Arguments.{Answer, text_or}
+use Rattle.liquid_model.specs.Text.{begins}
 
 -- p occurs in s
 abbrev pub occurs : Text → Text → Bool

@@ -5,7 +5,7 @@ use Rattle.base64.specs.GeneralPurpose.{IsBytes}
 use Rattle.liquid_model.specs.Data.{Datum, text}
 use Rattle.liquid_model.specs.Fallible.{◌>>=◌}
 use Rattle.liquid_model.specs.Texts.{Text}
-use Rattle.liquid_filter_base.specs.Arguments.{Answer}
+use Rattle.liquid_model.specs.Arguments.{Answer}
 use Rattle.liquid_shopify_host_filters.specs.Codecs.{decode_answer, encode_answer}
 use Rattle.liquid_shopify_host_filters.specs.Sums.{total}
 use Rattle.liquid_shopify_host_filters.specs.Wordings.{handle_answer, squish_answer}

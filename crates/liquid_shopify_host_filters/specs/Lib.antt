@@ -1,10 +1,8 @@
 pub mod Amounts
 pub mod Answers
 pub mod Codecs
-pub mod Examples
 pub mod Html
 pub mod Images
-pub mod JsonTexts
 pub mod Kinds
 pub mod Last
 pub mod Laws

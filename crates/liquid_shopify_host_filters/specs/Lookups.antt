@@ -6,10 +6,10 @@ use Rattle.liquid_model.specs.Data.{Datum, nil, truth, text_of}
 use Rattle.liquid_model.specs.Find.{counted}
 use Rattle.liquid_model.specs.Texts.{Text}
 use Rattle.liquid_model.specs.declared.error.ErrorKind.TheVariants.{InvalidArgument}
-use Rattle.liquid_filter_base.specs.Arguments.{Answer, first_of}
-use Rattle.liquid_list_filters.specs.Keeping as keeping
-use Rattle.liquid_list_filters.specs.Sequences as sequences
-use Rattle.liquid_list_filters.specs.Sequences.{all_maps, list, sequence}
+use Rattle.liquid_model.specs.Arguments.{Answer, first_of}
+use Rattle.liquid_filters.specs.Keeping as keeping
+use Rattle.liquid_filters.specs.Sequences as sequences
+use Rattle.liquid_filters.specs.Sequences.{all_maps, list, sequence}
 
 -- the value of a map's property
 abbrev pub map_property : Text → Datum → Option Datum

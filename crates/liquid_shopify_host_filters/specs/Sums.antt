@@ -1,19 +1,15 @@
 -- The filter `sum`.
 use Rattle.std.specs.Prelude.{ℤ, pos, ◌+ℤ◌, if◌then◌else◌, List, [], ◌∷◌, Option, Some, None}
 use Rattle.std.specs.Prelude.{Result, Ok, Err}
-use Rattle.liquid_model.specs.Data.{Datum, nil, truth, number, object, text_of}
+use Rattle.liquid_model.specs.Data.{Datum, nil, truth, number, object}
 use Rattle.liquid_model.specs.Fallible.{◌>>=◌}
 use Rattle.liquid_model.specs.Texts.{Text}
 use Rattle.liquid_model.specs.Whole.{fits, whole}
 use Rattle.liquid_model.specs.declared.error.ErrorKind.{ErrorKind}
 use Rattle.liquid_model.specs.declared.error.ErrorKind.TheVariants.{InvalidInput, NumberRange}
-use Rattle.liquid_filter_base.specs.Arguments.{Answer}
-use Rattle.liquid_list_filters.specs.Sequences.{property, sequence}
-
--- what of an item is added: the item, or its property of a name
-abbrev pub term : Option Text → Datum → Option Datum
-term None d = Some d
-term (Some name) d = property name d
+use Rattle.liquid_model.specs.Arguments.{Answer}
+use Rattle.liquid_filters.specs.Sequences.{sequence}
+use Rattle.liquid_decimals.specs.Sums.{summed_name, term}
 
 abbrev pub found_whole : Option ℤ → Result ℤ ErrorKind
 found_whole (Some z) = Ok z
@@ -47,9 +43,5 @@ abbrev pub as_number : Result ℤ ErrorKind → Answer
 as_number r = r >>= (λ z. Ok (number z))
 
 -- `sum`: of a list's items, or of what its maps have under the argument
-abbrev pub summed_name : List Datum → Option Text
-summed_name [] = None
-summed_name (name ∷ args) = Some (text_of name)
-
 abbrev pub sum_answer : Datum → List Datum → Answer
 sum_answer d args = as_number (total (summed_name args) (pos 0) (sequence d))

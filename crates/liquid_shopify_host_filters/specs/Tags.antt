@@ -4,7 +4,7 @@ use Rattle.std.specs.Prelude.{Bool, true, false, ◌||◌, List, [], ◌∷◌, 
 use Rattle.std.specs.Prelude.{codes, bytes_eq, if◌then◌else◌}
 use Rattle.liquid_model.specs.Data.{Datum, text, text_of}
 use Rattle.liquid_model.specs.Texts.{Text}
-use Rattle.liquid_filter_base.specs.Arguments.{Answer, text_or}
+use Rattle.liquid_model.specs.Arguments.{Answer, text_or}
 use Rattle.liquid_shopify_host_filters.specs.Lookups.{map_property}
 
 -- the other tags, each with a + after it, and then this one

@@ -6,8 +6,8 @@ use Rattle.liquid_model.specs.Data.{Datum, text}
 use Rattle.liquid_model.specs.Texts.{Text}
 use Rattle.liquid_model.specs.Whole.{whole}
 use Rattle.liquid_model.specs.declared.error.ErrorKind.TheVariants.{InvalidInput}
-use Rattle.liquid_filter_base.specs.Arguments.{Answer}
-use Rattle.liquid_shopify_host_filters.specs.Amounts.{minus_sign}
+use Rattle.liquid_model.specs.Arguments.{Answer}
+use Rattle.liquid_decimals.specs.Written.{minus_sign}
 
 -- thousandths as decimals, without the zeros at their end but for the first decimal
 abbrev pub thousandths : ℕ → Text

@@ -1,7 +1,7 @@
 -- The filters that make a text of the words of their input.
 use Rattle.std.specs.Prelude.{Ok}
 use Rattle.liquid_model.specs.Data.{Datum, nil, text, text_of}
-use Rattle.liquid_filter_base.specs.Arguments.{Answer}
+use Rattle.liquid_model.specs.Arguments.{Answer}
 use Rattle.liquid_shopify_host_filters.specs.Words.{worded_text}
 use Rattle.liquid_shopify_host_filters.specs.declared.words.Wording.TheVariants.{Handle, Camel}
 use Rattle.liquid_shopify_host_filters.specs.declared.words.Wording.TheVariants.{Squish}

@@ -1,14 +1,13 @@
 //! Amounts of money as texts.
 ghost use Rattle.std.specs.Prelude.{◌≡◌, ◌++◌, ◌≤◌, ◌^◌, option_map, string_bytes};
-ghost use Rattle.std.specs.Str.{IsAscii};
 ghost use Rattle.liquid_model.specs.Answer.{IsValueOrMemory};
-ghost use Rattle.liquid_shopify_host_filters.specs.Amounts.{amount_of, cents_text, digit_groups};
-ghost use Rattle.liquid_shopify_host_filters.specs.Amounts.{separator_at, amount_sign};
+ghost use Rattle.liquid_shopify_host_filters.specs.Amounts.{amount_of, amount_sign, cents_text};
 ghost use Rattle.liquid_shopify_host_filters.specs.Amounts.{two_decimal_digits};
 ghost use Rattle.liquid_shopify_host_filters.specs.Amounts.{units_of, whole_amount};
 
 use crate::money::MoneyStyle;
 use itoa::Buffer;
+use liquid_decimals::push_grouped;
 use liquid_model::Result;
 use std::alloc::Global;
 
@@ -86,30 +85,4 @@ fn push_two_digits(out: &mut String, number: u64) -> Result<()>
 {
     out.push_str(Buffer::new().format(number / 10))?;
     Ok(out.push_str(Buffer::new().format(number % 10))?)
-}
-
-/// Appends digits with a separator between groups of three.
-fn push_grouped(out: &mut String, digits: &str, separator: &str) -> Result<()>
-    requires { IsAscii digits.now }
-    ensures { IsValueOrMemory (λ _. string_bytes out.new) result
-        (string_bytes out.old ++ digit_groups separator.now digits.now) }
-{
-    let bytes = digits.as_bytes();
-    for (place, digit) in bytes.iter().enumerate() {
-        out.push(char::from(*digit))?;
-        push_separator(out, bytes.len() - place - 1, separator)?;
-    }
-    Ok(())
-}
-
-/// Appends the separator where a group of three digits begins: where `left` digits follow, and
-/// `left` is a multiple of three but not 0.
-fn push_separator(out: &mut String, left: usize, separator: &str) -> Result<()>
-    ensures { IsValueOrMemory (λ _. string_bytes out.new) result
-        (string_bytes out.old ++ separator_at separator.now left) }
-{
-    if left > 0 && left % 3 == 0 {
-        return Ok(out.push_str(separator)?);
-    }
-    Ok(())
 }

@@ -3,10 +3,9 @@ ghost use Rattle.std.specs.Prelude.{drop, map};
 ghost use Rattle.std.specs.Cow.{cow_str_bytes};
 ghost use Rattle.liquid_model.specs.Answer.{IsValueOrMemory};
 ghost use Rattle.liquid_model.specs.View.{view};
-ghost use Rattle.liquid_filter_base.specs.Arguments.{text_or};
+ghost use Rattle.liquid_model.specs.Arguments.{text_or};
 
-use liquid_filter_base::text_of;
-use liquid_model::{Result, Value};
+use liquid_model::{Result, Value, text_of};
 use std::alloc::Global;
 use std::borrow::CowStr;
 

@@ -1,17 +1,17 @@
-//! The filters that encode texts, and those that make digests of them.
+//! The filters that encode, and those that make digests.
 ghost use Rattle.std.specs.Prelude.{◌≤◌, length, map};
 ghost use Rattle.liquid_model.specs.Answer.{Answers, IsValueOrMemory};
 ghost use Rattle.liquid_model.specs.View.{view};
 ghost use Rattle.liquid_shopify_host_filters.specs.Codecs.{code_by, decode_answer, decoded_text};
 ghost use Rattle.liquid_shopify_host_filters.specs.Codecs.{masked_digest, encode_answer, hmac};
-ghost use Rattle.liquid_shopify_host_filters.specs.Codecs.{hmac_sha256_answer, md5_answer};
-ghost use Rattle.liquid_shopify_host_filters.specs.Codecs.{sha1_answer, sha256_answer};
+ghost use Rattle.liquid_shopify_host_filters.specs.Codecs.{hmac_sha256_answer, json_answer};
+ghost use Rattle.liquid_shopify_host_filters.specs.Codecs.{md5_answer, sha1_answer, sha256_answer};
 
 use crate::argument::text_or;
 use base64::DecodeAllocError;
 use base64::engine::general_purpose::STANDARD;
-use liquid_filter_base::text_of;
-use liquid_model::{Error, ErrorKind, Result, Value};
+use liquid_json::json_of;
+use liquid_model::{Error, ErrorKind, Result, Value, text_of};
 use md5::Md5;
 use sha1::Sha1;
 use sha2::{Digest, Sha256};
@@ -54,6 +54,14 @@ fn decoded_text(alloc: Global, bytes: Vec<u8>) -> Result<Value>
             "the bytes that the input encodes are no text",
         )),
     }
+}
+
+/// `json`: the input as JSON, with nothing between its tokens; the keys of a map stand in the order
+/// of their bytes.
+pub(crate) fn json_answer(alloc: Global, input: &Value) -> Result<Value>
+    ensures { Answers view result (json_answer (view input.now)) }
+{
+    Ok(Value::Text(json_of(alloc, input)?))
 }
 
 /// `md5`: the digest of the input's text in hexadecimal.

@@ -7,12 +7,8 @@ ghost use Rattle.liquid_shopify_host_filters.specs.Kinds.{takes_arguments};
 
 use crate::kind::ShopifyKind;
 use crate::shop::Shop;
-use crate::{
-    codec, examples, html, images, json_text, lists, money, sums, tags, texts, urls, weight,
-    wording,
-};
-use liquid_filter_base::Filter;
-use liquid_model::{Result, Value};
+use crate::{codec, html, images, lists, money, sums, tags, texts, urls, weight, wording};
+use liquid_model::{Filter, Result, Value};
 use std::alloc::Global;
 use std::rc::Rc;
 
@@ -59,10 +55,8 @@ fn answered(
         ShopifyKind::Base64Decode => codec::decode_answer(alloc, input),
         ShopifyKind::Base64Encode => codec::encode_answer(alloc, input),
         ShopifyKind::Camelize => wording::camelize_answer(alloc, input),
-        ShopifyKind::Count => examples::count_answer(alloc, input),
         ShopifyKind::Find => lists::find_answer(alloc, input, args),
         ShopifyKind::FindIndex => lists::find_index_answer(alloc, input, args),
-        ShopifyKind::FormatAsMoney => money::money_answer(alloc, &shop.money, input),
         ShopifyKind::GlobalAssetUrl => urls::prefixed_answer(alloc, &shop.global_assets, input),
         ShopifyKind::Handle => wording::handle_answer(alloc, input),
         ShopifyKind::Handleize => wording::handle_answer(alloc, input),
@@ -70,7 +64,7 @@ fn answered(
         ShopifyKind::HighlightActiveTag => tags::highlight_answer(alloc, shop, input, args),
         ShopifyKind::HmacSha256 => codec::hmac_sha256_answer(alloc, input, args),
         ShopifyKind::ImgTag => html::img_tag_answer(alloc, input, args),
-        ShopifyKind::Json => json_text::json_answer(alloc, input),
+        ShopifyKind::Json => codec::json_answer(alloc, input),
         ShopifyKind::LinkTo => html::link_to_answer(alloc, input, args),
         ShopifyKind::LinkToAddTag => tags::link_to_add_tag_answer(alloc, shop, input, args),
         ShopifyKind::LinkToRemoveTag => tags::link_to_remove_tag_answer(alloc, shop, input, args),
@@ -84,9 +78,6 @@ fn answered(
         }
         ShopifyKind::MoneyWithoutCurrency => money::amount_answer(alloc, &shop.money, input),
         ShopifyKind::MoneyWithoutTrailingZeros => money::trimmed_answer(alloc, &shop.money, input),
-        ShopifyKind::Paragraph => examples::paragraph_answer(alloc, input),
-        ShopifyKind::Prettyprint => examples::prettyprint_answer(alloc, input),
-        ShopifyKind::Price => examples::price_answer(alloc, input),
         ShopifyKind::ProductImgUrl => {
             images::product_img_url_answer(alloc, &shop.images, input, args)
         }

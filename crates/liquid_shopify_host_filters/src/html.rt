@@ -8,8 +8,7 @@ ghost use Rattle.liquid_shopify_host_filters.specs.Html.{script_tag_answer, styl
 
 use crate::argument::text_or;
 use crate::urls::collection_url;
-use liquid_filter_base::text_of;
-use liquid_model::{Result, Value};
+use liquid_model::{Result, Value, text_of};
 use std::alloc::Global;
 
 /// `img_tag`: an image at the input's text, with the argument as its `alt`.

@@ -8,8 +8,7 @@ ghost use Rattle.liquid_shopify_host_filters.specs.Images.{product_img_url_answe
 ghost use Rattle.liquid_shopify_host_filters.specs.Images.{with_extension};
 
 use crate::argument::text_or;
-use liquid_filter_base::text_of;
-use liquid_model::{Error, ErrorKind, Result, Value};
+use liquid_model::{Error, ErrorKind, Result, Value, text_of};
 use std::alloc::Global;
 
 /// The parts of the path of a product's image.

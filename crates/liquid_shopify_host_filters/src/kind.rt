@@ -14,14 +14,10 @@ pub enum ShopifyKind {
     Base64Encode,
     /// `camelize`: the words with a capital each, joined.
     Camelize,
-    /// `count`: how many items a list has.
-    Count,
     /// `find`: the first map of a list with a property.
     Find,
     /// `find_index`: the place of the first map of a list with a property.
     FindIndex,
-    /// `format_as_money`: an amount in the shop's format, as `money`.
-    FormatAsMoney,
     /// `global_asset_url`: the address of a file that all shops share.
     GlobalAssetUrl,
     /// `handle`: the words in lower case, with hyphens between them.
@@ -60,12 +56,6 @@ pub enum ShopifyKind {
     MoneyWithoutCurrency,
     /// `money_without_trailing_zeros`: an amount, without `.00` at its end.
     MoneyWithoutTrailingZeros,
-    /// `paragraph`: a paragraph.
-    Paragraph,
-    /// `prettyprint`: what stands between stars, in bold.
-    Prettyprint,
-    /// `price`: whole dollars.
-    Price,
     /// `product_img_url`: the address of a product's image in a size.
     ProductImgUrl,
     /// `reject`: the maps of a list without a property.
@@ -99,15 +89,13 @@ pub enum ShopifyKind {
 }
 
 /// All filters of this set, in the order of their names.
-pub const SHOPIFY_FILTERS: [ShopifyKind; 45] = [
+pub const SHOPIFY_FILTERS: [ShopifyKind; 40] = [
     ShopifyKind::AssetUrl,
     ShopifyKind::Base64Decode,
     ShopifyKind::Base64Encode,
     ShopifyKind::Camelize,
-    ShopifyKind::Count,
     ShopifyKind::Find,
     ShopifyKind::FindIndex,
-    ShopifyKind::FormatAsMoney,
     ShopifyKind::GlobalAssetUrl,
     ShopifyKind::Handle,
     ShopifyKind::Handleize,
@@ -127,9 +115,6 @@ pub const SHOPIFY_FILTERS: [ShopifyKind; 45] = [
     ShopifyKind::MoneyWithCurrency,
     ShopifyKind::MoneyWithoutCurrency,
     ShopifyKind::MoneyWithoutTrailingZeros,
-    ShopifyKind::Paragraph,
-    ShopifyKind::Prettyprint,
-    ShopifyKind::Price,
     ShopifyKind::ProductImgUrl,
     ShopifyKind::Reject,
     ShopifyKind::RemoveLast,
@@ -157,10 +142,8 @@ impl ShopifyKind {
             ShopifyKind::Base64Decode => "base64_decode",
             ShopifyKind::Base64Encode => "base64_encode",
             ShopifyKind::Camelize => "camelize",
-            ShopifyKind::Count => "count",
             ShopifyKind::Find => "find",
             ShopifyKind::FindIndex => "find_index",
-            ShopifyKind::FormatAsMoney => "format_as_money",
             ShopifyKind::GlobalAssetUrl => "global_asset_url",
             ShopifyKind::Handle => "handle",
             ShopifyKind::Handleize => "handleize",
@@ -180,9 +163,6 @@ impl ShopifyKind {
             ShopifyKind::MoneyWithCurrency => "money_with_currency",
             ShopifyKind::MoneyWithoutCurrency => "money_without_currency",
             ShopifyKind::MoneyWithoutTrailingZeros => "money_without_trailing_zeros",
-            ShopifyKind::Paragraph => "paragraph",
-            ShopifyKind::Prettyprint => "prettyprint",
-            ShopifyKind::Price => "price",
             ShopifyKind::ProductImgUrl => "product_img_url",
             ShopifyKind::Reject => "reject",
             ShopifyKind::RemoveLast => "remove_last",

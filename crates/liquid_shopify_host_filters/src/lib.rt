@@ -4,11 +4,9 @@
 mod amount;
 mod argument;
 mod codec;
-mod examples;
 mod filter;
 mod html;
 mod images;
-mod json_text;
 mod kind;
 pub mod laws;
 mod lists;

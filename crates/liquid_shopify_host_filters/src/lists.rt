@@ -9,9 +9,8 @@ ghost use Rattle.liquid_shopify_host_filters.specs.Lookups.{is_lookup_match, map
 ghost use Rattle.liquid_shopify_host_filters.specs.Lookups.{reject_answer};
 ghost use Rattle.liquid_shopify_host_filters.specs.Lookups.{rejected, target_of, place_of_wanted};
 
-use liquid_filter_base::text_of;
-use liquid_list_filters::{all_maps, sequence};
-use liquid_model::{Result, Value, look_up};
+use liquid_filters::{all_maps, sequence};
+use liquid_model::{Result, Value, look_up, text_of};
 use std::alloc::Global;
 
 /// `reject`: the maps of a list whose property isn't there or isn't truthy, or is another than the

@@ -9,8 +9,7 @@ ghost use Rattle.liquid_shopify_host_filters.specs.Money.{trimmed_answer};
 ghost use Rattle.liquid_shopify_host_filters.specs.Styles.{point, style_named, thousands};
 
 use crate::amount::{amount, whole_amount};
-use liquid_filter_base::invalid_input;
-use liquid_model::{Result, Value};
+use liquid_model::{Result, Value, invalid_input};
 use std::alloc::Global;
 
 /// How an amount is written, by the name of the placeholder that stands for it in a shop's

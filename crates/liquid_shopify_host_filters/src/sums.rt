@@ -5,12 +5,12 @@ ghost use Rattle.liquid_model.specs.Lists.{list_of};
 ghost use Rattle.liquid_model.specs.View.{view, items_view};
 ghost use Rattle.liquid_shopify_host_filters.specs.Sums.{sum_with_term, sum_answer, summand};
 ghost use Rattle.liquid_shopify_host_filters.specs.Sums.{summand_of};
-ghost use Rattle.liquid_shopify_host_filters.specs.Sums.{term, total};
+ghost use Rattle.liquid_shopify_host_filters.specs.Sums.{total};
+ghost use Rattle.liquid_decimals.specs.Sums.{term};
 
 use crate::lists::property;
-use liquid_filter_base::{invalid_input, text_of};
-use liquid_list_filters::sequence;
-use liquid_model::{Error, ErrorKind, Result, Value};
+use liquid_filters::sequence;
+use liquid_model::{Error, ErrorKind, Result, Value, invalid_input, text_of};
 use std::alloc::Global;
 
 /// `sum`: the sum of a list's whole numbers, or of those that its maps have under the argument.

@@ -12,8 +12,7 @@ ghost use Rattle.liquid_shopify_host_filters.specs.Tags.{within_handle};
 use crate::argument::text_or;
 use crate::lists::property;
 use crate::shop::Shop;
-use liquid_filter_base::text_of;
-use liquid_model::{Result, Value};
+use liquid_model::{Result, Value, text_of};
 use std::alloc::Global;
 
 /// `link_to_tag`: the input's text as a link to the products of the argument's tag.

@@ -6,8 +6,7 @@ ghost use Rattle.liquid_shopify_host_filters.specs.Last.{remove_last_answer, rep
 ghost use Rattle.liquid_shopify_host_filters.specs.Last.{replaced_last};
 
 use crate::argument::text_or;
-use liquid_filter_base::text_of;
-use liquid_model::{Result, Value};
+use liquid_model::{Result, Value, text_of};
 use std::alloc::Global;
 
 /// `replace_last`: the input's text with the last occurrence of the first argument's text replaced

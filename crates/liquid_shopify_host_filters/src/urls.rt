@@ -6,8 +6,7 @@ ghost use Rattle.liquid_shopify_host_filters.specs.Urls.{collection_url, prefixe
 ghost use Rattle.liquid_shopify_host_filters.specs.Urls.{url_for_answer};
 
 use crate::words::{Wording, worded};
-use liquid_filter_base::text_of;
-use liquid_model::{Result, Value};
+use liquid_model::{Result, Value, text_of};
 use std::alloc::Global;
 
 /// `asset_url`, `global_asset_url` and `shopify_asset_url`: the input's text with the prefix of its

@@ -5,8 +5,7 @@ ghost use Rattle.liquid_model.specs.View.{view};
 ghost use Rattle.liquid_shopify_host_filters.specs.Weights.{thousandths, weight, weight_answer};
 
 use itoa::Buffer;
-use liquid_filter_base::invalid_input;
-use liquid_model::{Result, Value};
+use liquid_model::{Result, Value, invalid_input};
 use std::alloc::Global;
 
 /// `weight_with_unit`: a weight of whole grams in kilograms. `InvalidInput` where the input has no

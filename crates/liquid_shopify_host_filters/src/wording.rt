@@ -6,8 +6,7 @@ ghost use Rattle.liquid_shopify_host_filters.specs.Wordings.{camelize_answer, ha
 ghost use Rattle.liquid_shopify_host_filters.specs.Wordings.{squish_answer};
 
 use crate::words::{Wording, worded};
-use liquid_filter_base::text_of;
-use liquid_model::{Result, Value};
+use liquid_model::{Result, Value, text_of};
 use std::alloc::Global;
 
 /// `handle` and `handleize`: the words of the input's text in lower case, with a hyphen between

@@ -12,7 +12,7 @@ use Rattle.liquid_evaluation.specs.Tree.{Nodes}
 use Rattle.liquid_language.specs.Entries.{put_entry, without}
 use Rattle.liquid_syntax.proofs.Held.{apart}
 use Rattle.liquid_model.proofs.Maps.{same_text_equal}
-use Rattle.liquid_engine.specs.Pages.{Shown, page_over}
+use Rattle.liquid_engine.specs.Pages.{Shown, page_by}
 use Rattle.liquid_site.specs.Contents.{Trees, Contents, page_of, all_pages, pages_from_scratch, mentions}
 use Rattle.liquid_core.specs.DataChanges.{with_value}
 use Rattle.liquid_site.specs.Steps.{Step, set_page, remove_page, set_partial, remove_partial, set_value, remove_value, set_data, no_contents, stepped, refreshed, KeptIsFromScratch, all_stepped, all_kept, PagesKept}
@@ -74,18 +74,18 @@ pub kept_from_scratch : KeptIsFromScratch
 kept_from_scratch (set_page name t) c = put_shown (page_of c) name t c.pages
 kept_from_scratch (remove_page name) c = without_shown (page_of c) name c.pages
 kept_from_scratch (set_partial name t) c = refreshed_all _ _ (page_of c) (λ n h. absurd (apart h)) c.pages
-kept_from_scratch (remove_partial name) c = refreshed_all _ _ (page_of c) (λ n h. ap (λ ps. page_over c.depth ps c.«data» n) (without_absent name c.partials h)) c.pages
+kept_from_scratch (remove_partial name) c = refreshed_all _ _ (page_of c) (λ n h. ap (λ ps. page_by c.setting ps c.«data» n) (without_absent name c.partials h)) c.pages
 kept_from_scratch (set_value name d) c = refreshed_all _ _ (page_of c) (λ n h. untouched c name (Some d) n h) c.pages
 kept_from_scratch (set_data new) c = refreshed_all _ _ (page_of c) (untouched_by_data c new) c.pages
 kept_from_scratch (remove_value name) c = refreshed_all _ _ (page_of c) (λ n h. on n (is_some (c.«data» name)) refl h) c.pages
   where
-    on : (n : Nodes) (b : Bool) → is_some (c.«data» name) ≡ b → cond b (mentions c.partials name n) false ≡ false → page_over c.depth c.partials (with_value c.«data» name None) n ≡ page_of c n
+    on : (n : Nodes) (b : Bool) → is_some (c.«data» name) ≡ b → cond b (mentions c.partials name n) false ≡ false → page_by c.setting c.partials (with_value c.«data» name None) n ≡ page_of c n
     on n true e h = untouched c name None n h
-    on n false e h = ap (λ m. page_over c.depth c.partials m n) (absent_value c.«data» name e)
+    on n false e h = ap (λ m. page_by c.setting c.partials m n) (absent_value c.«data» name e)
 
 all_from_scratch : (steps : List Step) (c : Contents) → all_kept steps c (pages_from_scratch c) ≡ pages_from_scratch (all_stepped steps c)
 all_from_scratch [] c = refl
 all_from_scratch (s ∷ ss) c = ap (all_kept ss (stepped s c)) (kept_from_scratch s c) ∙ all_from_scratch ss (stepped s c)
 
 pub pages_kept : PagesKept
-pages_kept depth steps = all_from_scratch steps (no_contents depth)
+pages_kept setting steps = all_from_scratch steps (no_contents setting)

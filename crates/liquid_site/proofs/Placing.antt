@@ -14,7 +14,7 @@ use Rattle.liquid_syntax.specs.Templates.{tree_of}
 use Rattle.liquid_syntax.specs.declared.template.Template.{Template}
 use Rattle.liquid_syntax.proofs.Held.{AllAbove, Ascend, apart, below_other, names}
 use Rattle.liquid_syntax.specs.inside.NameVisitors.{any_both, or_false}
-use Rattle.liquid_engine.specs.Pages.{Shown, page_over}
+use Rattle.liquid_engine.specs.Pages.{Shown, page_by}
 use Rattle.liquid_site.specs.Contents.{Trees, Contents, Pages, page_of, all_pages, pages_from_scratch, mentions_any}
 use Rattle.liquid_site.specs.inside.Fresh.{selects, selected, all_placed}
 use Rattle.liquid_site.specs.declared.selection.Selection.TheVariants.{All}
@@ -73,8 +73,8 @@ names_shown show (p ∷ ts) = ap (λ l. p.0 ∷ l) (names_shown show ts)
 -- ---- what a change of the partials renders again
 
 pub exchanged_pages : (c : Contents) (partials : Trees) → Ascend c.pages
-    → (let show = page_over c.depth partials c.«data» in all_placed (all_pages show (selected (selects All) c.pages)) (pages_from_scratch c) ≡ all_pages show c.pages)
-exchanged_pages c partials h = placed_from_scratch (selects All) (page_over c.depth partials c.«data») (page_of c) c.pages h (λ n k. absurd (apart k))
+    → (let show = page_by c.setting partials c.«data» in all_placed (all_pages show (selected (selects All) c.pages)) (pages_from_scratch c) ≡ all_pages show c.pages)
+exchanged_pages c partials h = placed_from_scratch (selects All) (page_by c.setting partials c.«data») (page_of c) c.pages h (λ n k. absurd (apart k))
 
 -- ---- a step of the rendering
 

@@ -8,13 +8,15 @@ use Rattle.liquid_model.specs.Maps.{Map}
 use Rattle.liquid_model.specs.Order.{same}
 use Rattle.liquid_model.specs.OrderLaws.{same_Decides}
 use Rattle.liquid_core.specs.Environment.{Names, cut_map}
+use Rattle.liquid_core.specs.declared.missing_value.Missing.{Missing}
 use Rattle.liquid_evaluation.specs.Tree.{Nodes}
 use Rattle.liquid_evaluation.specs.Names.{run_names, mentioned}
 use Rattle.liquid_meaning.specs.Isolation.{Agree}
 use Rattle.liquid_meaning.proofs.Maps.{AgreeAt, same_cut}
 use Rattle.liquid_model.proofs.Maps.{same_text_equal}
 use Rattle.liquid_meaning.proofs.Changes.{agreeing_runs}
-use Rattle.liquid_engine.specs.Pages.{fault_of, new_run_environment, setting_over, page_over}
+use Rattle.liquid_engine.specs.Pages.{fault_of, page_by, page_in, run_environment, setting_over}
+use Rattle.liquid_engine.specs.declared.run_setting.RunSetting.{RunSetting}
 use Rattle.liquid_syntax.proofs.Held.{apart}
 use Rattle.liquid_site.specs.Contents.{Trees, Contents, page_of, mentions_any}
 use Rattle.liquid_core.specs.DataChanges.{with_value}
@@ -31,25 +33,26 @@ agree_other N m name d out q inside = at (same_text name q) (same_text_equal nam
     at true e = absurd (clash (subst (λ y. N y ≡ false) (e tt) out) inside)
     at false e = refl
 
-agree_fresh : (N : Names) (own other : Map Datum) → cut_map N own ≡ cut_map N other → Agree N (new_run_environment own) (new_run_environment other)
-agree_fresh N own other h = λ i. record {
-  local = cut_map N (new_run_environment own).local;
-  assigned = cut_map N (new_run_environment own).assigned;
-  counters = cut_map N (new_run_environment own).counters;
+agree_fresh : (missing : Missing) (N : Names) (own other : Map Datum) → cut_map N own ≡ cut_map N other → Agree N (run_environment missing own) (run_environment missing other)
+agree_fresh missing N own other h = λ i. record {
+  local = cut_map N (run_environment missing own).local;
+  assigned = cut_map N (run_environment missing own).assigned;
+  counters = cut_map N (run_environment missing own).counters;
   globals = h i;
-  registers = (new_run_environment own).registers;
+  registers = (run_environment missing own).registers;
+  missing = missing;
 }
 
-same_page : (depth : ℕ) (partials : Trees) (own other : Map Datum) (nodes : Nodes) → Agree (mentioned (run_names partials nodes)) (new_run_environment own) (new_run_environment other) → page_over depth partials own nodes ≡ page_over depth partials other nodes
-unfolding page_over
-same_page depth partials own other nodes h =
-    let r = agreeing_runs (setting_over partials) depth nodes (new_run_environment own) (new_run_environment other) h in
+same_page : (setting : RunSetting) (partials : Trees) (own other : Map Datum) (nodes : Nodes) → Agree (mentioned (run_names partials nodes)) (run_environment setting.missing own) (run_environment setting.missing other) → page_by setting partials own nodes ≡ page_by setting partials other nodes
+unfolding page_in
+same_page setting partials own other nodes h =
+    let r = agreeing_runs (setting_over partials) setting.depth nodes (run_environment setting.missing own) (run_environment setting.missing other) h in
     λ i. record { text = r.text i; fault = fault_of (r.end i) }
 
 pub untouched : UntouchedPages
 untouched c name d nodes out =
     let N = mentioned (run_names c.partials nodes) in
-    same_page c.depth c.partials (with_value c.«data» name d) c.«data» nodes (agree_fresh N _ _ (same_cut N _ _ (agree_other N c.«data» name d out)))
+    same_page c.setting c.partials (with_value c.«data» name d) c.«data» nodes (agree_fresh c.setting.missing N _ _ (same_cut N _ _ (agree_other N c.«data» name d out)))
 
 -- ---- other data
 
@@ -80,7 +83,7 @@ agree_data names old new out q inside = same_value (old q) (new q) (none_passes 
     on true k = refl
     on false k = absurd k
 
-pub untouched_by_data : (c : Contents) (new : Map Datum) (nodes : Nodes) → mentions_any c.partials (differs c.«data» new) nodes ≡ false → page_over c.depth c.partials new nodes ≡ page_of c nodes
+pub untouched_by_data : (c : Contents) (new : Map Datum) (nodes : Nodes) → mentions_any c.partials (differs c.«data» new) nodes ≡ false → page_by c.setting c.partials new nodes ≡ page_of c nodes
 untouched_by_data c new nodes out =
     let N = mentioned (run_names c.partials nodes) in
-    same_page c.depth c.partials new c.«data» nodes (agree_fresh N _ _ (same_cut N _ _ (agree_data (run_names c.partials nodes) c.«data» new out)))
+    same_page c.setting c.partials new c.«data» nodes (agree_fresh c.setting.missing N _ _ (same_cut N _ _ (agree_data (run_names c.partials nodes) c.«data» new out)))

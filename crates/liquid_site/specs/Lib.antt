@@ -4,8 +4,13 @@ pub mod Faults
 pub mod LimitedViews
 pub mod PartViews
 pub mod Parts
+pub mod Paths
+pub mod Refusals
 pub mod ShownPages
 pub mod SiteViews
+pub mod Start
 pub mod Steps
+pub mod Taken
 pub mod Within
+pub mod Written
 pub mod inside

@@ -1,6 +1,6 @@
 -- What a site holds, whatever the form in which it keeps its pages.
 use Rattle.std.specs.Prelude.{ℕ}
-use Rattle.liquid_language.specs.declared.language.Language.{Language}
+use Rattle.liquid_language.specs.declared.registry.Language.{Language}
 use Rattle.liquid_site.specs.Contents.{Contents}
 use Rattle.liquid_site.specs.Parts.{contents_in}
 use Rattle.liquid_site.specs.declared.parts.SiteParts.{SiteParts}
@@ -14,6 +14,6 @@ pub record SiteView : Type 0 where
 abbrev pub site_parts_view : {P : Type 0} → SiteParts P → SiteView
 site_parts_view s = record {
   language = s.language;
-  contents = contents_in s.depth s.templates s.partials s.«data»;
+  contents = contents_in s.setting s.templates s.partials s.«data»;
   rendered = s.rendered;
 }

@@ -1,5 +1,5 @@
 -- The parts of a site, as contracts see them.
-use Rattle.std.specs.Prelude.{ℕ, List, map, String, string_bytes}
+use Rattle.std.specs.Prelude.{List, map, String, string_bytes}
 use Rattle.std.specs.BTreeMap.{BTreeMap}
 use Rattle.std.specs.declared.alloc.Global.{Global}
 use Rattle.liquid_model.specs.Texts.{Text}
@@ -11,6 +11,7 @@ use Rattle.liquid_syntax.specs.declared.partials.Partials.{Partials}
 use Rattle.liquid_syntax.specs.declared.template.Template.{Template}
 use Rattle.liquid_engine.specs.Pages.{page_view}
 use Rattle.liquid_engine.specs.declared.rendered_page.Page.{Page}
+use Rattle.liquid_engine.specs.declared.run_setting.RunSetting.{RunSetting}
 use Rattle.liquid_site.specs.Contents.{Trees, Contents, Pages}
 
 abbrev pub pages_in : BTreeMap (String Global) Page → Pages
@@ -23,10 +24,10 @@ by_name pages = seen (λ p. p) pages.entries
 abbrev pub trees_in : BTreeMap (String Global) Template → Trees
 trees_in templates = seen tree_of templates.entries
 
-abbrev pub contents_in : ℕ → BTreeMap (String Global) Template → Partials →
+abbrev pub contents_in : RunSetting → BTreeMap (String Global) Template → Partials →
     BTreeMap (String Global) Value → Contents
-contents_in depth templates partials «data» = record {
-  depth = depth;
+contents_in setting templates partials «data» = record {
+  setting = setting;
   pages = trees_in templates;
   partials = partials_of partials;
   «data» = held «data»;

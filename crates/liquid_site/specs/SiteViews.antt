@@ -1,6 +1,6 @@
 -- What a site holds.
 use Rattle.std.specs.Prelude.{ℕ}
-use Rattle.liquid_language.specs.declared.language.Language.{Language}
+use Rattle.liquid_language.specs.declared.registry.Language.{Language}
 use Rattle.liquid_site.specs.Contents.{Contents}
 use Rattle.liquid_site.specs.PartViews.{SiteView, site_parts_view}
 use Rattle.liquid_site.specs.declared.site.Site.{Site}

@@ -13,7 +13,8 @@ use Rattle.liquid_core.specs.DataChanges.{with_value}
 use Rattle.liquid_core.specs.Environment.{Names}
 use Rattle.liquid_evaluation.specs.Tree.{Nodes}
 use Rattle.liquid_language.specs.Entries.{put_entry, without}
-use Rattle.liquid_engine.specs.Pages.{Shown, page_over}
+use Rattle.liquid_engine.specs.Pages.{Shown, page_by}
+use Rattle.liquid_engine.specs.declared.run_setting.RunSetting.{RunSetting}
 use Rattle.liquid_site.specs.Contents.{Trees, Contents, page_of, Pages, pages_from_scratch}
 use Rattle.liquid_site.specs.Contents.{mentions, mentions_any}
 
@@ -37,8 +38,8 @@ abbrev pub differs : Map Datum → Map Datum → Names
 differs old new name = not (is_same (old name) (new name))
 
 -- the contents of a new site
-abbrev pub no_contents : ℕ → Contents
-no_contents depth = record { depth = depth; pages = []; partials = []; «data» = empty }
+abbrev pub no_contents : RunSetting → Contents
+no_contents setting = record { setting = setting; pages = []; partials = []; «data» = empty }
 
 -- a set replaces, and a removal of what isn't there changes nothing
 abbrev pub stepped : Step → Contents → Contents
@@ -104,7 +105,7 @@ kept_by (set_data new) c pages = refreshed (mentions_any c.partials (differs c.�
 abbrev pub UntouchedPages : Type 0
 UntouchedPages = (contents : Contents) (name : Text) (d : Option Datum) (nodes : Nodes) →
     mentions contents.partials name nodes ≡ false
-    → page_over contents.depth contents.partials (with_value contents.«data» name d) nodes ≡
+    → page_by contents.setting contents.partials (with_value contents.«data» name d) nodes ≡
     page_of contents nodes
 
 -- rendering again what a step touches gives what rendering all from scratch gives
@@ -124,5 +125,5 @@ all_kept (s ∷ ss) c pages = all_kept ss (stepped s c) (kept_by s c pages)
 
 -- after any list of steps the pages are those that rendering the contents from scratch gives
 abbrev pub PagesKept : Type 0
-PagesKept = (depth : ℕ) (steps : List Step) → all_kept steps (no_contents depth) [] ≡
-    pages_from_scratch (all_stepped steps (no_contents depth))
+PagesKept = (setting : RunSetting) (steps : List Step) → all_kept steps (no_contents setting) [] ≡
+    pages_from_scratch (all_stepped steps (no_contents setting))

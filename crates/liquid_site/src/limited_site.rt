@@ -9,7 +9,7 @@ ghost use Rattle.liquid_site.specs.Within.{AreWithin-prop};
 use crate::change::Change;
 use crate::parts::SiteParts;
 use liquid_core::{Object, Result};
-use liquid_engine::{LimitedPage, Limits};
+use liquid_engine::{LimitedPage, Limits, RunSetting};
 use liquid_language::Language;
 use std::alloc::Global;
 use std::collections::BTreeMap;
@@ -42,37 +42,40 @@ impl LimitedSite {
     ghost use Rattle.liquid_core.specs.Held.{held};
     ghost use Rattle.liquid_site.specs.Applied.{AppliesTo};
     ghost use Rattle.liquid_site.specs.LimitedViews.{limited_view, limits_of};
+    ghost use Rattle.liquid_engine.specs.Pages.{strict_setting};
     ghost use Rattle.liquid_site.specs.Steps.{no_contents};
 
-    /// A site without pages, partials and data, with this limit on nested partials. It takes no
-    /// memory.
+    /// A site without pages, partials and data, with this limit on nested partials, in which a
+    /// missing value is a fault. It takes no memory.
     pub fn new(alloc: Global, language: Language, depth: u32, limits: Limits) -> LimitedSite
-        ensures contents { (limited_view result).contents ≡ no_contents depth }
+        ensures contents { (limited_view result).contents
+            ≡ no_contents (strict_setting depth) }
         ensures language { (limited_view result).language ≡ language }
         ensures rendered { (limited_view result).rendered ≡ 0 }
         ensures limits { limits_of result ≡ limits }
     {
-        LimitedSite::with_data(alloc, language, depth, Object::new(alloc), limits)
+        let setting = RunSetting::strict(depth);
+        LimitedSite::with_data(alloc, language, setting, Object::new(alloc), limits)
     }
 
-    /// A site over this data, without pages and partials, with this limit on nested partials. It
-    /// takes no memory.
+    /// A site over this data, without pages and partials, whose runs go as the setting says for as
+    /// long as there is the site. It takes no memory.
     pub fn with_data(
         alloc: Global,
         language: Language,
-        depth: u32,
+        setting: RunSetting,
         data: Object,
         limits: Limits,
     ) -> LimitedSite
         ensures contents { (limited_view result).contents ≡
-            record (no_contents depth) { «data» = held «data» } }
+            record (no_contents setting) { «data» = held «data» } }
         ensures language { (limited_view result).language ≡ language }
         ensures rendered { (limited_view result).rendered ≡ 0 }
         ensures limits { limits_of result ≡ limits }
     {
         LimitedSite {
             limits,
-            parts: SiteParts::with_data(alloc, language, depth, data),
+            parts: SiteParts::with_data(alloc, language, setting, data),
         }
     }
 

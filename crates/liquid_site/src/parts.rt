@@ -7,6 +7,7 @@ use crate::refresh::{RenderContext, put_page, rendered_pages, replace_pages};
 use crate::rendering::Rendering;
 use crate::selection::Selection;
 use liquid_core::{Object, Result, Value};
+use liquid_engine::RunSetting;
 use liquid_language::Language;
 use liquid_parser::parse_with_source;
 use liquid_syntax::{Partials, Template};
@@ -17,7 +18,7 @@ use std::collections::BTreeMap;
 pub(crate) struct SiteParts<P> {
     pub alloc: Global,
     pub language: Language,
-    pub depth: u32,
+    pub setting: RunSetting,
     pub templates: BTreeMap<String, Template>,
     pub partials: Partials,
     pub data: Object,
@@ -32,7 +33,7 @@ impl<P: Drop> Drop for SiteParts<P> {
         let SiteParts {
             alloc: _,
             language: _,
-            depth: _,
+            setting: _,
             templates: _,
             partials: _,
             data: _,
@@ -54,7 +55,7 @@ impl<P: Drop> SiteParts<P> {
     ghost use Rattle.liquid_syntax.specs.Slots.{exchanged};
     ghost use Rattle.liquid_syntax.specs.Templates.{tree_of, slots_of};
     ghost use Rattle.liquid_evaluation.specs.Tree.{Nodes};
-    ghost use Rattle.liquid_engine.specs.Pages.{page_over};
+    ghost use Rattle.liquid_engine.specs.Pages.{page_by};
     ghost use Rattle.liquid_site.specs.Applied.{AppliesTo};
     ghost use Rattle.liquid_site.specs.PartViews.{site_parts_view};
     ghost use Rattle.liquid_site.specs.Contents.{page_of};
@@ -66,10 +67,15 @@ impl<P: Drop> SiteParts<P> {
     ghost use Rattle.liquid_site.specs.inside.Keeping.{KeepsPages};
 
     /// The parts of a site over this data, without pages and partials. It takes no memory.
-    pub(crate) fn with_data(alloc: Global, language: Language, depth: u32, data: Object) -> Self
+    pub(crate) fn with_data(
+        alloc: Global,
+        language: Language,
+        setting: RunSetting,
+        data: Object,
+    ) -> Self
         ensures parts { site_parts_view result ≡ record {
           language = language;
-          contents = record (no_contents depth) { «data» = held «data» };
+          contents = record (no_contents setting) { «data» = held «data» };
           rendered = 0;
         } }
         ensures pages { result.pages.entries ≡ [] }
@@ -77,7 +83,7 @@ impl<P: Drop> SiteParts<P> {
         SiteParts {
             alloc,
             language,
-            depth,
+            setting,
             templates: BTreeMap::new(alloc),
             partials: Partials::new(alloc),
             data,
@@ -158,7 +164,7 @@ impl<P: Drop> SiteParts<P> {
             self.alloc,
             &template,
             &self.partials,
-            self.depth,
+            self.setting,
             &self.data,
         )?;
         put_page(
@@ -216,7 +222,7 @@ impl<P: Drop> SiteParts<P> {
         let context = RenderContext {
             rendering,
             partials: &self.partials,
-            depth: self.depth,
+            setting: self.setting,
             data: &self.data,
         };
         let rendered = rendered_pages(self.alloc, &self.templates, &context, Selection::All);
@@ -297,7 +303,7 @@ impl<P: Drop> SiteParts<P> {
         selection: Selection<'_>,
     ) -> Result<()>
         requires untouched { (nodes : Nodes) → selects selection nodes ≡ false →
-            page_over (site_parts_view self.old).contents.depth
+            page_by (site_parts_view self.old).contents.setting
             (site_parts_view self.old).contents.partials
             (held «data») nodes ≡ page_of (site_parts_view self.old).contents nodes }
         requires shown { KeepsPages R.shows self.old }
@@ -318,7 +324,7 @@ impl<P: Drop> SiteParts<P> {
         let context = RenderContext {
             rendering,
             partials: &self.partials,
-            depth: self.depth,
+            setting: self.setting,
             data: &data,
         };
         let fresh = rendered_pages(self.alloc, &self.templates, &context, selection)?;

@@ -6,7 +6,7 @@ ghost use Rattle.std.specs.String.{string_cmp};
 ghost use Rattle.liquid_core.specs.Held.{held};
 ghost use Rattle.liquid_language.specs.Entries.{put_entry, placed};
 ghost use Rattle.liquid_syntax.specs.Templates.{tree_of, partials_of};
-ghost use Rattle.liquid_engine.specs.Pages.{page_over};
+ghost use Rattle.liquid_engine.specs.Pages.{page_by};
 ghost use Rattle.liquid_site.specs.Contents.{all_pages};
 ghost use Rattle.liquid_site.specs.inside.Fresh.{selects, selected, all_placed, listed_pages};
 ghost use Rattle.liquid_site.specs.Parts.{by_name, trees_in};
@@ -15,17 +15,17 @@ ghost use Rattle.liquid_site.specs.ShownPages.{AreShown};
 use crate::rendering::Rendering;
 use crate::selection::Selection;
 use liquid_core::{Error, ErrorKind, Object, Result};
+use liquid_engine::RunSetting;
 use liquid_syntax::{Partials, Template};
 use std::alloc::{AllocError, Global};
 use std::collections::BTreeMap;
 
-/// How pages are rendered, and over what: the partials, how many of them may be nested, and the
-/// data.
+/// How pages are rendered, and over what: the partials, how a run over them goes, and the data.
 #[derive(Drop)]
 pub(crate) struct RenderContext<'g, R> {
     pub rendering: &'g R,
     pub partials: &'g Partials,
-    pub depth: u32,
+    pub setting: RunSetting,
     pub data: &'g Object,
 }
 
@@ -38,7 +38,7 @@ pub(crate) fn rendered_pages<P: Drop, R: Rendering<P>>(
     selection: Selection<'_>,
 ) -> Result<Vec<(String, P)>>
     ensures pages { IfOk result (λ v. AreShown R.shows
-        (all_pages (page_over context.now.depth (partials_of context.now.partials.now)
+        (all_pages (page_by context.now.setting (partials_of context.now.partials.now)
         (held context.now.«data».now))
         (selected (selects selection.entry) (trees_in templates.now)))
         (listed_pages v.items)) }
@@ -63,7 +63,7 @@ fn rendered_page<P: Drop, R: Rendering<P>>(
     context: &RenderContext<'_, R>,
 ) -> Result<(String, P)>
     ensures name { IfOk result (λ p. string_bytes p.0 ≡ name.now) }
-    ensures page { IfOk result (λ p. R.shows (page_over context.now.depth
+    ensures page { IfOk result (λ p. R.shows (page_by context.now.setting
         (partials_of context.now.partials.now) (held context.now.«data».now)
         (tree_of template.now)) p.1) }
     ensures memory { IfErr result (λ e. e.kind ≡ ErrorKind.Memory) }
@@ -73,7 +73,7 @@ fn rendered_page<P: Drop, R: Rendering<P>>(
         alloc,
         template,
         context.partials,
-        context.depth,
+        context.setting,
         context.data,
     )?;
     Ok((own, page))

@@ -3,11 +3,13 @@ ghost use Rattle.std.specs.Prelude.{◌≡◌, IfOk, IfErr};
 ghost use Rattle.liquid_core.specs.Held.{held};
 ghost use Rattle.liquid_syntax.specs.Templates.{tree_of, partials_of};
 ghost use Rattle.liquid_engine.specs.LimitedPages.{PageWithin};
-ghost use Rattle.liquid_engine.specs.Pages.{Shown, page_over};
+ghost use Rattle.liquid_engine.specs.Pages.{Shown, page_by};
 ghost use Rattle.liquid_site.specs.ShownPages.{IsWhole};
 
 use liquid_core::{ErrorKind, Object, Result};
-use liquid_engine::{LimitedPage, Limits, Page, render_page, render_page_within};
+use liquid_engine::{
+    LimitedPage, Limits, Page, RunSetting, Surroundings, render_page_by, render_page_within,
+};
 use liquid_syntax::{Partials, Template};
 use std::alloc::Global;
 
@@ -23,10 +25,10 @@ pub(crate) trait Rendering<P> {
         alloc: Global,
         template: &Template,
         partials: &Partials,
-        depth: u32,
+        setting: RunSetting,
         data: &Object,
     ) -> Result<P>
-        ensures page { IfOk result (λ page. shows (page_over depth (partials_of partials.now)
+        ensures page { IfOk result (λ page. shows (page_by setting (partials_of partials.now)
             (held «data».now) (tree_of template.now)) page) }
         ensures memory { IfErr result (λ e. e.kind ≡ ErrorKind.Memory) };
 }
@@ -42,10 +44,10 @@ impl Rendering<Page> for WholePages {
         alloc: Global,
         template: &Template,
         partials: &Partials,
-        depth: u32,
+        setting: RunSetting,
         data: &Object,
     ) -> Result<Page> {
-        render_page(alloc, template, partials, depth, data)
+        render_page_by(alloc, template, partials, setting, data)
     }
 }
 
@@ -57,9 +59,15 @@ impl Rendering<LimitedPage> for Limits {
         alloc: Global,
         template: &Template,
         partials: &Partials,
-        depth: u32,
+        setting: RunSetting,
         data: &Object,
     ) -> Result<LimitedPage> {
-        render_page_within(alloc, template, partials, depth, data, *self)
+        let around = Surroundings {
+            partials,
+            depth: setting.depth,
+            missing: setting.missing,
+            limits: *self,
+        };
+        render_page_within(alloc, template, around, data)
     }
 }

@@ -9,7 +9,7 @@ use crate::change::Change;
 use crate::parts::SiteParts;
 use crate::rendering::WholePages;
 use liquid_core::{Object, Result};
-use liquid_engine::Page;
+use liquid_engine::{Page, RunSetting};
 use liquid_language::Language;
 use std::alloc::Global;
 use std::collections::BTreeMap;
@@ -37,28 +37,30 @@ impl Site {
     ghost use Rattle.liquid_core.specs.Held.{held};
     ghost use Rattle.liquid_site.specs.Applied.{Applies};
     ghost use Rattle.liquid_site.specs.SiteViews.{contents_of, language_of, rendered_count};
+    ghost use Rattle.liquid_engine.specs.Pages.{strict_setting};
     ghost use Rattle.liquid_site.specs.Steps.{no_contents};
 
-    /// A site without pages, partials and data, with this limit on nested partials. It takes no
-    /// memory.
+    /// A site without pages, partials and data, with this limit on nested partials, in which a
+    /// missing value is a fault. It takes no memory.
     pub fn new(alloc: Global, language: Language, depth: u32) -> Site
-        ensures contents { contents_of result ≡ no_contents depth }
+        ensures contents { contents_of result ≡ no_contents (strict_setting depth) }
         ensures language { language_of result ≡ language }
         ensures rendered { rendered_count result ≡ 0 }
     {
-        Site::with_data(alloc, language, depth, Object::new(alloc))
+        let setting = RunSetting::strict(depth);
+        Site::with_data(alloc, language, setting, Object::new(alloc))
     }
 
-    /// A site over this data, without pages and partials, with this limit on nested partials. It
-    /// takes no memory.
-    pub fn with_data(alloc: Global, language: Language, depth: u32, data: Object) -> Site
+    /// A site over this data, without pages and partials, whose runs go as the setting says for as
+    /// long as there is the site. It takes no memory.
+    pub fn with_data(alloc: Global, language: Language, setting: RunSetting, data: Object) -> Site
         ensures contents { contents_of result ≡
-            record (no_contents depth) { «data» = held «data» } }
+            record (no_contents setting) { «data» = held «data» } }
         ensures language { language_of result ≡ language }
         ensures rendered { rendered_count result ≡ 0 }
     {
         Site {
-            parts: SiteParts::with_data(alloc, language, depth, data),
+            parts: SiteParts::with_data(alloc, language, setting, data),
         }
     }
 

@@ -1,8 +1,11 @@
+pub mod CallView
+pub mod Called
 pub mod Flats
 pub mod Forest
 pub mod Laid
 pub mod NameSets
 pub mod Nested
+pub mod Reached
 pub mod Slots
 pub mod Templates
 pub mod inside

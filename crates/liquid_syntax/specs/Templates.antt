@@ -5,7 +5,9 @@
 use Rattle.std.specs.Prelude.{ℕ, List, [], ◌∷◌, max, Option, Some, None, option_map, String}
 use Rattle.std.specs.Prelude.{string_bytes}
 use Rattle.std.specs.declared.alloc.Global.{Global}
+use Rattle.liquid_model.specs.Maps.{listed}
 use Rattle.liquid_model.specs.Texts.{Text}
+use Rattle.liquid_model.specs.declared.error.ErrorKind.{ErrorKind}
 use Rattle.liquid_language.specs.Entries.{seen}
 use Rattle.liquid_syntax.specs.Slots.{filled}
 use Rattle.liquid_evaluation.specs.Counts.{count_of_nodes}
@@ -42,6 +44,10 @@ node_count_of t = count_of_nodes (tree_of t)
 
 abbrev pub slots_of : Partials → List (Text × Option tree.Nodes)
 slots_of p = seen (option_map tree_of) p.templates.entries
+
+-- the kind of the fault that is kept of a name, if one is: nothing else depends on it
+abbrev pub refused_kind : Partials → Text → Option ErrorKind
+refused_kind p name = listed (seen (λ e. e.kind) p.refused.entries) name
 
 abbrev pub partials_of : Partials → List (Text × tree.Nodes)
 partials_of p = filled (slots_of p)

@@ -2,7 +2,7 @@
 //! reported: the piece is read once more.
 use crate::positions::{Position, rest_from};
 use crate::when_place::from_when;
-use liquid_lexer::{Item, PlacedItem, Symbol, is_word, placed_piece};
+use liquid_lexer::{Item, PlacedItem, PlacedPiece, Style, Symbol, closer, is_word, placed_piece};
 use std::alloc::{AllocError, Global};
 
 /// Which item of an output or a tag a fault of a run is about.
@@ -55,15 +55,25 @@ fn from_found(alloc: Global, source: &str, item: PieceItem) -> Result<Option<&st
             let Some(when) = from_when(alloc, source, index)? else {
                 return Ok(None);
             };
-            let placed = placed_piece(alloc, when)?;
+            let placed = placed_piece(alloc, when, Style::Items)?;
             Ok(from_index(&placed.items, Some(value.saturating_mul(2))))
         }
         PieceItem::Last(index) => {
-            let placed = placed_piece(alloc, source)?;
+            let placed = placed(alloc, source)?;
             last_of_range(alloc, &placed.items, index)
         }
-        _ => Ok(from_item(&placed_piece(alloc, source)?.items, item)),
+        _ => Ok(from_item(&placed(alloc, source)?.items, item)),
     }
+}
+
+/// The items of the piece with which the source begins. Its language isn't known here: a tag that
+/// can't be read as items begins with a path.
+fn placed(alloc: Global, source: &str) -> Result<PlacedPiece<'_>, AllocError> {
+    let placed = placed_piece(alloc, source, Style::Items)?;
+    if closer(placed.rest, placed.kind).is_some() {
+        return Ok(placed);
+    }
+    placed_piece(alloc, source, Style::PathFirst)
 }
 
 /// The source from an item on, where the piece has it.
@@ -93,7 +103,7 @@ fn last_of_range<'s>(
         return Ok(None);
     };
     // what can't be read as an item follows the first value
-    let first = placed_piece(alloc, inside_of(range))?;
+    let first = placed_piece(alloc, inside_of(range), Style::Items)?;
     let rest = first.rest;
     match rest.strip_prefix("..") {
         Some(after) => Ok(Some(after.trim_start())),

@@ -10,23 +10,27 @@ ghost use Rattle.liquid_syntax.specs.NameSets.{mentioned_in_set};
 ghost use Rattle.liquid_syntax.specs.Slots.{reserved, exchanged};
 ghost use Rattle.liquid_syntax.specs.inside.Mentions.{held_names, partials_list_names};
 ghost use Rattle.liquid_syntax.specs.Templates.{most_of, node_count_of, tree_of, partials_of};
-ghost use Rattle.liquid_syntax.specs.Templates.{slots_of};
+ghost use Rattle.liquid_syntax.specs.Templates.{refused_kind, slots_of};
 ghost use Rattle.liquid_evaluation.specs.Names.{mentioned, partials_names};
 
 use crate::names::{Search, SearchAny};
 use crate::template::Template;
 use crate::visit_nodes::visit_nodes;
-use liquid_core::{ErrorKind, Result};
+use liquid_core::{Error, ErrorKind, Result};
 use liquid_evaluation::NameVisitor;
 use std::alloc::Global;
 use std::collections::{BTreeMap, BTreeSet};
 use std::mem;
 
 /// Templates by name. A name may also have a slot that holds no template: it is kept for one, and
-/// nothing else sees it.
+/// nothing else sees it. Of a name whose source is no template the fault may be kept, for a
+/// message: such a name has no template.
 #[derive(Drop)]
 pub struct Partials {
     templates: BTreeMap<String, Option<Template>>,
+    /// The faults of sources that are no templates. The meaning of a template doesn't depend on
+    /// them.
+    refused: BTreeMap<String, Error>,
 }
 
 impl Partials {
@@ -36,6 +40,7 @@ impl Partials {
     {
         Partials {
             templates: BTreeMap::new(alloc),
+            refused: BTreeMap::new(alloc),
         }
     }
 
@@ -103,6 +108,34 @@ impl Partials {
             Some(slot) => mem::replace(slot, held),
             None => None,
         }
+    }
+
+    /// Keeps the fault of a source that is no template, by the name that it has. The one of that
+    /// name before is dropped. Where there is no memory nothing changes.
+    pub fn refuse(&mut self, name: String, fault: Error) -> Result<()>
+        ensures same { partials_of self.new ≡ partials_of self.old }
+        ensures slots { slots_of self.new ≡ slots_of self.old }
+        ensures memory { IfErr result (λ e. e.kind ≡ ErrorKind.Memory) }
+        ensures kept { OnOk result (refused_kind self.new ≡
+            insert (refused_kind self.old) (string_bytes name) fault.kind) }
+        ensures unchanged { OnErr result (refused_kind self.new ≡ refused_kind self.old) }
+    {
+        drop(self.refused.insert(name, fault)?);
+        Ok(())
+    }
+
+    /// The fault that is kept of a name, if one is. It takes no memory.
+    pub fn refusal(&self, name: &str) -> Option<&Error>
+        ensures { option_map (λ e. e.now.kind) result ≡ refused_kind self.now name.now }
+    {
+        self.refused.get(name)
+    }
+
+    /// The faults that are kept, by the names of their sources.
+    pub fn refusals(&self) -> &BTreeMap<String, Error>
+        ensures { result.now ≡ self.now.refused }
+    {
+        &self.refused
     }
 
     /// The slots by name, each with its template or none.

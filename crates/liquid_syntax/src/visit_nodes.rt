@@ -74,7 +74,7 @@ fn visit_assign<V: NameVisitor>(name: &String, chain: &FilterChain, visitor: &mu
 }
 
 /// The names in the values of the `when` parts of a `case`.
-fn visit_arms<V: NameVisitor>(arms: &[Arm], visitor: &mut V) -> bool
+pub fn visit_arms<V: NameVisitor>(arms: &[Arm], visitor: &mut V) -> bool
     ensures { V.tells visitor.old (arms_names (arm_values arms.now)) result visitor.new }
 {
     for arm in arms {
@@ -104,7 +104,7 @@ fn visit_table_row<V: NameVisitor>(head: &TableRow, visitor: &mut V) -> bool
 }
 
 /// The names in the number of columns, and of the items that are asked for.
-fn visit_layout<V: NameVisitor>(head: &TableRow, visitor: &mut V) -> bool
+pub fn visit_layout<V: NameVisitor>(head: &TableRow, visitor: &mut V) -> bool
     ensures { V.tells visitor.old (optional_names (option_map expression_view head.now.cols) ++
         window_names (window_view head.now.window)) result visitor.new }
 {
@@ -149,7 +149,7 @@ fn visit_variable<V: NameVisitor>(
 
 /// The names of what says which items are asked for.
 #[tactic(auto, unfolding(liquid_evaluation::specs::Names::window_names))]
-fn visit_window<V: NameVisitor>(window: &WindowExpression, visitor: &mut V) -> bool
+pub fn visit_window<V: NameVisitor>(window: &WindowExpression, visitor: &mut V) -> bool
     ensures { V.tells visitor.old (window_names (window_view window.now)) result visitor.new }
 {
     visit_optional(&window.limit, visitor) || visit_optional(&window.offset, visitor)
@@ -172,7 +172,7 @@ fn visit_jekyll_pairs<V: NameVisitor>(pairs: &[Binding], visitor: &mut V) -> boo
 }
 
 /// The one name under which a jekyll `include` binds its pairs, if it has any.
-fn visit_include_name<V: NameVisitor>(pairs: &[Binding], visitor: &mut V) -> bool
+pub(crate) fn visit_include_name<V: NameVisitor>(pairs: &[Binding], visitor: &mut V) -> bool
     ensures { V.tells visitor.old (include_name (bindings_view pairs.now)) result visitor.new }
 {
     if pairs.is_empty() {
@@ -182,7 +182,7 @@ fn visit_include_name<V: NameVisitor>(pairs: &[Binding], visitor: &mut V) -> boo
 }
 
 /// The names that pairs bind.
-fn visit_targets<V: NameVisitor>(pairs: &[Binding], visitor: &mut V) -> bool
+pub(crate) fn visit_targets<V: NameVisitor>(pairs: &[Binding], visitor: &mut V) -> bool
     ensures { V.tells visitor.old (target_names (bindings_view pairs.now)) result visitor.new }
 {
     for pair in pairs {
@@ -194,7 +194,7 @@ fn visit_targets<V: NameVisitor>(pairs: &[Binding], visitor: &mut V) -> bool
 }
 
 /// The names in the values of pairs.
-fn visit_values<V: NameVisitor>(pairs: &[Binding], visitor: &mut V) -> bool
+pub fn visit_values<V: NameVisitor>(pairs: &[Binding], visitor: &mut V) -> bool
     ensures { V.tells visitor.old (bound_names (bindings_view pairs.now)) result visitor.new }
 {
     for pair in pairs {

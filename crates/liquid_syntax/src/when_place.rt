@@ -1,7 +1,9 @@
 //! Where a `when` of a `case` stands in the source, which is asked for only where a fault of a run
 //! is reported: the pieces from the `case` on are read once more.
-use liquid_lexer::{Body, ParseError, Piece, bare_name, read_body, read_markup, text_before};
-use liquid_words::past_byte;
+use liquid_lexer::{
+    Body, Markup, ParseError, Piece, Style, bare_name, read_body, read_markup, text_before,
+};
+use liquid_model::past_byte;
 use std::alloc::{AllocError, Global};
 
 /// What a piece is for a `case` around it.
@@ -47,15 +49,30 @@ fn past_piece(alloc: Global, text: &str) -> Result<Option<(CasePart, &str)>, All
     let Some(inside) = past_byte(text, b'{') else {
         return Ok(None);
     };
-    let (markup, after) = match read_markup(alloc, inside) {
-        Ok(read) => read,
-        Err(ParseError::Fault(_)) => return Ok(None),
-        Err(ParseError::Memory) => return Err(AllocError),
+    let Some((markup, after)) = markup_of(alloc, inside)? else {
+        return Ok(None);
     };
     let part = part_of(&markup.piece);
     let body = body_of(&markup.piece);
     match read_body(body, markup, after) {
         Ok((_, after)) => Ok(Some((part, after))),
+        Err(ParseError::Fault(_)) => Ok(None),
+        Err(ParseError::Memory) => Err(AllocError),
+    }
+}
+
+/// The piece after a `{`, where it can be read. Its language isn't known here: a tag that can't be
+/// read as items begins with a path.
+fn markup_of<'s>(
+    alloc: Global,
+    inside: &'s str,
+) -> Result<Option<(Markup<'s>, &'s str)>, AllocError> {
+    let mut read = read_markup(alloc, inside, Style::Items);
+    if let Err(ParseError::Fault(_)) = &read {
+        read = read_markup(alloc, inside, Style::PathFirst);
+    }
+    match read {
+        Ok(read) => Ok(Some(read)),
         Err(ParseError::Fault(_)) => Ok(None),
         Err(ParseError::Memory) => Err(AllocError),
     }

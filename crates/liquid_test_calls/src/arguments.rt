@@ -1,8 +1,8 @@
 //! The readers of arguments and of dates.
 use crate::faults::no_call;
 use liquid_core::{Result, Value};
-use liquid_filter_base::{lower_case, text_argument, whole_argument};
 use liquid_filters::read_date;
+use liquid_model::{lower_case, text_argument, whole_argument};
 use liquid_test_refusals::{WorkedRow, text, text_of};
 use std::alloc::Global;
 

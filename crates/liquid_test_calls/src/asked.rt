@@ -1,10 +1,9 @@
-//! Data as far as they are asked for, and data completed with what is asked of them.
+//! Data as far as they are asked for.
 //!
 //! Uses stand in a row's `with`, as a map from names. Of a value `null` asks nothing, `true`
 //! everything, and a map its members. A list has what is asked of each item that a loop goes over,
 //! after it the members, and after these the most items that are seen.
 use crate::faults::no_call;
-use liquid_completion::complete;
 use liquid_core::{ItemUse, Object, Result, Use, Uses, Value};
 use liquid_json::data_for;
 use liquid_test_refusals::WorkedRow;
@@ -15,23 +14,8 @@ pub(crate) fn asked_call(alloc: Global, name: &str, row: &WorkedRow) -> Result<V
     let uses = uses_of(alloc, &row.with)?;
     match name {
         "data_for" => Ok(Value::Object(data_for(alloc, row.source.as_str(), &uses)?)),
-        "complete" => completed(alloc, &row.on, &uses),
         _ => no_call(alloc),
     }
-}
-
-/// The map that the value is, completed twice.
-fn completed(alloc: Global, value: &Value, uses: &Uses) -> Result<Value> {
-    match value.copy(alloc)? {
-        Value::Object(data) => twice_completed(alloc, data, uses),
-        _ => no_call(alloc),
-    }
-}
-
-fn twice_completed(alloc: Global, mut data: Object, uses: &Uses) -> Result<Value> {
-    complete(alloc, &mut data, uses)?;
-    complete(alloc, &mut data, uses)?;
-    Ok(Value::Object(data))
 }
 
 /// The uses that the map has, or none.

@@ -25,8 +25,7 @@
 //!   `read_date`.
 //! - `Value::NAME` and `Test::NAME`: the method of the value `on`. `Order::NAME`: that of `on`
 //!   beside the value `with`.
-//! - `Data::NAME`: `data_for` of the text `source`, or `complete` of the map `on`, with uses that
-//!   `src/asked.rt` tells.
+//! - `Data::NAME`: `data_for` of the text `source`, with uses that `src/asked.rt` explains.
 //! - `Check::NAME`: `findings` of the text `source`, each as its kind, line, column, start, length
 //!   and whether it follows; how many they are and the `nodes` of what is left; or `else_items`.
 //! - `Error::NAME`: a fault with the message `source`, as it is printed.

@@ -5,7 +5,7 @@ use liquid_core::{Expression, Result, Value};
 use liquid_parser::{Language, parse};
 use liquid_syntax::{Partials, Template};
 use liquid_test_refusals::{WorkedRow, number, text_member};
-use liquid_uses::{paths_of, uses_of};
+use liquid_uses::{data_uses, paths_of};
 use std::alloc::Global;
 
 /// A call of the template. The row has a partial with its name and its source.
@@ -60,7 +60,7 @@ fn names(alloc: Global, template: &Template, partials: &Partials) -> Result<Valu
 
 /// What the template and the partial ask of their data, as paths.
 fn paths(alloc: Global, template: &Template, partials: &Partials) -> Result<Value> {
-    let uses = uses_of(alloc, template, partials)?;
+    let uses = data_uses(alloc, template, partials)?;
     let mut paths = Vec::new(alloc);
     for path in paths_of(alloc, &uses)? {
         paths.push(Value::Text(path))?;

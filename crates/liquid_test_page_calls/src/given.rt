@@ -1,9 +1,9 @@
 //! What a page is given beside its source and its data.
-use liquid_core::{Object, Result, Value, look_up};
-use liquid_lib::{Language, Partials, jekyll, language, parse, stdlib};
+use liquid_core::{Error, Expression, Missing, Object, Result, Value, Variable, look_up};
+use liquid_lib::{HostCall, Language, Partials, TagError, jekyll, language, parse, stdlib};
 use liquid_parser::{FilterRegistry, Registry, TagKind};
-use liquid_test_refusals::text_of;
-use std::alloc::Global;
+use liquid_test_refusals::{items, text_of};
+use std::alloc::{AllocError, Global};
 
 /// A field of the options.
 pub(crate) fn option<'o>(options: &'o Value, name: &str) -> Option<&'o Value> {
@@ -42,8 +42,16 @@ pub(crate) fn depth(options: &Value) -> u32 {
     u32::try_from(number_option(options, "depth", 32)).unwrap_or(32)
 }
 
-/// The standard language with what the options register in it: tags, and names that stand for
-/// filters of the host.
+/// What the options make of a missing value: nil, or else a fault.
+pub(crate) fn missing(options: &Value) -> Missing {
+    match option(options, "missing") {
+        Some(value) if text_of(value) == "nil" => Missing::IsNil,
+        _ => Missing::IsFault,
+    }
+}
+
+/// The standard language with what the options register in it: tags, names that stand for filters
+/// of the host, and tags of the host.
 pub(crate) fn language_with(alloc: Global, options: &Value) -> Result<Language> {
     let mut language = language(alloc)?;
     register(alloc, &mut language, options)?;
@@ -54,8 +62,12 @@ fn register(alloc: Global, language: &mut Language, options: &Value) -> Result<(
     if let Some(kinds) = map_option(options, "tags") {
         register_tags(alloc, &mut language.tags, kinds)?;
     }
-    match map_option(options, "host") {
-        Some(names) => register_host(alloc, &mut language.filters, names),
+    language.include_paths = option(options, "paths").is_some();
+    if let Some(names) = map_option(options, "host") {
+        register_host(alloc, &mut language.filters, names)?;
+    }
+    match map_option(options, "host tags") {
+        Some(calls) => register_host_tags(alloc, language, calls),
         None => Ok(()),
     }
 }
@@ -102,6 +114,37 @@ fn register_filter(
 ) -> Result<()> {
     let name = String::from_str(alloc, name)?;
     filters.register_host(name, 0, most)
+}
+
+/// Registers each tag with the filter and the variable that its list names, or the filter alone.
+fn register_host_tags(alloc: Global, language: &mut Language, calls: &Object) -> Result<()> {
+    for (name, call) in calls.iter() {
+        let name = String::from_str(alloc, name.as_str())?;
+        let call = host_call(alloc, items(call))?;
+        if let Err(TagError::Memory) = language.register_tag(name, call) {
+            return Err(Error::from(AllocError));
+        }
+    }
+    Ok(())
+}
+
+fn host_call(alloc: Global, words: &[Value]) -> Result<HostCall> {
+    let (filter, input) = match words {
+        [filter, input, ..] => (text_of(filter), variable(alloc, text_of(input))?),
+        [filter] => (text_of(filter), Expression::Literal(Value::Nil)),
+        [] => ("", Expression::Literal(Value::Nil)),
+    };
+    Ok(HostCall {
+        filter: String::from_str(alloc, filter)?,
+        input,
+    })
+}
+
+fn variable(alloc: Global, name: &str) -> Result<Expression> {
+    Ok(Expression::Variable(Variable {
+        name: String::from_str(alloc, name)?,
+        indexes: Vec::new(alloc),
+    }))
 }
 
 /// The partials of the options, parsed.

@@ -1,10 +1,10 @@
 //! Pages within limits: which text each has, how it ended, and by which limit.
-use crate::given::{depth, language_with, option, partials_of};
+use crate::given::{depth, language_with, missing, option, partials_of};
 use crate::writers::{FailingWriter, kind_ending, page_of, writer};
 use liquid_core::{ErrorKind, Object, Result, Value};
 use liquid_lib::{
     Counted, LimitReached, Limited, LimitedPage, Limits, Partials, Renderable, RuntimeBuilder,
-    Template, parse, render_page_within,
+    Surroundings, Template, parse, render_page_within,
 };
 use liquid_test_refusals::{Reporter, WorkedRow, kind_of, text_of};
 
@@ -33,9 +33,14 @@ fn page_limited<R: Print>(
     partials: &Partials,
     data: &Object,
 ) {
-    let (depth, limits) = (depth(&row.on), limits_of(row));
+    let around = Surroundings {
+        partials,
+        depth: depth(&row.on),
+        missing: missing(&row.on),
+        limits: limits_of(row),
+    };
     reporter.begin();
-    let answer = render_page_within(reporter.alloc, template, partials, depth, data, limits);
+    let answer = render_page_within(reporter.alloc, template, around, data);
     reporter.end();
     let end = match &answer {
         Ok(page) => page_limit_ending(row, page),
@@ -73,6 +78,7 @@ fn writer_limited<R: Print>(
         .set_partials(partials)
         .set_depth(depth(&row.on))
         .build(reporter.alloc);
+    runtime.set_missing(missing(&row.on));
     reporter.begin();
     let answer = template.render_to(reporter.alloc, &mut limited, &mut runtime);
     reporter.end();

@@ -2,9 +2,11 @@
 //! the examples of docs/use/rattle.md, and reports each that doesn't end as its row says.
 //!
 //! A row is a line of JSON on standard input: `call`, and of a page its `source`, its `data`, and
-//! `on`, with `partials`, `tags` that are registered beside the standard ones, `host` (names that
-//! stand for filters of a host), the `depth`, the `writes` that its writer takes, of at most
-//! `most` bytes each and `room` bytes in all, what is rendered `first` on the same
+//! `on`, with `partials`, `tags` that are registered beside the standard ones, `paths` where
+//! Jekyll's `include` takes a path without quotes, `host` (names that stand for filters of a host),
+//! `host tags` (each with its filter, and the variable that is its input if one is), the `depth`,
+//! what a value that is `missing` is (`nil`, or else a fault), the `writes` that its writer takes,
+//! of at most `most` bytes each and `room` bytes in all, what is rendered `first` on the same
 //! runtime, and what is rendered `then`; its page as `answer`, and the kind of its `fault`. Where
 //! a rendering of it is refused memory, `written` is what it has written, and `refused` what is
 //! rendered in place of `then`, each with all that it may show. A `rendering` is a page whose
@@ -16,6 +18,7 @@
 //! `tests/refusals/run`, and how it ended after them.
 #![tactic(auto)]
 
+mod decimals;
 mod examples;
 mod filters;
 mod given;
@@ -29,6 +32,7 @@ mod runtimes;
 mod shops;
 mod writers;
 
+use crate::decimals::decimals_called;
 use crate::examples::example;
 use crate::hosts::hosted;
 use crate::jekyll::jekyll_called;
@@ -85,6 +89,7 @@ fn row_made<R: Print>(
         "rendering" => rendering_made(reporter, row, data, None),
         "hosted page" | "filters" => hosted(reporter, row),
         "shopify filters" | "shopify page" => shop_made(reporter, row),
+        "decimal filters" => decimals_called(reporter, row),
         "jekyll filters" => jekyll_called(reporter, row),
         "limited page" => limited_made(reporter, row, data),
         "runtime" => runtime_made(reporter, row, data),

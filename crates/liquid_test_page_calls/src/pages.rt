@@ -1,12 +1,13 @@
 //! A page by each call that makes it.
-use crate::given::{copied, depth, language_with, option, partials_of};
+use crate::given::{copied, depth, language_with, missing, option, partials_of};
 use crate::writers::{FailingWriter, kind_ending, page_ending, page_of, writer};
 use liquid_core::{ErrorKind, HostFilters, Object, Result, Value};
 use liquid_lib::{
-    Counted, Language, Page, Partials, Renderable, Runtime, RuntimeBuilder, Template, parse,
-    render_page, render_source,
+    Counted, Language, Page, Partials, Renderable, RunSetting, Runtime, RuntimeBuilder, Template,
+    parse, render_page_by, render_source,
 };
 use liquid_test_refusals::{Reporter, WorkedRow, items, kind_of, text_member, text_of};
+use std::alloc::Global;
 
 /// What the pages of a row are made of.
 #[derive(Drop)]
@@ -163,6 +164,7 @@ fn rendered_over<R: Print>(
         Some(host) => builder.set_host_filters(host).build(alloc),
         None => builder.build(alloc),
     };
+    runtime.set_missing(missing(&given.row.on));
     rendered_first(reporter, given, &mut runtime)?;
     if call == "render" {
         rendered(reporter, given, &mut runtime);
@@ -273,15 +275,24 @@ fn page_rendered<R: Print>(reporter: &Reporter<'_, R>, given: &Given<'_>) {
     let Value::Object(data) = given.data else {
         return;
     };
-    let depth = depth(&given.row.on);
+    let setting = RunSetting {
+        depth: depth(&given.row.on),
+        missing: missing(&given.row.on),
+    };
     reporter.begin();
-    let answer = render_page(reporter.alloc, given.template, given.partials, depth, data);
+    let answer = render_page_by(
+        reporter.alloc,
+        given.template,
+        given.partials,
+        setting,
+        data,
+    );
     reporter.end();
     let end = match &answer {
         Ok(page) => shown_ending(given.row, page),
         Err(fault) => fault.kind.name(),
     };
-    reporter.ended("render_page", given.row.source.as_str(), end);
+    reporter.ended("render_page_by", given.row.source.as_str(), end);
 }
 
 /// `done` where the page has the text and the fault that the row says.

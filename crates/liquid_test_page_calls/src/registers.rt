@@ -1,12 +1,12 @@
 //! Languages and partials: what is registered and put in; and the object of a loop.
 use crate::given::number_or;
-use liquid_core::{Result, Value};
+use liquid_core::{Error, Expression, Result, Value};
 use liquid_filters::FilterKind;
 use liquid_lib::stdlib::{ForloopObject, IfBlock};
-use liquid_lib::{Language, Partials, language, parse};
+use liquid_lib::{HostCall, Language, Partials, TagError, language, parse};
 use liquid_parser::{BlockKind, TagKind};
 use liquid_test_refusals::{Reporter, WorkedRow, items, text_of};
-use std::alloc::Global;
+use std::alloc::{AllocError, Global};
 
 /// Whether the standard language, as it is made, has the filter that the row's `source` names, and
 /// that filter takes as many arguments as `on` says.
@@ -24,7 +24,8 @@ fn accepts(language: &Language, name: &str, count: usize) -> bool {
 }
 
 /// The calls that put something in under a name.
-const CALLS: [&str; 5] = [
+const CALLS: [&str; 6] = [
+    "Language::register_tag",
     "tags.register",
     "blocks.register",
     "filters.register",
@@ -96,6 +97,7 @@ fn put(
 ) -> Result<()> {
     let key = String::from_str(alloc, name)?;
     match call {
+        "Language::register_tag" => put_host_tag(alloc, language, key),
         "tags.register" => language.tags.register(key, TagKind::Assign),
         "blocks.register" => language
             .blocks
@@ -106,9 +108,26 @@ fn put(
     }
 }
 
+fn put_host_tag(alloc: Global, language: &mut Language, name: String) -> Result<()> {
+    let call = HostCall {
+        filter: String::from_str(alloc, "sort")?,
+        input: Expression::Literal(Value::Nil),
+    };
+    match language.register_tag(name, call) {
+        Err(TagError::Memory) => Err(Error::from(AllocError)),
+        Ok(()) | Err(TagError::Refused(_)) => Ok(()),
+    }
+}
+
+/// Whether a host's tag of the name is there, or none can be.
+fn is_host_tag(language: &Language, name: &str) -> bool {
+    language.host_tags.number(name).is_some() || language.name_refusal(name).is_some()
+}
+
 /// Whether what the call put in under the name is there.
 fn is_there(language: &Language, partials: &Partials, call: &str, name: &str) -> bool {
     match call {
+        "Language::register_tag" => is_host_tag(language, name),
         "tags.register" => language.tags.get(name).is_some(),
         "blocks.register" => language.blocks.get(name).is_some(),
         "Partials::insert" => has_partial(partials, name),

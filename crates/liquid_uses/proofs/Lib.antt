@@ -1,7 +1,12 @@
 pub mod AddedPaths
 pub mod Chains
+pub mod DataSight
 pub mod EachGrants
+pub mod FreeTree
+pub mod PartialReads
+pub mod PathReading
 pub mod PropertyNames
+pub mod Scoping
 pub mod Sight
 pub mod Steps
 pub mod TreeGrants

@@ -1,3 +1,4 @@
 pub mod Covered
+pub mod PathReading
 pub mod Paths
 pub mod inside

@@ -1,3 +1,6 @@
 pub mod Chains
 pub mod OwnGrants
 pub mod Placing
+pub mod Readings
+pub mod Scopes
+pub mod Telling

@@ -12,7 +12,7 @@ use Rattle.liquid_warnings.specs.Remarks.{Said, all_said, remark_view, warning, 
 use Rattle.liquid_warnings.specs.Sorts.{InOrder, IsUnescaped, IsUnlisted, OnlyWhere, WarnsOf}
 use Rattle.liquid_warnings.specs.Messages.{in_data, kind_word, value_message}
 use Rattle.liquid_warnings.specs.Warnings.{AreOfSource}
-use Rattle.liquid_model.specs.declared.location.Location.{Location}
+use Rattle.liquid_model.specs.declared.origin.Location.{Location}
 use Rattle.liquid_warnings.specs.inside.Added.{AddsRemarks, maybe_said, said_at, said_at_each}
 use Rattle.liquid_warnings.specs.declared.remark.Remark.{Remark}
 
@@ -93,7 +93,7 @@ pub adds_none_where : (b : Bool) (p : Said → Type 0) (rs : List Remark) → Ad
 adds_none_where b p rs = adds_none (OnlyWhere b (All p)) rs (none_where b p)
 
 -- none of either sort
-none_in_order : (P Q : List Said → Type 0) → P [] → Q [] → InOrder P Q []
+pub none_in_order : (P Q : List Said → Type 0) → P [] → Q [] → InOrder P Q []
 none_in_order P Q p q = record { first = []; more = []; whole = refl; first_are = p; more_are = q }
 
 pub adds_neither : (b : Bool) (p q : Said → Type 0) (rs : List Remark) → AddsRemarks (InOrder (OnlyWhere b (All p)) (All q)) rs rs

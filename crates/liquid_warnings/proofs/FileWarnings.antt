@@ -7,9 +7,11 @@ use Rattle.std.proofs.lemmas.Option.{slice_get_past, slice_get_read}
 use Rattle.liquid_syntax.specs.declared.node.Node.{Node}
 use Rattle.liquid_syntax.specs.declared.positions.Position.{Position}
 use Rattle.liquid_warnings.specs.Warnings.{AreWarned, IsWarned, nodes_said, said_at, with_said}
+use Rattle.liquid_warnings.specs.inside.Added.{maybe_said}
 use Rattle.liquid_warnings.specs.declared.remark.Remark.{Remark}
 use Rattle.liquid_warnings.specs.declared.warnings.CheckedFile.{CheckedFile}
 use Rattle.liquid_warnings.specs.declared.warnings.Given.{Given}
+use Rattle.liquid_warnings.specs.declared.written_for.WrittenFor.{WrittenFor}
 
 -- three lists, of which the first hundred are kept
 pub together : (source nodes others all : List Remark) (said : List Said) → all_said nodes ≡ said → all ≡ take 100 ((source ++ nodes) ++ others)
@@ -37,19 +39,31 @@ all_warned given files i lists covers past =
 
 -- ---- nodes
 
-said_before : (s : Option Said) (more : List Said) → with_said s more ≡ with_said s [] ++ more
+-- what one more node says
+pub one_node : (e : WrittenFor) (nodes : List Node) (positions : List Position) (i : ℕ) (x : Node) (position : Option Position) (all old new : List Said)
+    → all ≡ old ++ nodes_said e i (drop i nodes) positions → new ≡ old ++ said_at e position x → position ≡ slice_get positions i
+    → x ≡ get_or nodes i x → i < length nodes → all ≡ new ++ nodes_said e (i + 1) (drop (i + 1) nodes) positions
+one_node e nodes positions i x position all old new so_far added same at within =
+    let more = nodes_said e (i + 1) (drop (i + 1) nodes) positions in
+    so_far ∙ ap (λ l. old ++ nodes_said e i l positions) (drop_more nodes i x within ∙ ap (λ z. z ∷ drop (i + 1) nodes) (sym at))
+    ∙ ap (λ p. old ++ (said_at e p x ++ more)) (sym same)
+    ∙ sym (append_assoc old (said_at e position x) more) ∙ ap (λ l. l ++ more) (sym added)
+
+maybe_is : (r : Option Remark) (o : Option Said) → option_map remark_view r ≡ o → maybe_said r ≡ with_said o []
+maybe_is None o is = ap (λ p. with_said p []) is
+maybe_is (Some r) o is = ap (λ p. with_said p []) is
+
+said_before : (s : Option Said) (more : List Said) → with_said s [] ++ more ≡ with_said s more
 said_before None more = refl
 said_before (Some s) more = refl
 
--- what one more node says
-pub one_node : (nodes : List Node) (positions : List Position) (i : ℕ) (x : Node) (position : Option Position) (all old new : List Said)
-    → all ≡ old ++ nodes_said i (drop i nodes) positions → new ≡ old ++ with_said (said_at position x) [] → position ≡ slice_get positions i
-    → x ≡ get_or nodes i x → i < length nodes → all ≡ new ++ nodes_said (i + 1) (drop (i + 1) nodes) positions
-one_node nodes positions i x position all old new so_far added same at within =
-    let more = nodes_said (i + 1) (drop (i + 1) nodes) positions in
-    so_far ∙ ap (λ l. old ++ nodes_said i l positions) (drop_more nodes i x within ∙ ap (λ z. z ∷ drop (i + 1) nodes) (sym at))
-    ∙ ap (λ p. old ++ with_said (said_at p x) more) (sym same) ∙ ap (λ l. old ++ l) (said_before (said_at position x) more)
-    ∙ sym (append_assoc old (with_said (said_at position x) []) more) ∙ ap (λ l. l ++ more) (sym added)
+-- the two that a node may have
+pub two_said : (a b : Option Said) (r s : Option Remark) (old first new : List Said) → option_map remark_view r ≡ a → option_map remark_view s ≡ b
+    → first ≡ old ++ maybe_said r → new ≡ first ++ maybe_said s → new ≡ old ++ with_said a (with_said b [])
+two_said a b r s old first new is also one two =
+    two ∙ ap (λ l. l ++ maybe_said s) one ∙ append_assoc old (maybe_said r) (maybe_said s)
+    ∙ ap (λ l. old ++ (l ++ maybe_said s)) (maybe_is r a is) ∙ ap (λ l. old ++ (with_said a [] ++ l)) (maybe_is s b also)
+    ∙ ap (λ l. old ++ l) (said_before a (with_said b []))
 
 -- what a slice has at a place, which a look into it finds
 pub found_at : {B X : Type 0} (now : B → X) (P : B → Type 0) (xs : List X) (i : ℕ) (o : Option B) → IfSome o (λ b. now b ≡ get_or xs i (now b))

@@ -1,4 +1,6 @@
 pub mod AddedRemarks
+pub mod DataPaths
 pub mod FileWarnings
 pub mod HtmlPlaces
+pub mod RubyDifferences
 pub mod SeenLiterals

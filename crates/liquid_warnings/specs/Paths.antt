@@ -9,11 +9,12 @@
 use Rattle.std.specs.Prelude.{ℕ, suc, ◌-◌, List, [], ◌∷◌, ◌++◌, codes, drop, take, string_bytes}
 use Rattle.std.specs.Prelude.{Option, Some, None, Bool, true, false}
 use Rattle.liquid_model.specs.Texts.{Text}
-use Rattle.liquid_data_paths.specs.declared.data_path.DataPath.{DataPath}
-use Rattle.liquid_data_paths.specs.declared.data_path.Step.{Step}
-use Rattle.liquid_data_paths.specs.declared.data_path.Step.TheVariants.{Each, Key}
-use Rattle.liquid_data_paths.specs.declared.doubt.Want.{Want}
-use Rattle.liquid_data_paths.specs.declared.doubt.Want.TheVariants.{Present, Perhaps, Date, Items}
+use Rattle.liquid_warnings.specs.declared.data_path.DataPath.{DataPath}
+use Rattle.liquid_warnings.specs.declared.data_path.Step.{Step}
+use Rattle.liquid_warnings.specs.declared.data_path.Step.TheVariants.{Each, Key}
+use Rattle.liquid_warnings.specs.declared.doubt.Want.{Want}
+use Rattle.liquid_warnings.specs.declared.doubt.Want.TheVariants.{Present, Perhaps, Date, Items}
+use Rattle.liquid_warnings.specs.declared.doubt.Want.TheVariants.{Searched}
 use Rattle.liquid_warnings.specs.Messages.{item_words}
 
 abbrev pub step_text : Step → Text
@@ -69,5 +70,6 @@ meant_text path list count key = key_after (lacking_text path list (count - 1)) 
 abbrev pub is_needed : Want → Bool
 is_needed Present = true
 is_needed Perhaps = false
+is_needed Searched = true
 is_needed Date = false
 is_needed (Items span) = true

@@ -4,7 +4,7 @@
 --     IsWarned given file warnings      these are the first hundred of those of its source, of its
 --                                       single tags and outputs, and of all files together
 --     AreOfSource is_html warnings      those of what stands in a source, in their order
---     template_said template      those of single tags and outputs, in the order of the source
+--     template_said e template      those of single tags and outputs, in the order of the source
 --     AreOfWhole given warnings      those that need all files, in their order
 use Rattle.std.specs.Prelude.{◌≡◌, ◌+◌, ℕ, Bool, List, [], ◌∷◌, ◌++◌, All, map}
 use Rattle.std.specs.Prelude.{Option, Some, None, is_some, option_map, slice_get, take, Vec, ⊤}
@@ -13,14 +13,17 @@ use Rattle.liquid_syntax.specs.Templates.{template_nodes, positions_of}
 use Rattle.liquid_syntax.specs.declared.node.Node.{Node}
 use Rattle.liquid_syntax.specs.declared.positions.Position.{Position}
 use Rattle.liquid_syntax.specs.declared.template.Template.{Template}
+use Rattle.liquid_warnings.specs.Differences.{AreOfData}
+use Rattle.liquid_warnings.specs.Modes.{unknown_mode}
 use Rattle.liquid_warnings.specs.Nodes.{no_clock, no_list}
 use Rattle.liquid_warnings.specs.Remarks.{Said, all_said}
-use Rattle.liquid_warnings.specs.Sorts.{InOrder, IsDoubt, IsElseIf, IsMissingPartial, IsRecursive}
+use Rattle.liquid_warnings.specs.Sorts.{InOrder, IsElseIf, IsMissingPartial, IsRecursive}
 use Rattle.liquid_warnings.specs.Sorts.{IsUnescaped, IsUnknownName, IsUnusedPartial, IsUnusedName}
 use Rattle.liquid_warnings.specs.Sorts.{OnlyWhere}
 use Rattle.liquid_warnings.specs.declared.remark.Remark.{Remark}
 use Rattle.liquid_warnings.specs.declared.warnings.CheckedFile.{CheckedFile}
 use Rattle.liquid_warnings.specs.declared.warnings.Given.{Given}
+use Rattle.liquid_warnings.specs.declared.written_for.WrittenFor.{WrittenFor}
 
 -- ---- the source
 
@@ -34,7 +37,7 @@ abbrev pub said_or_else : Option Said → Option Said → Option Said
 said_or_else None other = other
 said_or_else (Some s) other = Some s
 
--- the one that a tag or an output has
+-- the one that a tag or an output has, whatever engine it is written for
 abbrev pub node_said : Position → Node → Option Said
 node_said position node = said_or_else (no_clock position node) (no_list position node)
 
@@ -43,19 +46,20 @@ with_said None more = more
 with_said (Some s) more = s ∷ more
 
 -- of a node that begins at this position
-abbrev pub said_at : Option Position → Node → Option Said
-said_at None node = None
-said_at (Some position) node = node_said position node
+abbrev pub said_at : WrittenFor → Option Position → Node → List Said
+said_at e None node = []
+said_at e (Some position) node =
+    with_said (node_said position node) (with_said (unknown_mode e position node) [])
 
 -- of the nodes from this place on, each of which begins at the position at its place
-abbrev pub nodes_said : ℕ → List Node → List Position → List Said
-nodes_said place [] positions = []
-nodes_said place (n ∷ ns) positions = with_said (said_at (slice_get positions place) n)
-    (nodes_said (place + 1) ns positions)
+abbrev pub nodes_said : WrittenFor → ℕ → List Node → List Position → List Said
+nodes_said e place [] positions = []
+nodes_said e place (n ∷ ns) positions =
+    said_at e (slice_get positions place) n ++ nodes_said e (place + 1) ns positions
 
-abbrev pub template_said : Option Template → List Said
-template_said None = []
-template_said (Some t) = nodes_said 0 (template_nodes t) (positions_of t)
+abbrev pub template_said : WrittenFor → Option Template → List Said
+template_said e None = []
+template_said e (Some t) = nodes_said e 0 (template_nodes t) (positions_of t)
 
 -- ---- all files together
 
@@ -71,7 +75,7 @@ AreOfPartials = InOrder (All IsMissingPartial)
 -- for, also where there are none
 abbrev pub AreOfWhole : Given → List Said → Type 0
 AreOfWhole given = InOrder (AreOfNames (is_some given.«data»))
-    (InOrder (OnlyWhere (is_some given.«data») (All IsDoubt))
+    (InOrder (OnlyWhere (is_some given.«data») (AreOfData given.written_for))
     (OnlyWhere (is_some given.partials) AreOfPartials))
 
 -- ---- the files
@@ -87,7 +91,8 @@ pub record IsWarned (given : Given) (file : CheckedFile) (warnings : List Remark
   pub others_are : AreOfWhole given others
   -- and no more than these
   pub first_hundred : all_said warnings ≡ take 100
-      (source ++ (template_said (option_map (λ t. t.now) file.template) ++ others))
+      (source ++ (template_said given.written_for (option_map (λ t. t.now) file.template)
+      ++ others))
 
 abbrev pub AreWarned : Given → List CheckedFile → List (List Remark) → Type 0
 AreWarned given [] [] = ⊤

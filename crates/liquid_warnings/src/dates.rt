@@ -38,7 +38,7 @@ fn clock_message(alloc: Global, word: &str) -> Result<String, AllocError>
 }
 
 /// The chain of an output or an `assign`.
-fn printed_chain(node: &Node) -> Option<&FilterChain>
+pub(crate) fn printed_chain(node: &Node) -> Option<&FilterChain>
     ensures { option_map (λ c. c.now) result ≡ printed_chain node.now }
 {
     match node {

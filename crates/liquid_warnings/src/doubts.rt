@@ -13,11 +13,11 @@ use crate::path_texts::{
     first_steps, key_before, lack_words, lacking_text, list_before, meant_text, path_text,
 };
 use crate::remark::{Remark, push_found};
-use crate::used_path::{UsedPath, asked_paths};
+use crate::used_path::UsedPath;
 use crate::warnings::is_full;
+use crate::{DataPath, Doubt, Lack, Want, doubt_of};
 use liquid_core::{ErrorKind, Object, Quoted, Result, Value};
-use liquid_data_paths::{DataPath, Doubt, Lack, Want, doubt_of};
-use liquid_syntax::{Position, Template};
+use liquid_syntax::Position;
 use std::alloc::{AllocError, Global};
 use std::collections::BTreeSet;
 
@@ -25,22 +25,20 @@ type Said = std::result::Result<String, AllocError>;
 
 type Found = std::result::Result<Option<Remark>, AllocError>;
 
-/// Adds the warnings about what a template asks of the data, each once, where it is asked first.
-/// The names are those that a tag of any template sets.
+/// Adds the warnings about what a template asks of the data by these paths, each once, where it is
+/// asked first.
 pub(crate) fn add_doubts(
     alloc: Global,
-    template: &Template,
+    paths: &[UsedPath],
     data: &Object,
-    names: &BTreeSet<String>,
     remarks: &mut Vec<Remark>,
 ) -> Result<()>
     ensures added { OnOk result
         (AddsRemarks (All IsDoubt) remarks.old.items remarks.new.items) }
     ensures memory { IfErr result (λ e. e.kind ≡ ErrorKind.Memory) }
 {
-    let paths = asked_paths(alloc, template, names)?;
     let mut seen = BTreeSet::new(alloc);
-    for asked in &paths {
+    for asked in paths {
         if is_full(remarks) {
             return Ok(());
         }
@@ -52,7 +50,11 @@ pub(crate) fn add_doubts(
 }
 
 /// A warning, unless one of this message is there.
-fn unless_seen(alloc: Global, remark: Option<Remark>, seen: &mut BTreeSet<String>) -> Found
+pub(crate) fn unless_seen(
+    alloc: Global,
+    remark: Option<Remark>,
+    seen: &mut BTreeSet<String>,
+) -> Found
     ensures { IfOk result (λ r. IfSome r (λ s. Some s ≡ remark)) }
 {
     let Some(remark) = remark else {
@@ -111,7 +113,8 @@ fn no_date_in(alloc: Global, at: Position, path: &str, text: &str) -> Found
     Ok(Some(Remark::warning(at, "NoDate", message)))
 }
 
-fn in_data(alloc: Global, path: &str) -> Said
+/// A path in the data, at the begin of a message.
+pub(crate) fn in_data(alloc: Global, path: &str) -> Said
     ensures { IfOk result (λ message. string_bytes message ≡ in_data path.now) }
 {
     let path = Quoted { text: path };

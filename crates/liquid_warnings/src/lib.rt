@@ -1,15 +1,22 @@
-//! What people fall over in templates though no parser refuses it.
+//! What people fall over in templates though no parser refuses it, and paths in data: where data
+//! lacks one, and how it differs from what the template needs.
 #![tactic(auto)]
 
 mod attributes;
 mod calls;
+mod data_path;
 mod dates;
+mod difference;
+mod differences;
+mod doubt;
 mod doubts;
 mod else_if;
 mod html_place;
+pub mod laws;
 mod literals;
 mod loops;
 mod messages;
+mod modes;
 mod names;
 mod otherwise;
 mod partials;
@@ -22,7 +29,11 @@ mod unescaped;
 mod used_path;
 mod warnings;
 mod whole;
+mod written_for;
 
+pub use data_path::{DataPath, Lack, Step, lacking, values_at};
+pub use difference::{Difference, difference_of};
+pub use doubt::{Doubt, Span, Want, doubt_of};
 pub use html_place::HtmlPlace;
 pub use otherwise::else_items;
 pub use pieces::past_piece;
@@ -30,3 +41,4 @@ pub use remark::Remark;
 pub use unescaped::unescaped_attributes;
 pub use used_path::{UsedPath, asked_paths};
 pub use warnings::{CheckedFile, Given, MOST_WARNINGS, Warnings, warnings_of};
+pub use written_for::WrittenFor;

@@ -6,8 +6,8 @@ use crate::pieces::past_piece;
 use crate::warnings::MOST_WARNINGS;
 use liquid_core::{ErrorKind, Location, Result};
 use liquid_language::Language;
-use liquid_lexer::{ParseError, Piece, read_markup, text_before};
-use liquid_words::{location, past_byte};
+use liquid_lexer::{ParseError, Piece, Style, read_markup, text_before};
+use liquid_model::{location, past_byte};
 use std::alloc::{AllocError, Global};
 
 /// Where an `else` has something after it, as in `{% else if x %}`: an `if` and an `unless` pass
@@ -44,7 +44,7 @@ pub fn else_items(alloc: Global, source: &str, language: &Language) -> Result<Ve
 fn has_items(alloc: Global, inside: &str) -> std::result::Result<bool, AllocError>
     ensures { IfOk result (λ b. b ≡ has_items inside.now) }
 {
-    match read_markup(alloc, inside) {
+    match read_markup(alloc, inside, Style::Items) {
         Ok((markup, _)) => match &markup.piece {
             Piece::Tag(name, items) => Ok(*name == "else" && !items.is_empty()),
             Piece::Output(_) | Piece::Raw(_, _) | Piece::Comment(_) => Ok(false),

@@ -6,8 +6,8 @@ ghost use Rattle.liquid_warnings.specs.Paths.{list_before, meant_text, data_path
 ghost use Rattle.liquid_warnings.specs.Paths.{steps_past, steps_text, with_step_key};
 ghost use Rattle.liquid_warnings.specs.Paths.{with_step_keys};
 
+use crate::{DataPath, Step};
 use liquid_core::Quoted;
-use liquid_data_paths::{DataPath, Step};
 use std::alloc::{AllocError, Global};
 
 type Said = Result<String, AllocError>;

@@ -2,8 +2,8 @@
 ghost use Rattle.std.specs.Prelude.{◌≡◌, IfOk, option_map};
 ghost use Rattle.liquid_warnings.specs.PastPieces.{past_piece};
 
-use liquid_language::{BlockContext, Language, body_after};
-use liquid_lexer::{ParseError, read_body, read_markup};
+use liquid_language::{BlockContext, Language, body_after, markup_after};
+use liquid_lexer::{ParseError, read_body};
 use std::alloc::{AllocError, Global};
 
 /// What follows the output or the tag after a `{`, and its body where that isn't read; nothing
@@ -18,7 +18,7 @@ pub fn past_piece<'s>(
     ensures { IfOk result (λ after. option_map (λ text. text.now) after
         ≡ past_piece language.now inside.now) }
 {
-    let (markup, after) = match read_markup(alloc, inside) {
+    let (markup, after) = match markup_after(alloc, language, inside) {
         Ok(read) => read,
         Err(ParseError::Fault(_)) => return Ok(None),
         Err(ParseError::Memory) => return Err(AllocError),

@@ -6,8 +6,8 @@ use crate::pieces::past_piece;
 use crate::warnings::MOST_WARNINGS;
 use liquid_core::{ErrorKind, Expression, Location, Result};
 use liquid_language::Language;
-use liquid_lexer::{Item, ParseError, Piece, Symbol, read_markup, text_before};
-use liquid_words::{location, past_byte};
+use liquid_lexer::{Item, ParseError, Piece, Style, Symbol, read_markup, text_before};
+use liquid_model::{location, past_byte};
 use std::alloc::{AllocError, Global};
 use std::collections::VecDeque;
 
@@ -66,7 +66,7 @@ enum Written {
 
 /// What the piece after a `{` writes.
 fn written_by(alloc: Global, inside: &str) -> std::result::Result<Written, AllocError> {
-    match read_markup(alloc, inside) {
+    match read_markup(alloc, inside, Style::Items) {
         Ok((markup, _)) => match &markup.piece {
             Piece::Output(items) if is_open(items) && !has_escape(items) => Ok(Written::Anything),
             Piece::Output(_) => Ok(Written::Part),

@@ -1,9 +1,9 @@
 //! What the pieces of a template ask of its data.
 ghost use Rattle.std.specs.Prelude.{◌≡◌, IfErr};
 
+use crate::{DataPath, Span, Step, Want};
 use liquid_core::{ErrorKind, Expression, Result, Value, Variable};
-use liquid_data_paths::{DataPath, Span, Step, Want};
-use liquid_evaluation::{Atom, Condition, FilterChain, RangeExpression};
+use liquid_evaluation::{Atom, ComparisonOperator, Condition, FilterChain, RangeExpression};
 use liquid_syntax::{
     Arm, Binding, Each, For, Node, Position, TableRow, Template, WindowExpression,
 };
@@ -192,8 +192,8 @@ impl<'t> Asking<'t> {
     fn ask_atom(&mut self, atom: &'t Atom) -> Done {
         match atom {
             Atom::Bare(value) => self.ask(value, Want::Perhaps),
-            Atom::Compared(left, _, right) => {
-                self.ask(left, Want::Present)?;
+            Atom::Compared(left, operator, right) => {
+                self.ask(left, want_beside(*operator))?;
                 self.ask(right, Want::Present)
             }
         }
@@ -346,6 +346,14 @@ fn literal_steps(variable: &Variable) -> usize {
         count = count.saturating_add(1);
     }
     count
+}
+
+/// What is wanted of the value before an operator.
+fn want_beside(operator: ComparisonOperator) -> Want {
+    match operator {
+        ComparisonOperator::Contains => Want::Searched,
+        _ => Want::Present,
+    }
 }
 
 fn number_of(value: &Option<Expression>) -> Option<i64> {

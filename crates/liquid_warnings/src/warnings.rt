@@ -3,14 +3,16 @@ ghost use Rattle.std.specs.Prelude.{◌≡◌, [], ◌∷◌, ◌++◌, IfErr, I
 ghost use Rattle.std.specs.Prelude.{option_map, take};
 ghost use Rattle.liquid_warnings.specs.Remarks.{all_said, remark_view};
 ghost use Rattle.liquid_warnings.specs.Warnings.{AreWarned, AreOfSource, IsWarned, lists_of};
-ghost use Rattle.liquid_warnings.specs.Warnings.{nodes_said, said_at, template_said, with_said};
+ghost use Rattle.liquid_warnings.specs.Warnings.{node_said, nodes_said, said_at, template_said};
 
 use crate::attributes::add_unescaped;
 use crate::dates::no_clock;
 use crate::else_if::add_else_if;
 use crate::loops::no_list;
-use crate::remark::Remark;
+use crate::modes::unknown_mode;
+use crate::remark::{Remark, push_found};
 use crate::whole::Whole;
+use crate::written_for::WrittenFor;
 use liquid_core::{ErrorKind, Object, Result};
 use liquid_language::Language;
 use liquid_syntax::{Node, Position, Template};
@@ -39,6 +41,8 @@ pub struct Given<'c> {
     /// The data that the templates are for, where there is some.
     pub data: Option<&'c Object>,
     pub language: &'c Language,
+    /// The engine that the templates are written for.
+    pub written_for: WrittenFor,
     /// The names of the partials, each with the place of its file, where partials are asked for;
     /// there may be none. Of two with one name the later counts.
     pub partials: Option<&'c [(String, usize)]>,
@@ -47,9 +51,10 @@ pub struct Given<'c> {
 }
 
 /// The warnings of all files: a list for each, in their order. It has the first hundred of these:
-/// what stands in the source, each single tag and output that has a warning in the order of the
-/// source, and what is known by all files together. Those about partials come only where partials
-/// are asked for, and those about what the data lacks, or has otherwise, only where data is.
+/// what stands in the source, the warnings of single tags and outputs in the order of the source,
+/// and what is known by all files together. Those about partials come only where partials are asked
+/// for, those about what the data lacks, or has otherwise, only where data is, and those about what
+/// another engine does otherwise only where the templates are written for it.
 ///
 /// The answer is `Memory` where a growth was refused, and no other kind.
 pub fn warnings_of(alloc: Global, files: &[CheckedFile<'_>], given: Given<'_>) -> Result<Warnings>
@@ -87,7 +92,7 @@ fn file_warnings(
     ensures memory { IfErr result (λ e. e.kind ≡ ErrorKind.Memory) }
 {
     let of_source = source_warnings(alloc, file, given)?;
-    let of_nodes = node_warnings_of(alloc, file.template)?;
+    let of_nodes = node_warnings_of(alloc, given.written_for, file.template)?;
     let others = whole.warnings(alloc, place, file, given)?;
     Ok(first_of(of_source, of_nodes, others)?)
 }
@@ -134,13 +139,16 @@ fn warnings_in(alloc: Global, source: &str, given: Given<'_>) -> Result<Vec<Rema
 /// The warnings of the single tags and outputs of a template, where there is one.
 fn node_warnings_of(
     alloc: Global,
+    written_for: WrittenFor,
     template: Option<&Template>,
 ) -> std::result::Result<Vec<Remark>, AllocError>
     ensures { IfOk result (λ rs. all_said rs.items
-        ≡ template_said (option_map (λ t. t.now) template.entry)) }
+        ≡ template_said written_for (option_map (λ t. t.now) template.entry)) }
 {
     match template {
-        Some(template) => node_warnings(alloc, template.nodes(), template.positions()),
+        Some(template) => {
+            node_warnings(alloc, written_for, template.nodes(), template.positions())
+        }
         None => Ok(Vec::new(alloc)),
     }
 }
@@ -148,49 +156,50 @@ fn node_warnings_of(
 /// The warnings of nodes that begin at these positions, in their order.
 fn node_warnings(
     alloc: Global,
+    written_for: WrittenFor,
     nodes: &[Node],
     positions: &[Position],
 ) -> std::result::Result<Vec<Remark>, AllocError>
-    ensures { IfOk result (λ rs. all_said rs.items ≡ nodes_said 0 nodes.now positions.now) }
+    ensures { IfOk result (λ rs. all_said rs.items
+        ≡ nodes_said written_for 0 nodes.now positions.now) }
 {
     let mut remarks = Vec::new(alloc);
     for (place, node) in nodes.iter().enumerate() {
-        add_node_warning(alloc, node, positions.get(place), &mut remarks)?;
+        add_of_node(alloc, written_for, node, positions.get(place), &mut remarks)?;
     }
     Ok(remarks)
 }
 
-/// Adds the warning of a node that begins at a position, where it has one.
-fn add_node_warning(
+/// Adds the warnings of a node that begins at a position.
+fn add_of_node(
     alloc: Global,
+    written_for: WrittenFor,
     node: &Node,
     position: Option<&Position>,
     remarks: &mut Vec<Remark>,
 ) -> std::result::Result<(), AllocError>
     ensures { OnOk result (all_said remarks.new.items ≡ all_said remarks.old.items
-        ++ with_said (said_at (option_map (λ p. p.now) position.entry) node.now) []) }
+        ++ said_at written_for (option_map (λ p. p.now) position.entry) node.now) }
 {
-    if let Some(remark) = node_warning(alloc, node, position)? {
-        remarks.push(remark)?;
-    }
-    Ok(())
+    let Some(position) = position else {
+        return Ok(());
+    };
+    push_found(remarks, node_warning(alloc, node, *position)?)?;
+    push_found(remarks, unknown_mode(alloc, written_for, node, *position)?)
 }
 
-/// The warning of a tag or an output that begins at a position, where it has one.
+/// The warning of a tag or an output that begins at a position, where it has one whatever engine it
+/// is written for.
 fn node_warning(
     alloc: Global,
     node: &Node,
-    position: Option<&Position>,
+    position: Position,
 ) -> std::result::Result<Option<Remark>, AllocError>
-    ensures { IfOk result (λ r. option_map remark_view r
-        ≡ said_at (option_map (λ p. p.now) position.entry) node.now) }
+    ensures { IfOk result (λ r. option_map remark_view r ≡ node_said position node.now) }
 {
-    let Some(position) = position else {
-        return Ok(None);
-    };
-    match no_clock(alloc, node, *position)? {
+    match no_clock(alloc, node, position)? {
         Some(remark) => Ok(Some(remark)),
-        None => no_list(alloc, node, *position),
+        None => no_list(alloc, node, position),
     }
 }
 

@@ -1,19 +1,21 @@
 //! What is known of all templates together.
 ghost use Rattle.std.specs.Prelude.{◌≡◌, All, IfErr, IfOk, IfSome, OnOk, is_some};
+ghost use Rattle.liquid_warnings.specs.Differences.{AreOfData};
 ghost use Rattle.liquid_warnings.specs.Remarks.{all_said, remark_view};
-ghost use Rattle.liquid_warnings.specs.Sorts.{IsDoubt, IsMissingPartial, IsRecursive};
+ghost use Rattle.liquid_warnings.specs.Sorts.{IsMissingPartial, IsRecursive};
 ghost use Rattle.liquid_warnings.specs.Sorts.{IsUnknownName, IsUnusedName, IsUnusedPartial};
 ghost use Rattle.liquid_warnings.specs.Sorts.{OnlyWhere};
 ghost use Rattle.liquid_warnings.specs.Warnings.{AreOfNames, AreOfPartials, AreOfWhole};
 ghost use Rattle.liquid_warnings.specs.inside.Added.{AddsRemarks};
 
 use crate::calls::{Call, PartialFiles, calls_of, used_files};
-use crate::doubts::add_doubts;
+use crate::differences::add_of_data;
 use crate::names::{NamesOf, Places, add_name, names_of, unknown_name, unused_name};
 use crate::partials::{missing_partial, recursive_call, unused_partial};
 use crate::recursion::calls_back;
 use crate::remark::{Remark, push_found};
 use crate::suggestions::{KnownNames, Suggestions, suggestions_for};
+use crate::used_path::asked_paths;
 use crate::warnings::{CheckedFile, Given, is_full};
 use liquid_core::{ErrorKind, Object};
 use liquid_syntax::Template;
@@ -158,7 +160,7 @@ impl<'t> Whole<'t> {
     {
         let mut remarks = Vec::new(alloc);
         self.add_name_warnings(alloc, place, given.data, &mut remarks)?;
-        self.add_data_warnings(alloc, file.template, given.data, &mut remarks)?;
+        self.add_data_warnings(alloc, file.template, given, &mut remarks)?;
         self.add_partial_warnings(alloc, place, file, given, &mut remarks)?;
         Ok(remarks)
     }
@@ -254,15 +256,19 @@ impl<'t> Whole<'t> {
         &self,
         alloc: Global,
         template: Option<&Template>,
-        data: Option<&Object>,
+        given: Given<'_>,
         remarks: &mut Vec<Remark>,
     ) -> liquid_core::Result<()>
         ensures added { OnOk result (AddsRemarks
-            (OnlyWhere (is_some «data».entry) (All IsDoubt)) remarks.old.items remarks.new.items) }
+            (OnlyWhere (is_some given.entry.«data») (AreOfData given.entry.written_for))
+            remarks.old.items remarks.new.items) }
         ensures memory { IfErr result (λ e. e.kind ≡ ErrorKind.Memory) }
     {
-        match (template, data) {
-            (Some(template), Some(data)) => add_doubts(alloc, template, data, &self.set, remarks),
+        match (template, given.data) {
+            (Some(template), Some(data)) => {
+                let paths = asked_paths(alloc, template, &self.set)?;
+                add_of_data(alloc, &paths, data, given.written_for, remarks)
+            }
             _ => Ok(()),
         }
     }

@@ -120,7 +120,7 @@ class Nodes:
     def jekyll_include(self, name):
         """The name mostly without quotes, where it could be a variable."""
         bare = name.strip("'\"")
-        name = bare if bare.replace(".", "").isalnum() and self.chance(0.7) else name
+        name = bare if bare.replace(".", "").replace("/", "").isalnum() and self.chance(0.7) else name
         pairs = self.pair_items("=") if self.chance(0.6) else []
         return self.tag("include", name, *(item for pair in pairs for item in pair))
 

@@ -79,17 +79,11 @@ SHOPIFY = {
     "has": ("maps", ["property", "any?"], "truth"),
     "sum": ("numbers", ["property?"], "number"),
     "weight_with_unit": ("number", [], "text"),
-    "count": ("list", [], "number"),
-    "format_as_money": ("number", [], "text"),
-    "paragraph": ("text", [], "text"),
-    "prettyprint": ("starred", [], "text"),
-    "price": ("number", [], "text"),
 }
 INPUTS = {
     "address": PATHS,
     "picture": ("products/tea.jpg", "products/a-b_c.jpeg?x=1", "products/x.j", "products/x.abcde", "/products/x.png", "products/é.jpg", "products/x_small.gif.png", "products/.jpg", "x products/tea.jpg", ""),
     "tag": ("new", "green", "a b", "", "Green", "x+y"),
-    "starred": ("a *b* c", "*", "**", "a*b\nc*d*", "*a* *b*", "\n*x\n*", "* *", "", "é*ü*"),
     "base64": ("", "YQ==", "YWI=", "YWJj", "YQ", "YQ=", "Y Q==", "/w==", "w6k=", "YR==", "YWJj\n", "____", "=", "AAAA"),
 }
 ARGUMENTS.update(MORE_ARGUMENTS, **INPUTS)

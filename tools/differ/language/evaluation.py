@@ -14,9 +14,9 @@ MOST_TEXT = 200_000
 class Run:
     """A run over the partials, each a list of nodes by its name."""
 
-    def __init__(self, partials, data, filters):
+    def __init__(self, partials, data, filters, missing_is_nil=False):
         self.partials = partials
-        self.environment = Environment(filters, data=data)
+        self.environment = Environment(filters, data=data, missing_is_nil=missing_is_nil)
         self.depth = DEPTH
         self.written = []
         self.steps = 0
@@ -137,7 +137,7 @@ class Run:
     def rows(self, node, window):
         if window.length and window.cols == 0:
             raise Fault("ZeroColumns")
-        columns = window.length if node.amounts.get("cols") is None else window.cols
+        columns = window.length if window.cols is None else window.cols
         for place in range(window.length):
             about = cell_map(place, window.length, columns)
             self.cell(node, about, place // columns + 1, window.item(place))
@@ -198,7 +198,7 @@ class Run:
         self.step()
         pairs = self.pairs(node)
         body = self.enter(name, f"{name}.liquid")
-        outer, self.environment = self.environment, Environment(self.environment.filters, {**pairs, **more})
+        outer, self.environment = self.environment, Environment(self.environment.filters, {**pairs, **more}, missing_is_nil=self.environment.missing_is_nil)
         try:
             self.nodes(body)
             return self.environment.interrupt

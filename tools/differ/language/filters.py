@@ -12,6 +12,7 @@ FILTERS = {
     **web_filters.FILTERS,
     **date_filters.FILTERS,
 }
+OWN_FUNCTIONS = frozenset(function for _, _, function in FILTERS.values())
 
 
 def apply(function, value, arguments):

@@ -18,6 +18,8 @@ SPACES = re.compile(f"[{SPACE}]*")
 SYMBOL = re.compile(r"[=!<>]=|<>|[<>=:,|]")
 FRACTION = re.compile(r"\.[0-9]")
 LETTER = re.compile(r"[A-Za-z_]")
+# of `.` and `/` no two stand in a row, and a `-` directly before a closer isn't taken
+PATH = re.compile(r"(?:[A-Za-z0-9_()+~#@]|-(?!%\}|\}\})|[./](?![./]))+")
 
 
 @dataclass
@@ -43,8 +45,10 @@ COMMENT_MARKS = mark("comment", "raw", "endcomment")
 class Reader:
     """Reads a source from its beginning to its end."""
 
-    def __init__(self, source):
+    def __init__(self, source, path_tags=()):
+        """The tags of these names begin with a path without quotes."""
         self.source = source
+        self.path_tags = path_tags
         self.at = 0
         # whether the closer just before asks to strip the text after it
         self.strips = False
@@ -72,7 +76,7 @@ class Reader:
             self.at += 1
         try:
             piece.name = self.tag_name() if opener == "{%" else ""
-            piece.items = self.items(CLOSERS[opener])
+            piece.items = [*self.path(piece.name), *self.items(CLOSERS[opener])]
         except Fault as fault:
             raise fault.within(piece)
         piece.end = self.at
@@ -85,6 +89,17 @@ class Reader:
             raise Fault("Expected" if self.at < len(self.source) else "Unclosed")
         self.at = name.end()
         return name[0]
+
+    def path(self, name):
+        """The path with which a tag of the name begins, where its tags have one and one stands here."""
+        if name not in self.path_tags:
+            return []
+        self.skip_space()
+        path = PATH.match(self.source, self.at)
+        if not path:
+            return []
+        self.at = path.end()
+        return [Literal(path[0], path[0])]
 
     def skip_space(self):
         self.at = SPACES.match(self.source, self.at).end()

@@ -1,5 +1,5 @@
 """What a loop goes over, and what it binds for each item."""
-from .expressions import evaluate
+from .expressions import evaluate, sought
 from .faults import Fault
 from .tree import Range
 from .values import GREATEST, new_map, whole
@@ -28,13 +28,26 @@ class Listed:
 def items_of(source, environment):
     """The items of a source, which isn't evaluated again."""
     if isinstance(source, Range):
-        first = whole_or_fault(evaluate(source.first, environment))
-        found = Numbers(first, whole_or_fault(evaluate(source.last, environment)))
+        first = end_of_range(source.first, environment)
+        found = Numbers(first, end_of_range(source.last, environment))
     else:
         found = Listed(value_items(evaluate(source, environment)))
     if found.count > GREATEST:
         raise Fault("RangeTooLong")
     return found
+
+
+def end_of_range(expression, environment):
+    found = amount(expression, environment)
+    return found[0] if found else 0
+
+
+def amount(expression, environment):
+    """The whole number in a list, or the empty list where the value is missing or nil and that is no fault."""
+    found = sought(expression, environment)
+    if found and found[0] is None and environment.missing_is_nil:
+        return []
+    return [whole_or_fault(value) for value in found]
 
 
 def value_items(value):
@@ -62,8 +75,8 @@ class Window:
         amounts = {}
         for name in ("cols", "limit", "offset"):
             if name in loop.amounts:
-                number = whole_or_fault(evaluate(loop.amounts[name], environment))
-                amounts[name] = number if number >= 0 else GREATEST
+                for number in amount(loop.amounts[name], environment):
+                    amounts[name] = number if number >= 0 else GREATEST
         count = self.items.count
         self.cols = amounts.get("cols")
         self.skipped = min(amounts.get("offset", 0), count)

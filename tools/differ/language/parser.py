@@ -15,7 +15,7 @@ def parse(source, language):
 
 class Parser:
     def __init__(self, source, language):
-        self.reader = Reader(source)
+        self.reader = Reader(source, language.path_tags)
         self.language = language
         # the name of the tag that ended the last list of nodes, with its items
         self.ended_by = None

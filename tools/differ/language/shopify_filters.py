@@ -17,8 +17,6 @@ LEFT_OUT = "'\"()[]"
 HANDLE_WORDS = re.compile("[A-Za-z0-9_]+")
 CAMEL_PARTS = re.compile(r"[^-_ ]+")
 SIZES = ("grande", "large", "medium", "compact", "small", "thumb", "icon")
-# what stands in a line between its first star and its last
-BOLD = re.compile(r"\*(.*)\*")
 IMAGE = re.compile(r"products/([A-Za-z0-9_-]+)\.([A-Za-z0-9_]{2,4})")
 
 
@@ -119,21 +117,6 @@ def counted(item):
     return number
 
 
-def count(value):
-    if not isinstance(value, (list, dict)):
-        raise Fault("InvalidInput")
-    return len(value)
-
-
-def price(value):
-    """Whole dollars of two digits at least; what is left below a dollar is cut off."""
-    cents = whole(value)
-    if cents is None:
-        raise Fault("InvalidInput")
-    dollars = abs(cents) // 100
-    return f"${'-' if cents < 0 and dollars else ''}{dollars:02} USD"
-
-
 def weight_with_unit(value):
     grams = whole(value)
     if grams is None:
@@ -208,7 +191,6 @@ def money_filters(shop):
 
     return {
         "money": (0, 0, of_cents(lambda cents: in_format(plain, cents))),
-        "format_as_money": (0, 0, of_cents(lambda cents: in_format(plain, cents))),
         "money_with_currency": (0, 0, of_cents(lambda cents: in_format(with_currency, cents))),
         "money_without_currency": (0, 0, of_cents(lambda cents: amount(plain.style, cents))),
         "money_without_trailing_zeros": (0, 0, of_cents(lambda cents: whole_units_alone(plain, cents))),
@@ -261,8 +243,4 @@ FILTERS = {
     "has": (1, 2, has),
     "sum": (0, 1, total),
     "weight_with_unit": (0, 0, weight_with_unit),
-    "count": (0, 0, count),
-    "paragraph": (0, 0, text_filter(lambda text: f"<p>{text}</p>")),
-    "prettyprint": (0, 0, text_filter(lambda text: BOLD.sub(r"<b>\1</b>", text))),
-    "price": (0, 0, price),
 }

@@ -91,7 +91,7 @@ class Finder:
 
     def nodes(self, nodes):
         for node in nodes:
-            RULES[type(node)](self, node)
+            getattr(self, RULES[type(node)])(node)
 
     def nothing(self, _node):
         pass
@@ -153,26 +153,94 @@ class Finder:
             self.source(node.each[1], node.each[0])
 
 
+class Reader(Finder):
+    """The names that are read where the template hasn't bound them."""
+
+    def __init__(self):
+        super().__init__(lambda name: NOTHING)
+        self.free = set()
+        self.has_include = False
+        # the names that are bound in each body that the node stands in
+        self.bound = [set()]
+
+    def ask(self, name, _use):
+        if not any(name in names for names in self.bound):
+            self.free.add(name)
+
+    def bind(self, name):
+        self.bound[-1].add(name)
+
+    def within(self, nodes, *names):
+        self.bound.append(set(names))
+        self.nodes(nodes)
+        self.bound.pop()
+
+    def assign(self, node):
+        super().assign(node)
+        self.bind(node.name)
+
+    def count(self, node):
+        self.bind(node.name)
+
+    def choice(self, node):
+        for condition, body in node.branches:
+            self.condition(condition)
+        for _, body in node.branches:
+            self.within(body)
+        self.within(node.otherwise)
+
+    def case(self, node):
+        self.expression(node.target)
+        for values, body in node.parts:
+            self.expressions(values)
+            self.within(body)
+        self.within(node.otherwise)
+
+    def loop(self, node):
+        self.source(node.source, node.variable)
+        self.expressions(node.amounts.values())
+        if node.tag == "for":
+            # what it is before the loop is seen as `parentloop`
+            self.ask("forloop", WHOLE)
+        self.within(node.body, "forloop" if node.tag == "for" else "tablerow", node.variable)
+        self.within(node.otherwise)
+
+    def capture(self, node):
+        self.within(node.body)
+        self.bind(node.name)
+
+    def body(self, node):
+        self.within(node.body)
+
+    def include(self, node):
+        super().include(node)
+        self.has_include = True
+
+    def jekyll_include(self, node):
+        super().jekyll_include(node)
+        self.has_include = True
+
+
 def seen_beside(operator, other):
     """What a comparison with the other value sees: a list or a map differs from a literal by its kind, but is looked into by `contains`."""
     return THERE if operator != "contains" and isinstance(other, tree.Literal) else WHOLE
 
 
 RULES = {
-    tree.Text: Finder.nothing,
-    tree.Interrupt: Finder.nothing,
-    tree.Output: Finder.output,
-    tree.Assign: Finder.assign,
-    tree.Count: Finder.count,
-    tree.Cycle: Finder.cycle,
-    tree.Choice: Finder.choice,
-    tree.Case: Finder.case,
-    tree.Loop: Finder.loop,
-    tree.Capture: Finder.capture,
-    tree.IfChanged: Finder.body,
-    tree.Include: Finder.include,
-    tree.JekyllInclude: Finder.jekyll_include,
-    tree.Render: Finder.render,
+    tree.Text: "nothing",
+    tree.Interrupt: "nothing",
+    tree.Output: "output",
+    tree.Assign: "assign",
+    tree.Count: "count",
+    tree.Cycle: "cycle",
+    tree.Choice: "choice",
+    tree.Case: "case",
+    tree.Loop: "loop",
+    tree.Capture: "capture",
+    tree.IfChanged: "body",
+    tree.Include: "include",
+    tree.JekyllInclude: "jekyll_include",
+    tree.Render: "render",
 }
 
 
@@ -185,6 +253,14 @@ def uses_of(template, partials):
     if includes(uses, asked(nodes, before_of(uses)).found):
         return uses
     return {name: WHOLE for name in asked(nodes, before_of(uses)).mentioned}
+
+
+def data_uses(template, partials):
+    """The same of the data alone: a name that the template binds before it reads it is none of them."""
+    uses = uses_of(template, partials)
+    reader = Reader()
+    reader.nodes(template)
+    return uses if reader.has_include else {name: use for name, use in uses.items() if name in reader.free}
 
 
 def grown(nodes):

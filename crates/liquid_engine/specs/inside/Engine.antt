@@ -2,7 +2,7 @@
 use Rattle.std.specs.Prelude.{ℕ, List, Option, Some, None}
 use Rattle.liquid_model.specs.Texts.{Text}
 use Rattle.liquid_core.specs.Environment.{Environment}
-use Rattle.liquid_filter_base.specs.FilterAnswers.{FilterAnswer}
+use Rattle.liquid_model.specs.FilterAnswers.{FilterAnswer}
 use Rattle.liquid_evaluation.specs.Evaluation.{answers_with}
 use Rattle.liquid_evaluation.specs.Tree as tree
 use Rattle.liquid_syntax.specs.Templates.{partials_of}

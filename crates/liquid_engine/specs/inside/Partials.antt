@@ -14,7 +14,8 @@ use Rattle.liquid_model.specs.Maps.{Map, listed, merged}
 use Rattle.liquid_model.specs.declared.error.Error.{Error}
 use Rattle.liquid_model.specs.declared.error.ErrorKind.{ErrorKind}
 use Rattle.liquid_model.specs.declared.error.ErrorKind.TheVariants.{TooDeep}
-use Rattle.liquid_core.specs.Environment.{Environment, new_environment}
+use Rattle.liquid_core.specs.Environment.{Environment, own_environment}
+use Rattle.liquid_core.specs.declared.missing_value.Missing.{Missing}
 use Rattle.liquid_core.specs.Expression.{Expression}
 use Rattle.liquid_core.specs.LoopFrames.{item_of}
 use Rattle.liquid_core.specs.Loops.{loop_scope, forloop_object}
@@ -91,19 +92,19 @@ jekyll_entry partials depth name bindings e =
     entry_of include_scope (partial_of partials name) depth bindings e
 
 -- of a `render`, in an environment of its own, which has the pairs alone
-abbrev pub render_environment : List (Text × Datum) → Environment
-render_environment pairs = new_environment (pairs_scope pairs)
+abbrev pub render_environment : Missing → List (Text × Datum) → Environment
+render_environment missing pairs = own_environment missing (pairs_scope pairs)
 
 abbrev pub render_entry : List (Text × Nodes) → ℕ → Expression → Bindings → Environment →
     Result (Environment × (Text × (Nodes × ℕ))) ErrorKind
 render_entry partials depth x bindings e =
-    named_entry render_environment (render_partial partials) depth x bindings e
+    named_entry (render_environment e.missing) (render_partial partials) depth x bindings e
 
 -- of a `render .. for`, with these names over the pairs
 abbrev pub item_entry : List (Text × Nodes) → ℕ → Text → Bindings → Map Datum → Environment →
     Result (Environment × (Nodes × ℕ)) ErrorKind
 item_entry partials depth name bindings names e =
-    entry_of (λ pairs. new_environment (merged names (pairs_scope pairs)))
+    entry_of (λ pairs. own_environment e.missing (merged names (pairs_scope pairs)))
     (render_partial partials name) depth bindings e
 
 -- the names of a `render .. for` at one of its items

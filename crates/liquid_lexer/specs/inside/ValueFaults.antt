@@ -2,8 +2,8 @@
 use Rattle.std.specs.Prelude.{ℕ, zero, suc, ℤ, List, [], ◌∷◌, take, drop, Bool, false, ◌==◌, ◌||◌}
 use Rattle.std.specs.Prelude.{◌&&◌, if◌then◌else◌, Option, Some, None}
 use Rattle.liquid_model.specs.Whole.{whole_text}
-use Rattle.liquid_words.specs.Bytes.{is_digit, dot, double_quote, single_quote}
-use Rattle.liquid_words.specs.Front.{number_len}
+use Rattle.liquid_model.specs.Bytes.{is_digit, dot, double_quote, single_quote}
+use Rattle.liquid_model.specs.Front.{number_len}
 use Rattle.liquid_lexer.specs.declared.fault.FaultKind.{FaultKind}
 use Rattle.liquid_lexer.specs.declared.fault.FaultKind.TheVariants.{Unclosed, BadItem}
 use Rattle.liquid_lexer.specs.declared.fault.FaultKind.TheVariants.{NumberLiteral, FloatLiteral}

@@ -12,8 +12,9 @@ use Rattle.liquid_parser.specs.Classification.{reads}
 use Rattle.liquid_parser.specs.OpenBlocks.{State, context_of, statement_step, at_end}
 use Rattle.liquid_parser.specs.declared.build.Builder.{Builder}
 use Rattle.liquid_parser.specs.inside.Building.{IsBuilding}
+use Rattle.liquid_language.specs.Styles.{style_of}
 use Rattle.liquid_language.specs.Roles.{body_after}
-use Rattle.liquid_language.specs.declared.language.Language.{Language}
+use Rattle.liquid_language.specs.declared.registry.Language.{Language}
 use Rattle.liquid_evaluation.specs.Tree.{Nodes, no_nodes}
 
 -- the verbatim body after a tag of the name, where one is to be
@@ -29,8 +30,8 @@ begun_with = ([], no_nodes)
 
 unfoldable pub template_at : Language → Text → Option Nodes
 template_at l source =
-    option_and_then (λ s. at_end s.0 s.1) (source_at (body_of l) (piece_step l)
-    (length source) false begun_with source)
+    option_and_then (λ s. at_end s.0 s.1) (source_at (style_of l) (body_of l)
+    (piece_step l) (length source) false begun_with source)
 
 -- what is found after an opener, with the body after it where one is to be
 abbrev pub whole_at : Language → State → Markup × Text → Option (Markup × Text)

@@ -4,7 +4,7 @@
 --     said_at_each kind message places      a warning that says this at each place, in their order
 use Rattle.std.specs.Prelude.{◌≡◌, List, [], ◌∷◌, ◌++◌, Option, Some, None, map}
 use Rattle.liquid_model.specs.Texts.{Text}
-use Rattle.liquid_model.specs.declared.location.Location.{Location}
+use Rattle.liquid_model.specs.declared.origin.Location.{Location}
 use Rattle.liquid_warnings.specs.Remarks.{Said, all_said, remark_view, warning_at}
 use Rattle.liquid_warnings.specs.declared.remark.Remark.{Remark}
 

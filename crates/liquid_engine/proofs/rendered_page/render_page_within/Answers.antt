@@ -3,14 +3,14 @@ use Rattle.liquid_core.specs.States.{environment_of, merged_layers}
 use Rattle.liquid_syntax.specs.Templates.{partials_of, tree_of}
 use Rattle.liquid_meaning.specs.Meaning.{meaning}
 use Rattle.liquid_engine.specs.LimitedPages.{PageWithin}
-use Rattle.liquid_engine.specs.Pages.{page_over, setting_over, shown}
+use Rattle.liquid_engine.specs.Pages.{page_in, setting_over, shown}
 use Rattle.liquid_engine.proofs.LimitedPages.{page_within}
 use Rattle.liquid_engine.proofs.rendered_page.render_page_within.Goals as goal
 
 pub returns-clause-page : goal.returns-clause-page
-unfolding page_over
+unfolding page_in
 returns-clause-page c =
-    let run = meaning (setting_over (partials_of c.args.partials.now)) c.args.depth (tree_of c.args.template.now) in
+    let run = meaning (setting_over (partials_of c.args.around.partials.now)) c.args.around.depth (tree_of c.args.template.now) in
     let wrote = c.text_beside-text.result in
     let left = c.text_beside-text.new.writer in
     subst (λ l. PageWithin (shown (run (merged_layers l))) (record { page = c.in_ok-page.page; limit = c.ended_by-limit.result })) c.state_over.ensures.layers

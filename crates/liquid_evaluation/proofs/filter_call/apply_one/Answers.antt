@@ -1,6 +1,6 @@
 use Rattle.std.proofs.Common.{subst, map}
 use Rattle.std.proofs.lemmas.Result.{err_from_is_err_and}
-use Rattle.liquid_filter_base.specs.FilterAnswers.{AnswersIf}
+use Rattle.liquid_model.specs.FilterAnswers.{AnswersIf}
 use Rattle.liquid_core.specs.States.{environment_of}
 use Rattle.liquid_model.specs.View.{view}
 use Rattle.liquid_evaluation.specs.Calls.{call_of}

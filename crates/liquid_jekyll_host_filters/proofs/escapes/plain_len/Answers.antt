@@ -4,4 +4,4 @@ use Rattle.liquid_jekyll_host_filters.proofs.MarkedTexts.{IsPlain}
 use Rattle.liquid_jekyll_host_filters.proofs.escapes.plain_len.Goals as goal
 
 pub loop-i-preserved : goal.loop-i-preserved
-loop-i-preserved c = All-more (IsPlain c.args.marks) c.args.bytes.now c.loop-i.i 0 c.loop-i-test.true c.loop-i.invariant (search rules)
+loop-i-preserved c = All-more IsPlain c.args.bytes.now c.loop-i.i 0 c.loop-i-test.true c.loop-i.invariant (search rules)

@@ -4,4 +4,4 @@ use Rattle.liquid_jekyll_host_filters.proofs.MarkedTexts.{IsPlain}
 use Rattle.liquid_jekyll_host_filters.proofs.escapes.plain_len.Given as goal
 
 abbrev pub invariant-loop-i : goal.invariant-loop-i
-invariant-loop-i l = All (IsPlain l.marks) (take l.i l.bytes)
+invariant-loop-i l = All IsPlain (take l.i l.bytes)

@@ -15,7 +15,7 @@ split_at-requires-2 c =
     let within = c.plain_len-at.ensures.within in
     let other = c.if-at-bytes.false in
     let more : at < length bytes = grind (arith, nat_tests) in
-    let small : get_or bytes at 0 < 128 = mark_ascii c.args.marks (get_or bytes at 0) (c.plain_len-at.ensures.mark more) in
+    let small : get_or bytes at 0 < 128 = mark_ascii (get_or bytes at 0) (c.plain_len-at.ensures.mark more) in
     let same : at + 0 ≡ at = omega arith in
     let first : get_or marked 0 0 ≡ get_or bytes at 0 =
     ap (λ t. get_or t 0 0) c.split_at.ensures.back ∙ get_or-drop at text 0 0 ∙ ap (λ k. get_or text k 0) same ∙ ap (λ t. get_or t at 0) (sym c.as_bytes-bytes.ensures.value) in

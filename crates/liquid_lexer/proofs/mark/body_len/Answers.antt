@@ -2,7 +2,7 @@ use Rattle.std.proofs.Common.{◌≡◌, length, ℕ, ◌<◌, List, suc, drop, 
 use Rattle.std.proofs.lemmas.Bool.{ne_eqb}
 use Rattle.liquid_lexer.specs.SourceReading.{in_body, goes_on}
 use Rattle.liquid_lexer.proofs.MarkCuts.{goes_over, in_body_is}
-use Rattle.liquid_words.proofs.Runs.{run_more, run_done}
+use Rattle.liquid_model.proofs.Runs.{run_more, run_done}
 use Rattle.liquid_lexer.proofs.mark.body_len.Goals.{then-bytes-n-ne123, else-bytes-n-ne123}
 use Rattle.liquid_lexer.proofs.mark.body_len.Goals as goal
 

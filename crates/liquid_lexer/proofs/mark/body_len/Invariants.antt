@@ -1,5 +1,5 @@
 use Rattle.std.proofs.Common.{length, drop, ◌-◌, ◌+◌, ◌≡◌, ◌≤◌}
-use Rattle.liquid_words.specs.Front.{run_len}
+use Rattle.liquid_model.specs.Front.{run_len}
 use Rattle.liquid_lexer.specs.SourceReading.{in_body}
 use Rattle.liquid_lexer.proofs.mark.body_len.Given as goal
 

@@ -1,7 +1,7 @@
 use Rattle.std.proofs.Common.{◌≡◌, suc, drop, get_or, true, false, not, ◌&&◌, sym, ap, ◌∙◌, arith}
 use Rattle.std.proofs.lemmas.Bool.{ne_eqb}
-use Rattle.liquid_words.specs.Bytes.{plain, opens}
-use Rattle.liquid_words.proofs.Runs.{after_byte, run_more, run_done}
+use Rattle.liquid_model.specs.Bytes.{plain, opens}
+use Rattle.liquid_model.proofs.Runs.{after_byte, run_more, run_done}
 use Rattle.liquid_lexer.proofs.scan.plain_len.Goals.{then-bytes-n-ne123, else-bytes-n-ne123}
 use Rattle.liquid_lexer.proofs.scan.plain_len.Goals as goal
 

@@ -1,6 +1,6 @@
 use Rattle.std.proofs.Common.{length, drop, ◌-◌, ◌+◌, ◌≡◌, ◌≤◌}
-use Rattle.liquid_words.specs.Bytes.{plain}
-use Rattle.liquid_words.specs.Front.{run_len}
+use Rattle.liquid_model.specs.Bytes.{plain}
+use Rattle.liquid_model.specs.Front.{run_len}
 use Rattle.liquid_lexer.proofs.scan.plain_len.Given as goal
 
 abbrev pub invariant-loop-n : goal.invariant-loop-n

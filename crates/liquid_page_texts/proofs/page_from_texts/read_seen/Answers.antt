@@ -10,7 +10,7 @@ returns-in_err-uses c =
     rw (p.1, p.2) (memory_faulted c.args.«data».now c.args.partials.now (tree_of c.args.template.now) c.in_err-uses.field-0.0 c.in_err-uses.ensures.memory)
 
 pub returns : goal.returns
-returns c = seen_by c.args.«data».now c.args.partials.now (tree_of c.args.template.now) (uses_view c.in_ok-uses.uses) c.data_for.result c.in_ok-uses.ensures.alone c.data_for.ensures
+returns c = seen_by c.args.«data».now c.args.partials.now (tree_of c.args.template.now) (uses_view c.in_ok-uses.uses) c.data_for.result c.in_ok-uses.ensures.alone c.data_for.ensures.alike
 
 pub returns-then-not-is_long : goal.returns-then-not-is_long
 returns-then-not-is_long c = whole_by c.args.«data».now c.args.partials.now (tree_of c.args.template.now) c.data_from_json.result c.data_from_json.ensures

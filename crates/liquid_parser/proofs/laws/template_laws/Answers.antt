@@ -1,4 +1,4 @@
-use Rattle.liquid_parser.proofs.WholeSources.{plain_sources, at_most_one_template}
+use Rattle.liquid_parser.proofs.WholeSources.{plain_sources, at_most_one_template, items_without_paths}
 use Rattle.liquid_parser.proofs.laws.template_laws.Goals as goal
 
 pub returns-clause-plain : goal.returns-clause-plain
@@ -6,3 +6,6 @@ returns-clause-plain c = plain_sources
 
 pub returns-clause-unique : goal.returns-clause-unique
 returns-clause-unique c = at_most_one_template
+
+pub returns-clause-items : goal.returns-clause-items
+returns-clause-items c = items_without_paths

@@ -3,7 +3,7 @@ use Rattle.std.proofs.lemmas.Bool.Decides.{nat_tests}
 use Rattle.std.specs.Cow.{cow_str_bytes}
 use Rattle.liquid_model.specs.Answer.{IsValueOrMemory}
 use Rattle.liquid_model.specs.Data.{Datum}
-use Rattle.liquid_filter_base.specs.Arguments.{text_or}
+use Rattle.liquid_model.specs.Arguments.{text_or}
 use Rattle.liquid_shopify_host_filters.proofs.Places.{drop_at}
 use Rattle.liquid_shopify_host_filters.proofs.argument.text_or.Goals as goal
 

@@ -3,7 +3,7 @@ use Rattle.std.proofs.lemmas.Str.{IsUtf8-string_bytes}
 use Rattle.std.specs.Str.{IsUtf8}
 use Rattle.liquid_model.proofs.Views.{view-Text}
 use Rattle.liquid_model.specs.Data.{Datum}
-use Rattle.liquid_filter_base.specs.Arguments.{Answer}
+use Rattle.liquid_model.specs.Arguments.{Answer}
 use Rattle.liquid_shopify_host_filters.specs.Codecs.{decoded_text}
 use Rattle.liquid_shopify_host_filters.proofs.Decoded.{is_decoded, not_decoded}
 use Rattle.liquid_shopify_host_filters.proofs.Faults.{faulted}

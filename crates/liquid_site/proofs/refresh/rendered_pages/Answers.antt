@@ -4,7 +4,7 @@ use Rattle.liquid_core.specs.Held.{held}
 use Rattle.liquid_language.specs.Entries.{seen}
 use Rattle.liquid_syntax.specs.Templates.{tree_of, partials_of}
 use Rattle.liquid_syntax.specs.declared.template.Template.{Template}
-use Rattle.liquid_engine.specs.Pages.{Shown, page_over}
+use Rattle.liquid_engine.specs.Pages.{Shown, page_by}
 use Rattle.liquid_model.specs.Texts.{Text}
 use Rattle.liquid_site.specs.Contents.{all_pages}
 use Rattle.liquid_site.specs.Parts.{trees_in}
@@ -17,7 +17,7 @@ use Rattle.liquid_site.proofs.refresh.rendered_pages.Goals as goal
 pub loop-page-preserved-in-Continue-branch-2 : goal.loop-page-preserved-in-Continue-branch-2
 loop-page-preserved-in-Continue-branch-2 g c =
     let context = c.args.context.now in
-    let show = page_over context.depth (partials_of context.partials.now) (held context.«data».now) in
+    let show = page_by context.setting (partials_of context.partials.now) (held context.«data».now) in
     let test = selects c.args.selection in
     let t = tree_of c.in-Some.template.now in
     let e : String Global × Template = (c.in-Some.page.now, c.in-Some.template.now) in
@@ -38,7 +38,7 @@ loop-page-preserved-in-Continue-branch-2 g c =
 pub loop-page-preserved : goal.loop-page-preserved
 loop-page-preserved g c =
     let context = c.args.context.now in
-    let show = page_over context.depth (partials_of context.partials.now) (held context.«data».now) in
+    let show = page_by context.setting (partials_of context.partials.now) (held context.«data».now) in
     let test = selects c.args.selection in
     let t = tree_of c.in-Some.template.now in
     let e : String Global × Template = (c.in-Some.page.now, c.in-Some.template.now) in
@@ -50,7 +50,7 @@ loop-page-preserved g c =
 pub loop-page-init : goal.loop-page-init
 loop-page-init g c =
     let context = c.args.context.now in
-    let show = page_over context.depth (partials_of context.partials.now) (held context.«data».now) in
+    let show = page_by context.setting (partials_of context.partials.now) (held context.«data».now) in
     let test = selects c.args.selection in
     let all : c.into_iter-page-iterator.result ≡ c.args.templates.now.entries = search rules in (
       [],

@@ -11,7 +11,7 @@ returns-clause-turned c = λ before t e.
     let at : c.index_mut.result.now ≡ scope.LoopFrame t = c.index_mut.ensures.value ∙ ap (λ n. slice_index_or s (n - 1) c.index_mut.result.now) many ∙ innermost_is s before t _ e in
     let went = c.go_on.ensures t at in
     let now : slice_set s (c.len-innermost.result - 1) c.go_on.new.self ≡ before ++ scope.LoopFrame went.0 ∷ [] = ap (λ n. slice_set s (n - 1) c.go_on.new.self) many ∙ innermost_set s before t c.go_on.new.self e ∙ ap (λ x. before ++ x ∷ []) went.1.0 in
-    advanced c.args.self.now _ before t went.0 e now went.1.1 refl refl refl refl refl refl refl
+    advanced c.args.self.now _ before t went.0 e now went.1.1 refl refl refl refl refl refl refl refl
 
 pub returns-clause-loops : goal.returns-clause-loops
 returns-clause-loops c = λ before t e.

@@ -1,6 +1,6 @@
 use Rattle.std.proofs.Common.{length, subst, sym}
 use Rattle.liquid_language.specs.declared.block.Block.TheVariants as blocks
-use Rattle.liquid_language.specs.declared.language.BlockKind.{BlockKind}
+use Rattle.liquid_language.specs.declared.registry.BlockKind.{BlockKind}
 use Rattle.liquid_lexer.specs.Tokens.{tokens_view}
 use Rattle.liquid_lexer.specs.declared.fault.FaultKind.TheVariants.{Expected}
 use Rattle.liquid_parser.specs.Classification.{block_statement}

@@ -2,6 +2,7 @@ use Rattle.std.proofs.Common.{rules, ◌≡◌, length, ◌-◌, ◌<◌, [], sy
 use Rattle.std.proofs.lemmas.Result.{err_from_is_err_and}
 use Rattle.liquid_lexer.specs.PieceView.{markup_view}
 use Rattle.liquid_lexer.specs.SourceReading.{source_at}
+use Rattle.liquid_language.specs.Styles.{style_of}
 use Rattle.liquid_parser.specs.inside.Building.{AdvancesTo, text_added}
 use Rattle.liquid_parser.specs.inside.TemplateReading.{body_of, piece_step}
 use Rattle.liquid_parser.specs.OpenBlocks.{State}
@@ -67,7 +68,7 @@ pieces-preserved c =
     went_shorter l all c.pieces.rest.now c.text_before.result.0.now c.text_before.result.1.now v.0 c.pieces.strip_next v.1 v.2 v.5 c.text_before.ensures
     c.in-Some.inside.now c.in-Some.ensures (markup_view c.in_ok-found.found.0, c.in_ok-found.found.1.now) c.in_ok-found.ensures c.stripped-in-pieces.result.now c.stripped-in-pieces.ensures w.0 w.1 in
     let lt : length c.in_ok-strips.after.now < length c.pieces.rest.now = subst (λ (l : List ℕ). length l < length c.pieces.rest.now) (sym w.3) shorter in
-    let went : all ≡ source_at (body_of l) (piece_step l) (v.0 - 1) w.0.0.after w.4 w.0.1 =
+    let went : all ≡ source_at (style_of l) (body_of l) (piece_step l) (v.0 - 1) w.0.0.after w.4 w.0.1 =
     went_on l all c.pieces.rest.now c.text_before.result.0.now c.text_before.result.1.now v.0 c.pieces.strip_next v.1 v.2 v.5 c.text_before.ensures
     c.in-Some.inside.now c.in-Some.ensures (markup_view c.in_ok-found.found.0, c.in_ok-found.found.1.now) c.in_ok-found.ensures c.stripped-in-pieces.result.now c.stripped-in-pieces.ensures w.0 w.1 w.4 v.3 w.5 in (
       v.0 - 1,
@@ -76,7 +77,7 @@ pieces-preserved c =
       omega (arith, lt, v.3),
       w.6,
       went
-          ∙ ap (λ (k : Bool). source_at (body_of l) (piece_step l) (v.0 - 1) k w.4 w.0.1) (sym w.2)
-          ∙ ap (λ (bs : List ℕ). source_at (body_of l) (piece_step l) (v.0 - 1) c.in_ok-strips.strips w.4 bs) (sym w.3),
+          ∙ ap (λ (k : Bool). source_at (style_of l) (body_of l) (piece_step l) (v.0 - 1) k w.4 w.0.1) (sym w.2)
+          ∙ ap (λ (bs : List ℕ). source_at (style_of l) (body_of l) (piece_step l) (v.0 - 1) c.in_ok-strips.strips w.4 bs) (sym w.3),
       search rules,
     )

@@ -8,4 +8,4 @@ use Rattle.liquid_site.proofs.limited_site.LimitedSite.new.Goals as goal
 pub returns-clause-contents : goal.returns-clause-contents
 returns-clause-contents c =
     let none = ap (λ es. map_of (pairs_view es)) c.new.ensures.empty ∙ no_data in
-    c.with_data.ensures.contents ∙ ap (λ f. record (no_contents c.args.depth) { «data» = f }) none
+    c.with_data.ensures.contents ∙ (λ i. record (no_contents (c.strict-setting.ensures i)) { «data» = none i })

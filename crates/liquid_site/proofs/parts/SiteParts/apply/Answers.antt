@@ -11,7 +11,7 @@ use Rattle.liquid_syntax.specs.Templates.{tree_of, partials_of, slots_of}
 use Rattle.liquid_syntax.specs.declared.template.Template.{Template}
 use Rattle.liquid_language.proofs.Inserted.{named}
 use Rattle.liquid_site.specs.Applied.{IsStep}
-use Rattle.liquid_language.specs.declared.language.Language.{Language}
+use Rattle.liquid_language.specs.declared.registry.Language.{Language}
 use Rattle.liquid_site.specs.Contents.{Contents, page_of, pages_from_scratch}
 use Rattle.liquid_site.specs.PartViews.{site_parts_view}
 use Rattle.liquid_site.specs.declared.parts.SiteParts.{SiteParts}
@@ -76,10 +76,10 @@ returns-in_ok-reserve-in-SetPartial-clause-applied g c =
     let only : IsOnlyTree l t (string_bytes c.in-SetPartial.source) = subst (IsOnlyTree l t) c.as_str-in-SetPartial.ensures.value c.in_ok-template-in-SetPartial.ensures.parses in
     let named = c.as_str-in-SetPartial-3.ensures.value in
     let same = c.in_ok-reserve-in-SetPartial.ensures.same in
-    let meant : record { depth = old.depth; pages = trees_in old.templates; partials = put_entry c.as_str-in-SetPartial-3.result.now t (partials_of c.reserve.new.self); «data» = held old.«data» } ≡ stepped s (contents_of old) =
-    λ i. record { depth = old.depth; pages = trees_in old.templates; partials = put_entry (named i) t (same i); «data» = held old.«data» } in
-    let before : record { depth = old.depth; pages = trees_in old.templates; partials = partials_of c.reserve.new.self; «data» = held old.«data» } ≡ contents_of old =
-    λ i. record { depth = old.depth; pages = trees_in old.templates; partials = same i; «data» = held old.«data» } in
+    let meant : record { setting = old.setting; pages = trees_in old.templates; partials = put_entry c.as_str-in-SetPartial-3.result.now t (partials_of c.reserve.new.self); «data» = held old.«data» } ≡ stepped s (contents_of old) =
+    λ i. record { setting = old.setting; pages = trees_in old.templates; partials = put_entry (named i) t (same i); «data» = held old.«data» } in
+    let before : record { setting = old.setting; pages = trees_in old.templates; partials = partials_of c.reserve.new.self; «data» = held old.«data» } ≡ contents_of old =
+    λ i. record { setting = old.setting; pages = trees_in old.templates; partials = same i; «data» = held old.«data» } in
     applied c.args.change r (site_parts_view old) (site_parts_view new) s (subst (λ ch. IsStep l ch s) (sym c.in-SetPartial.is) (t, only, refl)) (subst (λ x. IsValueOrMemory (λ u. contents_of new) r x) meant c.exchange_partial.ensures.set) c.exchange_partial.ensures.counted
     (subst (λ x. OnErr r (contents_of new ≡ x)) before c.exchange_partial.ensures.unchanged) c.exchange_partial.ensures.uncounted
 

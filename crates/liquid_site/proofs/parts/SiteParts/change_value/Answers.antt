@@ -4,7 +4,7 @@ use Rattle.liquid_model.specs.View.{view}
 use Rattle.liquid_core.specs.Held.{held}
 use Rattle.liquid_evaluation.specs.Tree.{Nodes}
 use Rattle.liquid_syntax.specs.Templates.{partials_of}
-use Rattle.liquid_engine.specs.Pages.{page_over}
+use Rattle.liquid_engine.specs.Pages.{page_by}
 use Rattle.liquid_site.specs.PartViews.{site_parts_view}
 use Rattle.liquid_core.specs.DataChanges.{with_value}
 use Rattle.liquid_site.specs.Steps.{saturated_sum}
@@ -15,7 +15,7 @@ use Rattle.liquid_site.proofs.parts.SiteParts.change_value.Goals as goal
 pub exchange_data-requires-clause-untouched : goal.exchange_data-requires-clause-untouched
 exchange_data-requires-clause-untouched g c = λ nodes h.
     let s = c.args.self.now in
-    ap (λ m. page_over s.depth (partials_of s.partials) m nodes) c.in_ok-data.ensures
+    ap (λ m. page_by s.setting (partials_of s.partials) m nodes) c.in_ok-data.ensures
     ∙ untouched (site_parts_view s).contents c.args.name.now (option_map view c.args.value) nodes (sym (ap (λ (test : Nodes → Bool). test nodes) c.by_name-selection.ensures) ∙ h)
 
 pub returns-clause-set : goal.returns-clause-set

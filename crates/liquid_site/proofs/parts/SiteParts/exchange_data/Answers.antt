@@ -4,7 +4,7 @@ use Rattle.std.proofs.lemmas.List.{length-map}
 use Rattle.liquid_core.specs.Held.{held}
 use Rattle.liquid_syntax.specs.Templates.{tree_of, partials_of}
 use Rattle.liquid_syntax.proofs.Held.{ascend_seen}
-use Rattle.liquid_engine.specs.Pages.{page_over}
+use Rattle.liquid_engine.specs.Pages.{page_by}
 use Rattle.liquid_site.specs.Contents.{all_pages, page_of, pages_from_scratch}
 use Rattle.liquid_site.specs.PartViews.{site_parts_view}
 use Rattle.liquid_site.specs.Parts.{by_name, trees_in}
@@ -19,7 +19,7 @@ returns-clause-keeps g c =
     let s = c.args.self.now in
     let ts = trees_in s.templates in
     let test = selects c.args.selection in
-    let show = page_over s.depth (partials_of s.partials) (held c.args.«data») in
+    let show = page_by s.setting (partials_of s.partials) (held c.args.«data») in
     let before = pages_from_scratch (site_parts_view s).contents in
     let fresh = all_pages show (selected test ts) in
     let pages = listed_pages c.in_ok-fresh.fresh.items in
@@ -30,7 +30,7 @@ returns-clause-keeps g c =
 pub returns-clause-counted : goal.returns-clause-counted
 returns-clause-counted g c =
     let s = c.args.self.now in
-    let show = page_over s.depth (partials_of s.partials) (held c.args.«data») in
+    let show = page_by s.setting (partials_of s.partials) (held c.args.«data») in
     let fresh = all_pages show (selected (selects c.args.selection) (trees_in s.templates)) in
     let items : vec_len c.in_ok-fresh.fresh ≡ length c.in_ok-fresh.fresh.items = search rules in
     let as_many = sym (length-map c.in_ok-fresh.fresh.items _) ∙ same_length g.R.Rendering.shows fresh (listed_pages c.in_ok-fresh.fresh.items) c.in_ok-fresh.ensures.pages in

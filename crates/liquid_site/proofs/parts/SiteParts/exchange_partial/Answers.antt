@@ -7,7 +7,7 @@ use Rattle.liquid_language.specs.Entries.{placed}
 use Rattle.liquid_syntax.specs.Slots.{filled}
 use Rattle.liquid_syntax.specs.Templates.{tree_of, partials_of, slots_of}
 use Rattle.liquid_syntax.proofs.Held.{ascend_seen, placed_back}
-use Rattle.liquid_engine.specs.Pages.{page_over}
+use Rattle.liquid_engine.specs.Pages.{page_by}
 use Rattle.liquid_site.specs.Contents.{all_pages, pages_from_scratch}
 use Rattle.liquid_site.specs.PartViews.{site_parts_view}
 use Rattle.liquid_site.specs.Parts.{by_name, trees_in}
@@ -25,7 +25,7 @@ returns-in-Ok-clause-keeps g c =
     let s = c.args.self.now in
     let n = c.args.name.now in
     let partials = partials_of c.exchange-before.new.self in
-    let show = page_over s.depth partials (held s.«data») in
+    let show = page_by s.setting partials (held s.«data») in
     let before = pages_from_scratch (site_parts_view s).contents in
     let fresh = all_pages show (selected (selects All) (trees_in s.templates)) in
     let pages = listed_pages c.in-Ok.fresh.items in
@@ -44,14 +44,14 @@ returns-in-Err-clause-keeps g c =
     let b = option_map tree_of c.exchange-before.result in
     let n = c.args.name.now in
     let back = c.exchange.ensures.slot ∙ ap (placed n b) c.exchange-before.ensures.slot ∙ placed_back n b x (slots_of s.partials) c.exchange-before.ensures.out in
-    subst (λ ws. AreShown g.R.Rendering.shows ws (by_name s.pages)) (ap (λ ps. all_pages (page_over s.depth (filled ps) (held s.«data»)) (trees_in s.templates)) (sym back)) c.requires.shown
+    subst (λ ws. AreShown g.R.Rendering.shows ws (by_name s.pages)) (ap (λ ps. all_pages (page_by s.setting (filled ps) (held s.«data»)) (trees_in s.templates)) (sym back)) c.requires.shown
 
 pub returns-in-Ok-clause-counted : goal.returns-in-Ok-clause-counted
 returns-in-Ok-clause-counted g c =
     let s = c.args.self.now in
     let n = c.args.name.now in
     let ts = trees_in s.templates in
-    let fresh = all_pages (page_over s.depth (partials_of c.exchange-before.new.self) (held s.«data»)) (selected (selects All) ts) in
+    let fresh = all_pages (page_by s.setting (partials_of c.exchange-before.new.self) (held s.«data»)) (selected (selects All) ts) in
     let items : vec_len c.in-Ok.fresh ≡ length c.in-Ok.fresh.items = search rules in
     let as_many = sym (length-map c.in-Ok.fresh.items _) ∙ same_length g.R.Rendering.shows fresh (listed_pages c.in-Ok.fresh.items) c.in-Ok.ensures.pages in
     c.saturating_add-self.ensures ∙ ap (saturated_sum s.rendered) (c.len.ensures ∙ items ∙ as_many ∙ length-map _ _ ∙ ap length (all_selected ts))
@@ -63,4 +63,4 @@ returns-in-Err-clause-unchanged g c =
     let b = option_map tree_of c.exchange-before.result in
     let n = c.args.name.now in
     let back = c.exchange.ensures.slot ∙ ap (placed n b) c.exchange-before.ensures.slot ∙ placed_back n b x (slots_of s.partials) c.exchange-before.ensures.out in
-    λ i. record { depth = s.depth; pages = trees_in s.templates; partials = filled (back i); «data» = held s.«data» }
+    λ i. record { setting = s.setting; pages = trees_in s.templates; partials = filled (back i); «data» = held s.«data» }

@@ -9,7 +9,7 @@ pub returns-clause-removed : goal.returns-clause-removed
 returns-clause-removed g c =
     let s = c.args.self.now in
     let taken = ap (seen tree_of) c.remove.ensures.entries ∙ seen_removed tree_of c.args.name.now s.templates.entries in
-    λ i. record { depth = s.depth; pages = taken i; partials = partials_of s.partials; «data» = held s.«data» }
+    λ i. record { setting = s.setting; pages = taken i; partials = partials_of s.partials; «data» = held s.«data» }
 
 pub returns-clause-pages : goal.returns-clause-pages
 returns-clause-pages g c = ap (seen (λ p. p)) c.remove-2.ensures.entries ∙ seen_removed (λ p. p) c.args.name.now c.args.self.now.pages.entries

@@ -6,6 +6,6 @@ use Rattle.liquid_site.proofs.parts.SiteParts.with_data.Goals as goal
 pub returns-clause-parts : goal.returns-clause-parts
 returns-clause-parts g c = λ i. record {
   language = c.args.language;
-  contents = record { depth = c.args.depth; pages = seen tree_of (c.new.ensures.empty i); partials = c.new-2.ensures i; «data» = held c.args.«data» };
+  contents = record { setting = c.args.setting; pages = seen tree_of (c.new.ensures.empty i); partials = c.new-2.ensures i; «data» = held c.args.«data» };
   rendered = 0;
 }

@@ -1,0 +1,122 @@
+# frozen_string_literal: true
+
+module JekyllBikleinu
+  # Renders the pages of one site, and counts how many were rendered by which engine.
+  class Engine
+    # How deep includes may stand in one another, and how often a page may ask its filters.
+    LIMITS = { depth: 100, rounds: 1000 }.freeze
+    # Filters that are no functions of their input.
+    RANDOM = %w[sample].freeze
+    # A rendering: which one it is, and what Jekyll gives it.
+    Call = Struct.new(:number, :payload, :info)
+
+    attr_reader :counts
+
+    def initialize(site)
+      @site = site
+      @options = site.config['bikleinu'].is_a?(Hash) ? site.config['bikleinu'] : {}
+      begin_build
+    end
+
+    # Forgets all that a build before this one knew.
+    def begin_build
+      @counts = Hash.new(0)
+      @environment = nil
+      @templates = {}
+      @tags = {}
+      @number = 0
+      @renderings = {}
+    end
+
+    def strict?
+      @options['strict']
+    end
+
+    def verify?
+      @options['verify']
+    end
+
+    # A source in this language.
+    def source(text)
+      (@source ||= Source.new).of(text)
+    end
+
+    # The page of a source, or a Refused or an Error that says why this engine makes none.
+    def page(filename, content, payload, info)
+      raise Refused, "strict_variables and strict_filters are Liquid's" if info[:strict_variables] || info[:strict_filters]
+
+      template = template(filename, content)
+      raise template if template.is_a?(Exception)
+
+      rendering = Call.new(@number += 1, payload, info)
+      @renderings[rendering.number] = rendering
+      template.render!(Payload.new(payload, Source::NAME => rendering.number))
+    ensure
+      @renderings.delete(rendering.number) if rendering
+    end
+
+    # Says how many pages were rendered by which engine.
+    def report
+      own, others, differing = @counts.values_at(:own, :others, :differing)
+      verified = verify? ? ", #{differing} other than by Liquid" : ''
+      Jekyll.logger.info 'Bikleinu:', "#{own} renderings#{verified}, and #{others} by Liquid"
+    end
+
+    private
+
+    # The template of a source, or the error that it is refused by. A file may have one source after the other.
+    def template(filename, content)
+      known = @templates[filename]
+      return known[1] if known && known[0] == content
+
+      @templates[filename] = [content, parsed(content)]
+      @templates[filename][1]
+    end
+
+    def parsed(content)
+      environment.parse(source(content))
+    rescue Bikleinu::Error, Refused, EncodingError => e
+      e
+    end
+
+    def environment
+      @environment ||= Bikleinu::Environment.new(
+        jekyll: true, partials: Includes.new(self, @site), missing: :nil, decimals: :text, times: true, **LIMITS
+      ).tap { |made| filters(made) }
+    end
+
+    # Filters of Jekyll's and of plugins are Ruby's own; those of Liquid are this engine's, unless a plugin has others of their names.
+    def filters(environment)
+      strainer = Liquid::StrainerFactory.create(SiteContext.new(@site))
+      Liquid::StrainerFactory.global_filter_names.each do |name|
+        next if RANDOM.include?(name) || strainer.method(name).owner == Liquid::StandardFilters
+
+        environment.filter(name) { |input, *arguments| strainer.invoke(name, input, *arguments) }
+      end
+      environment.filter(Source::FILTER) { |number, at| tag(@renderings.fetch(number), @source.tags.fetch(at)) }
+    end
+
+    # The text of a tag, by its own class.
+    def tag(rendering, text)
+      template = (@tags[text] ||= Liquid::Template.parse(text))
+      template.instance_assigns.clear
+      template.render!(rendering.payload, rendering.info)
+    end
+  end
+
+  # What Jekyll gives a page, with the number of its rendering.
+  class Payload
+    def initialize(payload, more)
+      @payload = payload
+      @more = more
+    end
+
+    def key?(name)
+      @more.key?(name) || @payload.key?(name)
+    end
+
+    def [](name)
+      @more.fetch(name) { @payload[name] }
+    end
+  end
+end

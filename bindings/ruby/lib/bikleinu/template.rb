@@ -1,0 +1,136 @@
+# frozen_string_literal: true
+
+module Bikleinu
+  # What a template shows: the text up to the fault, and the fault that the run ended by, or nil.
+  class Page
+    TOO_MANY_LEVELS = 103
+    private_constant :TOO_MANY_LEVELS
+
+    attr_reader :text, :fault
+
+    def initialize(text, fault = nil)
+      @text = text
+      @fault = fault
+      freeze
+    end
+
+    def self.of(made)
+      fault = Fault.of(made) unless made.number.zero?
+      new(made.number == TOO_MANY_LEVELS ? '' : made.text(Fault::TEXT), fault)
+    ensure
+      made.release
+    end
+  end
+
+  # A template, which is rendered any number of times, in any number of threads.
+  class Template
+    # The template of a source, in an environment, or by itself. A SyntaxError says what the language refuses.
+    def self.parse(source, environment: Environment.default)
+      environment.parse(source)
+    end
+
+    # Makes filters of the public methods of a module, for templates that are parsed from now on without an environment.
+    def self.register_filter(methods)
+      Environment.default.register_filter(methods)
+    end
+
+    # What it was parsed from.
+    attr_reader :source
+    # The faults of the last call of render or render!.
+    attr_reader :errors
+
+    def initialize(source, environment)
+      @source = Text.utf8(source, 'a source').dup.freeze
+      @environment = environment
+      @handle = environment.parsed(@source).lend
+      @errors = []
+    end
+
+    # The page's text. Where the run ended by a fault it stands at the end of it, as in Liquid, and in errors.
+    def render(data = nil, options = nil)
+      page = page(data, options)
+      @errors = [page.fault].compact
+      page.fault ? "#{page.text}Liquid error: #{page.fault.message}" : page.text
+    end
+
+    # The page's text, or the fault that the run ended by is raised.
+    def render!(data = nil, options = nil)
+      page = page(data, options)
+      @errors = [page.fault].compact
+      raise page.fault if page.fault
+
+      page.text
+    end
+
+    # The page: its text up to a fault, and the fault.
+    #
+    # Data are a Hash, a drop, Data or a text of JSON, of which a Hash or a drop are asked for what the template and its partials
+    # use. Options are depth:, levels:, bytes:, turns:, rounds: and missing:, as of an Environment.
+    def page(data = nil, options = nil)
+      settings = @environment.settings.with(options)
+      (0..).each do |round|
+        partials = @environment.partials.state
+        page = rendered(data, partials, settings)
+        return page unless page.fault
+
+        fault = @environment.partials.read_for(page.fault, @source, round)
+        return fault.equal?(page.fault) ? page : Page.new(page.text, fault) if fault
+      end
+    end
+
+    # The names that the template and its partials mention: a page depends on no other names of the data.
+    def names
+      JSON.parse(Fault.check(@handle.names(@environment.partials.state.handle)).text(Fault::TEXT))
+    end
+
+    # What the template and its partials use of their data, as "products[].title".
+    def paths
+      JSON.parse(found(@environment.partials.state)[1].text(Fault::TEXT))
+    end
+
+    # Data of which no more is read than this template and its partials use.
+    def data(data)
+      state = @environment.partials.state
+      _, paths, plan = found(state)
+      conversions = @environment.settings.conversions
+      Data.of(data.is_a?(String) ? Data.read(data, conversions, nil, paths) : Data.read(data, conversions, plan))
+    end
+
+    def initialize_copy(_other)
+      raise TypeError, 'a Template can be shared, and is not copied'
+    end
+
+    private
+
+    def rendered(data, partials, settings)
+      ready = ready(data, settings, partials)
+      filters = @environment.filters
+      return Page.of(@handle.render(ready, partials.handle, nil, settings.depth, settings.limits)) if filters.empty?
+
+      Run.new(filters, settings).page do |answers|
+        @handle.render(ready, partials.handle, answers, settings.depth, settings.limits)
+      end
+    ensure
+      ready&.release unless data.is_a?(Data)
+    end
+
+    # The handle of the data, or nil for none.
+    def ready(data, settings, partials)
+      case data
+      when nil then nil
+      when Data then data.handle
+      when String then Data.read(data, settings.conversions)
+      else Data.read(data, settings.conversions, found(partials)[2])
+      end
+    end
+
+    # The paths with these partials, and the plan of them, which are kept for the next page.
+    def found(partials)
+      known = @found
+      return known if known && known[0].equal?(partials)
+
+      paths = Fault.check(@handle.paths(partials.handle)).lend
+      @found = [partials, paths, Plan.of(JSON.parse(paths.text(Fault::TEXT)))].freeze
+    end
+  end
+end

@@ -1,4 +1,0 @@
-pub mod Inputs
-pub mod Lines
-pub mod Sources
-pub mod Stops

@@ -1,0 +1,4 @@
+pub mod Endings
+pub mod Pushed
+pub mod Standing
+pub mod Turns

@@ -1,0 +1,188 @@
+//! The options that are a way out of a fault.
+ghost use Rattle.std.specs.Prelude.{◌≡◌, Some};
+ghost use Rattle.liquid_commands.specs.Tips.{checked_tip, data_tip, exchanged_tip};
+ghost use Rattle.liquid_commands.specs.Tips.{first_line_tip, no_file_tip, page_tip};
+ghost use Rattle.liquid_commands.specs.Tips.{record_tip, set_tip, source_tip, tip_text, value_tip};
+
+use crate::words::{ends_in, is_template_name, is_toml, is_yaml, split_at_equals};
+use liquid_core::Missing;
+use liquid_model::ErrorKind;
+use std::fmt;
+
+/// What a call may be changed to where it ends by a fault.
+#[derive(Clone, Copy, Debug, PartialEq, Eq, Drop)]
+pub enum Tip {
+    /// The templates are Jekyll's.
+    Jekyll,
+    /// The templates are Shopify's.
+    Shopify,
+    /// The templates compute with decimals.
+    Decimals,
+    /// What is missing may be nil.
+    MissingIsNil,
+    /// The partial is in a file.
+    Partials,
+    /// A number that isn't whole may be a text.
+    DecimalsAsTexts,
+    /// The data may be JSON or TOML.
+    PartOfYaml,
+    /// The value of the command line is a text.
+    TextValue,
+    /// The records are a table.
+    Table,
+    /// The template stands before the data.
+    TemplateFirst,
+    /// A value is given on the command line.
+    Define,
+    /// The data of templates that are checked is in files.
+    DataFile,
+}
+
+/// What is to be said of it.
+impl fmt::Display for Tip {
+    ghost output = { λ tip. Some (tip_text tip) };
+
+    fn fmt<W: fmt::Write>(&self, f: &mut fmt::Formatter<W>) -> fmt::Result {
+        f.write_str(match self {
+            Tip::Jekyll => "--filters jekyll has it",
+            Tip::Shopify => "--filters shopify has it",
+            Tip::Decimals => "--filters decimals has it",
+            Tip::MissingIsNil => "--missing nil goes on with nil",
+            Tip::Partials => "-p NAME=FILE gives a partial, and -p DIR each file of a folder",
+            Tip::DecimalsAsTexts => "--decimals text reads such a number as a text",
+            Tip::PartOfYaml => "a part of YAML is read; JSON and TOML are read whole",
+            Tip::TextValue => "-D NAME=TEXT gives a text, without `:`",
+            Tip::Table => "--records-format csv reads a table",
+            Tip::TemplateFirst => "the template comes first, and its data or records after it",
+            Tip::Define => "-D NAME=TEXT gives a value, and -D NAME:=JSON one of another kind",
+            Tip::DataFile => "-d FILE gives data; each PATH is a template",
+        })
+    }
+}
+
+/// The tip for a fault of this kind in the source of a template, where the language of Jekyll, of
+/// Shopify or of decimals has the tag or filter that isn't known. It takes no memory.
+pub fn source_tip(
+    kind: ErrorKind,
+    jekyll_has: bool,
+    shopify_has: bool,
+    decimals_have: bool,
+) -> Option<Tip>
+    ensures { result ≡ source_tip kind jekyll_has shopify_has decimals_have }
+{
+    match kind {
+        ErrorKind::UnknownTag | ErrorKind::UnknownFilter => {
+            set_tip(jekyll_has, shopify_has, decimals_have)
+        }
+        _ => None,
+    }
+}
+
+fn set_tip(jekyll_has: bool, shopify_has: bool, decimals_have: bool) -> Option<Tip>
+    ensures { result ≡ set_tip jekyll_has shopify_has decimals_have }
+{
+    match (jekyll_has, shopify_has, decimals_have) {
+        (true, _, _) => Some(Tip::Jekyll),
+        (false, true, _) => Some(Tip::Shopify),
+        (false, false, true) => Some(Tip::Decimals),
+        (false, false, false) => None,
+    }
+}
+
+/// The tip for a fault of this kind that ends a page, where what is missing is a fault, or nil.
+/// It takes no memory.
+pub fn page_tip(kind: ErrorKind, missing: Missing) -> Option<Tip>
+    ensures { result ≡ page_tip kind missing }
+{
+    match (kind, missing) {
+        (ErrorKind::UnknownVariable, Missing::IsFault) => Some(Tip::MissingIsNil),
+        (ErrorKind::UnknownPartial, _) => Some(Tip::Partials),
+        _ => None,
+    }
+}
+
+/// The tip for a fault of this kind in the file of data at a path, read with numbers that aren't
+/// whole as texts or without. TOML doesn't keep their spelling. It takes no memory.
+pub fn data_tip(kind: ErrorKind, path: &str, decimals_as_texts: bool) -> Option<Tip>
+    ensures { result ≡ data_tip kind path.now decimals_as_texts }
+{
+    if kind == ErrorKind::Float && !is_toml(path) && !decimals_as_texts {
+        return Some(Tip::DecimalsAsTexts);
+    }
+    if is_yaml(path) {
+        return Some(Tip::PartOfYaml);
+    }
+    exchanged_tip(kind, path)
+}
+
+/// The tip where a template stands in the place of the data, by the name of its file.
+fn exchanged_tip(kind: ErrorKind, path: &str) -> Option<Tip>
+    ensures { result ≡ exchanged_tip kind path.now }
+{
+    match kind {
+        ErrorKind::InvalidInput if is_template_name(path) => Some(Tip::TemplateFirst),
+        _ => None,
+    }
+}
+
+/// The tip where the file of data at this path isn't there: it gives a name a value. It takes no
+/// memory.
+pub fn no_file_tip(path: &str) -> Option<Tip>
+    ensures { result ≡ no_file_tip path.now }
+{
+    match split_at_equals(path) {
+        Some(_) => Some(Tip::Define),
+        None => None,
+    }
+}
+
+/// The tip where a file at this path is checked as a template: it is one of data by its name. It
+/// takes no memory.
+pub fn checked_tip(path: &str) -> Option<Tip>
+    ensures { result ≡ checked_tip path.now }
+{
+    if ends_in(path, ".json") || is_toml(path) {
+        Some(Tip::DataFile)
+    } else {
+        None
+    }
+}
+
+/// The tip for a fault of this kind in the JSON of a value of the command line. It takes no
+/// memory.
+pub fn value_tip(kind: ErrorKind) -> Option<Tip>
+    ensures { result ≡ value_tip kind }
+{
+    match kind {
+        ErrorKind::Float => Some(Tip::DecimalsAsTexts),
+        ErrorKind::InvalidInput => Some(Tip::TextValue),
+        _ => None,
+    }
+}
+
+/// The tip for a fault of this kind in a record that is a line of JSON in the file at a path: where
+/// the first line is none, the file may be a template or a table. It takes no memory.
+pub fn record_tip(
+    kind: ErrorKind,
+    path: &str,
+    decimals_as_texts: bool,
+    is_first: bool,
+) -> Option<Tip>
+    ensures { result ≡ record_tip kind path.now decimals_as_texts is_first }
+{
+    match kind {
+        ErrorKind::Float if !decimals_as_texts => Some(Tip::DecimalsAsTexts),
+        ErrorKind::InvalidInput if is_first => Some(first_line_tip(path)),
+        _ => None,
+    }
+}
+
+fn first_line_tip(path: &str) -> Tip
+    ensures { result ≡ first_line_tip path.now }
+{
+    if is_template_name(path) {
+        Tip::TemplateFirst
+    } else {
+        Tip::Table
+    }
+}

@@ -1,6 +1,0 @@
-mod Again
-mod Completed
-mod Entries
-mod Keeping
-mod Results
-mod Supplied

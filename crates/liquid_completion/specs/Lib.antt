@@ -1,4 +1,0 @@
-pub mod Completed
-pub mod PathsKept
-pub mod Supplied
-pub mod inside

@@ -1,0 +1,46 @@
+//! The byte that parts the cells of a table, as its first row has it.
+ghost use Rattle.std.specs.Prelude.{◌≡◌, IfOk};
+ghost use Rattle.liquid_data.specs.Guesses.{first_cells, guessed_delimiter};
+
+use csv::{ByteRecord, ErrorKind, ReaderBuilder};
+use std::alloc::Global;
+use std::io;
+
+/// The byte between the cells of a table that begins so: of a comma, a semicolon and a tab the
+/// first that parts its first row into more than one cell, and a comma where none does. An `Err`
+/// only where memory runs out.
+pub fn guessed_delimiter(alloc: Global, front: &[u8]) -> io::Result<u8>
+    ensures { IfOk result (λ delimiter. delimiter ≡ guessed_delimiter front.now) }
+{
+    if first_cells(alloc, front, b',')? > 1 {
+        return Ok(b',');
+    }
+    if first_cells(alloc, front, b';')? > 1 {
+        return Ok(b';');
+    }
+    if first_cells(alloc, front, b'\t')? > 1 {
+        return Ok(b'\t');
+    }
+    Ok(b',')
+}
+
+/// How many cells the first row of a text has with this byte between them; none where there is no
+/// row.
+fn first_cells(alloc: Global, front: &[u8], delimiter: u8) -> io::Result<usize>
+    ensures { IfOk result (λ count. count ≡ first_cells delimiter front.now) }
+{
+    let mut reader = ReaderBuilder::new()
+        .has_headers(false)
+        .flexible(true)
+        .delimiter(delimiter)
+        .from_reader(alloc, front);
+    let mut row = ByteRecord::new(alloc);
+    match reader.read_byte_record(&mut row) {
+        Ok(true) => Ok(row.len()),
+        Ok(false) => Ok(0),
+        Err(refused) => match refused.into_kind() {
+            ErrorKind::Io(refused) => Err(refused),
+            _ => Err(io::Error::from(io::ErrorKind::OutOfMemory)),
+        },
+    }
+}

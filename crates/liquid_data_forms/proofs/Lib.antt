@@ -1,4 +1,0 @@
-mod Alike
-mod Members
-mod Objects
-mod Turns

@@ -1,4 +1,0 @@
-//! The extra set of filters.
-mod date;
-
-pub use date::DateInTz;

@@ -1,4 +1,0 @@
-//! The standard set of filters.
-mod filters;
-
-pub use filters::date::Date;

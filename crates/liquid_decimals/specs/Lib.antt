@@ -1,0 +1,7 @@
+pub mod Answers
+pub mod Decimals
+pub mod Kinds
+pub mod Laws
+pub mod Readings
+pub mod Sums
+pub mod Written

@@ -1,5 +1,0 @@
-use Rattle.std.proofs.Common.{◌≡◌}
-use Rattle.liquid_disk.proofs.folders.flush_folders.Given as goal
-
-abbrev pub invariant-loop-folder : goal.invariant-loop-folder
-invariant-loop-folder g l = g.S.FileSystem.story l.system ≡ g.S.FileSystem.story l.fn.system

@@ -1,7 +1,0 @@
-use Rattle.liquid_disk.specs.Parts.{IsKept}
-use Rattle.liquid_disk.specs.Stories.{Between}
-use Rattle.liquid_disk.proofs.folders.remove_parts.Given as goal
-
--- no file but parts changed so far
-abbrev pub invariant-loop-part : goal.invariant-loop-part
-invariant-loop-part g l = Between IsKept (g.S.FileSystem.story l.initial.system) (g.S.FileSystem.story l.system)

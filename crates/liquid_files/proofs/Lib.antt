@@ -1,0 +1,5 @@
+pub mod Below
+pub mod LastSign
+pub mod Numbered
+pub mod ShownNames
+pub mod Told

@@ -1,0 +1,16 @@
+pub mod Entries
+pub mod Faults
+pub mod FileNames
+pub mod Files
+pub mod Full
+pub mod Lines
+pub mod Names
+pub mod PartialNames
+pub mod Parts
+pub mod Reasons
+pub mod ShownNames
+pub mod ShownPaths
+pub mod Standings
+pub mod Stories
+pub mod SystemWords
+pub mod Words

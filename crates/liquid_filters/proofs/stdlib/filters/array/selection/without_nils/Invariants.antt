@@ -1,0 +1,9 @@
+use Rattle.std.proofs.Common.{◌≡◌, ◌++◌, map, drop}
+use Rattle.liquid_model.specs.Lists.{list_of}
+use Rattle.liquid_model.specs.View.{view, items_view}
+use Rattle.liquid_filters.specs.Keeping.{compact}
+use Rattle.liquid_filters.proofs.stdlib.filters.array.selection.without_nils.Given as goal
+
+abbrev pub invariant-loop-item : goal.invariant-loop-item
+invariant-loop-item l =
+    compact (list_of (items_view l.items)) ≡ map view l.kept.items ++ compact (list_of (items_view (drop l.item-index l.items)))

@@ -1,0 +1,15 @@
+use Rattle.liquid_model.specs.Answer.{Answers, TakesNoMemory}
+use Rattle.liquid_model.specs.View.{view}
+use Rattle.liquid_model.specs.Arguments.{Answer}
+use Rattle.liquid_filters.specs.Numbers.{minus}
+use Rattle.liquid_filters.proofs.Operands.{of_given, one_in}
+use Rattle.liquid_filters.proofs.stdlib.filters.math.arithmetic.minus_answer.Goals as goal
+
+pub bounds-args-0 : goal.bounds-args-0
+bounds-args-0 c = one_in c.args.args.now c.requires
+
+pub returns-clause-answer : goal.returns-clause-answer
+returns-clause-answer c = of_given (λ (a : Answer). Answers view c.difference.result a) minus (view c.args.input.now) c.args.args.now c.index-args-0.result c.requires c.index-args-0.is c.difference.ensures.answer
+
+pub returns-clause-no_memory : goal.returns-clause-no_memory
+returns-clause-no_memory c = of_given (λ (a : Answer). TakesNoMemory c.difference.result a) minus (view c.args.input.now) c.args.args.now c.index-args-0.result c.requires c.index-args-0.is c.difference.ensures.no_memory

@@ -1,0 +1,2 @@
+pub mod PathView
+pub mod Replaced

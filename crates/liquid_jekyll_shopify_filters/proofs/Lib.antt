@@ -1,9 +1,0 @@
-pub mod AsciiSlugs
-pub mod EachLaw
-pub mod Ends
-pub mod Hyphens
-pub mod PathLaws
-pub mod Paths
-pub mod Plurals
-pub mod Sentences
-pub mod Slugs

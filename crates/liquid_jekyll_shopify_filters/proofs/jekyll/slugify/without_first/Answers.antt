@@ -1,5 +1,0 @@
-use Rattle.std.proofs.Common.{◌∙◌, sym}
-use Rattle.liquid_jekyll_shopify_filters.proofs.jekyll.slugify.without_first.Goals as goal
-
-pub returns : goal.returns
-returns c = sym c.in_default.ensures ∙ sym c.hyphens.invariant.1

@@ -1,4 +1,0 @@
-//! The filter set of Shopify.
-mod pluralize;
-
-pub use pluralize::Pluralize;

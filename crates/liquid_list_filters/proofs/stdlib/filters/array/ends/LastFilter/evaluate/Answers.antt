@@ -1,7 +1,0 @@
-use Rattle.std.proofs.Common.{map}
-use Rattle.liquid_model.specs.View.{view}
-use Rattle.liquid_list_filters.proofs.Standing.{lasts}
-use Rattle.liquid_list_filters.proofs.stdlib.filters.array.ends.LastFilter.evaluate.Goals as goal
-
-pub returns-clause-relation : goal.returns-clause-relation
-returns-clause-relation c = lasts (view c.args.input.now) (map view c.args.args.now) c.last_answer.result c.last_answer.ensures

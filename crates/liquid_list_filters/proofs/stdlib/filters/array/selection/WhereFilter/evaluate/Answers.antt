@@ -1,7 +1,0 @@
-use Rattle.std.proofs.Common.{map}
-use Rattle.liquid_model.specs.View.{view}
-use Rattle.liquid_list_filters.proofs.Standing.{wheres}
-use Rattle.liquid_list_filters.proofs.stdlib.filters.array.selection.WhereFilter.evaluate.Goals as goal
-
-pub returns-clause-relation : goal.returns-clause-relation
-returns-clause-relation c = wheres (view c.args.input.now) (map view c.args.args.now) c.where_answer.result c.where_answer.ensures

@@ -1,7 +1,0 @@
-use Rattle.std.proofs.Common.{map}
-use Rattle.liquid_model.specs.View.{view}
-use Rattle.liquid_list_filters.proofs.Standing.{sorts}
-use Rattle.liquid_list_filters.proofs.stdlib.filters.array.sort.SortFilter.evaluate.Goals as goal
-
-pub returns-clause-relation : goal.returns-clause-relation
-returns-clause-relation c = sorts (view c.args.input.now) (map view c.args.args.now) c.sort_answer.result c.sort_answer.ensures

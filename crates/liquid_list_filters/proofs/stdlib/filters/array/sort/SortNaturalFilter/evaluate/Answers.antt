@@ -1,7 +1,0 @@
-use Rattle.std.proofs.Common.{map}
-use Rattle.liquid_model.specs.View.{view}
-use Rattle.liquid_list_filters.proofs.Standing.{sorts_naturally}
-use Rattle.liquid_list_filters.proofs.stdlib.filters.array.sort.SortNaturalFilter.evaluate.Goals as goal
-
-pub returns-clause-relation : goal.returns-clause-relation
-returns-clause-relation c = sorts_naturally (view c.args.input.now) (map view c.args.args.now) c.sort_natural_answer.result c.sort_natural_answer.ensures

@@ -1,5 +1,0 @@
-//! Filters over numbers.
-#![tactic(auto)]
-
-pub mod laws;
-pub mod stdlib;

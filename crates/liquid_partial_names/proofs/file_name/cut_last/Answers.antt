@@ -1,5 +1,0 @@
-use Rattle.liquid_partial_names.proofs.LastSign.{split_at_last}
-use Rattle.liquid_partial_names.proofs.file_name.cut_last.Goals as goal
-
-pub returns : goal.returns
-returns c = split_at_last c.args.sign c.args.text.now _ c.rsplit_once.ensures.cases c.requires

@@ -1,5 +1,0 @@
-use Rattle.liquid_site_files.proofs.Takes.{data_set}
-use Rattle.liquid_site_files.proofs.take.set_data.Goals as goal
-
-pub returns-clause-contents : goal.returns-clause-contents
-returns-clause-contents c = data_set c.apply.result c.args.«data» c.args.site.now c.apply.new.self c.apply.ensures.applied

@@ -1,7 +1,0 @@
-use Rattle.std.proofs.Common.{map}
-use Rattle.liquid_model.specs.View.{view}
-use Rattle.liquid_text_filters.proofs.Standing.{upcases}
-use Rattle.liquid_text_filters.proofs.stdlib.filters.string.case.UpcaseFilter.evaluate.Goals as goal
-
-pub returns-clause-relation : goal.returns-clause-relation
-returns-clause-relation c = upcases c.args.input.now (map view c.args.args.now) c.upcase_answer.result c.upcase_answer.ensures

@@ -1,5 +1,0 @@
-use Rattle.liquid_text_filters.proofs.Replaced.{replaced_first_is}
-use Rattle.liquid_text_filters.proofs.stdlib.filters.string.operate.replaced_first.Goals as goal
-
-pub returns : goal.returns
-returns c = replaced_first_is c.args.replacement.now c.args.search c.args.text.now _ c.in_ok-replacen.ensures.ok

@@ -1,0 +1,95 @@
+-- How data differs from what the template needs.
+--     doubt_of want path ps      the first doubt about the values at a path in data of these pairs:
+--     they aren't there, or one of them isn't as it is wanted
+use Rattle.std.specs.Prelude.{ℕ, ◌+◌, ◌==◌, ◌||◌, min, cond, nat_lt, is_some, ℤ, pos, negsuc}
+use Rattle.std.specs.Prelude.{Bool, true, false, List, [], ◌∷◌, length, Option, Some, None}
+use Rattle.liquid_model.specs.Data.{Datum, nil, text, array, object, Pairs}
+use Rattle.liquid_model.specs.Digest.{items_len, pairs_len}
+use Rattle.liquid_model.specs.Texts.{Text}
+use Rattle.liquid_filters.specs.DateSpelling.{read}
+use Rattle.liquid_warnings.specs.DataPaths.{Lacking, lack_of, values_at_path}
+use Rattle.liquid_warnings.specs.declared.data_path.DataPath.{DataPath}
+use Rattle.liquid_warnings.specs.declared.doubt.Span.{Span}
+use Rattle.liquid_warnings.specs.declared.doubt.Want.{Want}
+use Rattle.liquid_warnings.specs.declared.doubt.Want.TheVariants.{Present, Perhaps, Date, Items}
+use Rattle.liquid_warnings.specs.declared.doubt.Want.TheVariants.{Searched}
+
+-- a map lacks a key; a loop goes over what is no list and no map; it asks for items past the end
+-- of a list with this number of them; a text is no date
+pub data Doubt : Type 0 where
+  lacks : Lacking → Doubt
+  no_list : Datum → Doubt
+  past_end : ℕ → Doubt
+  no_date : Text → Doubt
+
+-- an amount that is asked for of n items: at most all; a negative one is huge
+abbrev pub amount_within : ℤ → ℕ → ℕ
+amount_within (pos m) n = min m n
+amount_within (negsuc m) n = n
+
+-- after the items that are left out more are asked for than there are
+abbrev pub passes_end : Option ℤ → Option ℤ → ℕ → Bool
+passes_end (Some offset) (Some limit) n = nat_lt n (amount_within offset n + amount_within limit n)
+passes_end _ _ n = false
+
+abbrev pub span_doubt : Span → ℕ → Option Doubt
+span_doubt s n = cond (passes_end s.offset s.limit n) (Some (past_end n)) None
+
+-- how many items a list or a map has
+abbrev pub count_of : Datum → Option ℕ
+count_of (array ds) = Some (items_len ds)
+count_of (object ps) = Some (pairs_len ps)
+count_of _ = None
+
+-- nil has no items
+abbrev pub unlisted_doubt : Datum → Option Doubt
+unlisted_doubt nil = None
+unlisted_doubt d = Some (no_list d)
+
+abbrev pub counted_doubt : Span → Datum → Option ℕ → Option Doubt
+counted_doubt s d (Some n) = span_doubt s n
+counted_doubt s d None = unlisted_doubt d
+
+-- of what a loop goes over
+abbrev pub items_doubt : Span → Datum → Option Doubt
+items_doubt s d = counted_doubt s d (count_of d)
+
+-- the empty text is printed as it is
+abbrev pub is_empty_or_date : Text → Bool
+is_empty_or_date s = (length s == 0) || is_some (read s)
+
+-- of what is printed as a date
+abbrev pub date_doubt : Datum → Option Doubt
+date_doubt (text s) = cond (is_empty_or_date s) None (Some (no_date s))
+date_doubt d = None
+
+abbrev pub value_doubt : Want → Datum → Option Doubt
+value_doubt Present d = None
+value_doubt Perhaps d = None
+value_doubt Searched d = None
+value_doubt Date d = date_doubt d
+value_doubt (Items s) d = items_doubt s d
+
+abbrev pub or_next : Option Doubt → Option Doubt → Option Doubt
+or_next (Some x) next = Some x
+or_next None next = next
+
+abbrev pub first_doubt : Want → List Datum → Option Doubt
+first_doubt w [] = None
+first_doubt w (d ∷ ds) = or_next (value_doubt w d) (first_doubt w ds)
+
+abbrev pub lack_or : Option Lacking → Option Doubt → Option Doubt
+lack_or (Some l) other = Some (lacks l)
+lack_or None other = other
+
+-- whether more is wanted than that they are there
+abbrev pub asks_values : Want → Bool
+asks_values Present = false
+asks_values Perhaps = false
+asks_values Searched = false
+asks_values Date = true
+asks_values (Items s) = true
+
+abbrev pub doubt_of : Want → DataPath → Pairs → Option Doubt
+doubt_of w p ps =
+    lack_or (lack_of p ps) (cond (asks_values w) (first_doubt w (values_at_path p ps)) None)

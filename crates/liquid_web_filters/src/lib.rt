@@ -1,5 +1,0 @@
-//! Filters over HTML and URLs.
-#![tactic(auto)]
-
-pub mod laws;
-pub mod stdlib;

@@ -1,4 +1,0 @@
-pub mod Bytes
-pub mod Front
-pub mod FrontLaws
-pub mod Words
