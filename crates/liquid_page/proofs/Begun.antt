@@ -1,15 +1,18 @@
 -- What a page leaves at its writer, from what was written through a buffer, and how its call ends.
-use Rattle.std.proofs.Common.{◌≡◌, ℕ, Bool, true, false, List, [], ◌++◌, Option, Some, None, Ok, Err, Result, IfSome, inl, inr, refl, sym, ap, ◌∙◌, subst, append_assoc}
-use Rattle.std.specs.Prelude.{◌⊎◌, MatchBool, MatchResult, ⊤}
-use Rattle.std.specs.Io.KnownBytes.{Keeps, append_known}
+use Rattle.std.proofs.lemmas.Bool.{true≢false}
+use Rattle.std.proofs.Common.{◌≡◌, ℕ, Bool, true, false, List, [], ◌++◌, Option, Some, None, Ok, Err, Result, IfSome, inl, inr, refl, sym, ap, ◌∙◌, subst, append_assoc, append-nil}
+use Rattle.std.specs.Prelude.{◌⊎◌, MatchBool, MatchResult, IsErrAnd, OnOk, ⊤}
+use Rattle.std.specs.Io.KnownBytes.{Keeps, Appends, append_known}
 use Rattle.std.proofs.KnownBytes.{Appends-nil, Appends-kept}
 use Rattle.liquid_model.specs.declared.error.Error.{Error}
+use Rattle.liquid_model.specs.declared.error.ErrorKind.TheVariants.{Memory, Write}
 use Rattle.liquid_model.specs.Texts.{Text}
 use Rattle.liquid_engine.specs.Added.{AppendsPart}
-use Rattle.liquid_page_texts.specs.Page.{Sources, PageTexts}
+use Rattle.liquid_page_texts.specs.Page.{Sources, PageTexts, IsPage}
 use Rattle.liquid_page_texts.specs.Shown.{RanOut, ShowsStandard}
 use Rattle.liquid_engine.specs.Performs.{is_refused}
-use Rattle.liquid_model.specs.ErrorKinds.{is_refusal}
+use Rattle.liquid_model.specs.ErrorKinds.{IsKindOrMemory, is_memory, is_refusal}
+use Rattle.liquid_model.specs.declared.error.ErrorKind.{ErrorKind}
 use Rattle.liquid_page.specs.declared.outcome.Outcome.{Outcome}
 use Rattle.liquid_page.specs.declared.outcome.Outcome.TheVariants.{Done, Fault}
 use Rattle.liquid_page.specs.Files.{Stop, ReadableFiles, LeavesAtWriter, EndsCall}
@@ -32,6 +35,50 @@ pub after_begun : (texts : PageTexts) (r : Result (Unit {0}) Error) (before star
     → Keeps before start → RanOut r start done ⊎ ShowsStandard texts r start done → Keeps done (append_known now held) → IsBegun texts before now
 after_begun texts r before start done now held p (inl out) k = no_page (holds_front before start done now held [] p (part_of_none start done out.kept) k)
 after_begun texts r before start done now held p (inr shown) k = a_page {text = shown.2.text} (shown.2.end, (shown.0, shown.1, shown.2.is_page)) (holds_front before start done now held shown.2.text p shown.2.begun k)
+
+-- ---- a page that went through the buffer whole
+
+refused_of_memory : (r : Result (Unit {0}) Error) → IsErrAnd r (λ e. e.kind ≡ Memory) → is_refused r ≡ true
+refused_of_memory (Ok u) m = absurd m
+refused_of_memory (Err e) m = ap is_refusal m
+
+kind_memory : (kind : ErrorKind) → is_memory kind ≡ true → kind ≡ Memory
+kind_memory Memory is = refl
+kind_memory _ is = cc
+
+not_memory : (kind : ErrorKind) → is_refusal kind ≡ false → is_memory kind ≡ false
+not_memory kind within = on (is_memory kind) refl
+  where
+    on : (b : Bool) → is_memory kind ≡ b → is_memory kind ≡ false
+    on true p = absurd (true≢false (sym (ap is_refusal (kind_memory kind p)) ∙ within))
+    on false p = p
+
+-- a refused write is a refusal, in want of memory too
+pub refused_write : (kind : ErrorKind) → IsKindOrMemory Write kind → is_refusal kind ≡ false → ⊥
+refused_write kind kept within = on (subst (λ b. MatchBool b ⊤ (Write ≡ kind)) (not_memory kind within) kept)
+  where
+    on : Write ≡ kind → ⊥
+    on p = true≢false (ap is_refusal p ∙ within)
+
+-- what holds after a success, where there was one
+pub after_success : {E P : Type 0} (r : Result (Unit {0}) E) (u : Unit {0}) → r ≡ Ok u → OnOk r P → P
+after_success {E} {P} r u is held = subst (λ x. OnOk x P) is held
+
+whole_after : (before start after now : Option (List ℕ)) (text : Text) → Keeps before start → Appends start after text → Keeps after (append_known now []) → Appends before now text
+whole_after None start after now text p q k = tt
+whole_after (Some x) None after now text p q k = absurd p
+whole_after (Some x) (Some y) None now text p q k = absurd q
+whole_after (Some x) (Some y) (Some z) None text p q k = absurd k
+whole_after (Some x) (Some y) (Some z) (Some w) text p q k = sym (append-nil w) ∙ k ∙ q ∙ ap (λ l. l ++ text) p
+
+-- a run wrote its page to an empty buffer in front of the writer, and all that the buffer held was handed on
+pub after_written : (texts : PageTexts) (r : Result (Unit {0}) Error) (before start after now : Option (List ℕ))
+    → Keeps before start → RanOut r start after ⊎ ShowsStandard texts r start after → Keeps after (append_known now []) → is_refused r ≡ false → IsPageWritten texts r before now
+after_written texts r before start after now p (inl out) k within = absurd (true≢false (sym (refused_of_memory r out.memory) ∙ within))
+after_written texts r before start after now p (inr shown) k within = record {
+    text = shown.2.text;
+    page = (shown.0, shown.1, subst (λ end. IsPage shown.0 texts shown.2.text end) (sym (shown.2.ended within)) shown.2.is_page);
+    written = whole_after before start after now shown.2.text p (shown.2.whole within) k }
 
 -- the page of the texts that were read is begun
 left_begun : (known : Option ReadableFiles) (wanted : ReadableFiles → Result PageTexts Stop) (texts : PageTexts) (old new : Option (List ℕ))
