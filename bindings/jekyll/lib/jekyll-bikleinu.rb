@@ -6,6 +6,7 @@ require_relative 'jekyll-bikleinu/context'
 require_relative 'jekyll-bikleinu/includes'
 require_relative 'jekyll-bikleinu/blanks'
 require_relative 'jekyll-bikleinu/source'
+require_relative 'jekyll-bikleinu/host'
 require_relative 'jekyll-bikleinu/engine'
 require_relative 'jekyll-bikleinu/rendering'
 

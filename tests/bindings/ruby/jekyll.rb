@@ -41,14 +41,14 @@ SITE = {
 }.freeze
 
 # A site that is built in a folder, with the options of the plugin; what its pages are, and what was reported.
-def built(room, options)
+def built(room, options, files = SITE)
   require 'jekyll-bikleinu' if options
-  SITE.each do |path, text|
+  files.each do |path, text|
     FileUtils.mkdir_p(File.dirname("#{room}/#{path}"))
     File.write("#{room}/#{path}", text)
   end
   how = { 'source' => room, 'destination' => "#{room}/_site", 'url' => 'http://x.org', 'baseurl' => '/blog', 'quiet' => true, 'timezone' => 'UTC',
-          'disable_disk_cache' => true, 'bikleinu' => options || {} }
+          'disable_disk_cache' => true, 'collections' => { 'teas' => {} }, 'bikleinu' => options || {} }
   site = Jekyll::Site.new(Jekyll.configuration(how))
   site.process
   pages = Dir["#{room}/_site/**/*.html"].to_h { |path| [path.delete_prefix("#{room}/_site/"), File.read(path)] }
@@ -59,14 +59,72 @@ Jekyll.logger.log_level = :error
 plain, = Dir.mktmpdir { |room| built(room, nil) }
 own, counts = Dir.mktmpdir { |room| built(room, {}) }
 same('pages', plain) { own }
-same('those of this engine, and of Liquid', [12, 4]) { counts.values_at(:own, :others) }
+same('those of this engine, and of Liquid', [10, 4]) { counts.values_at(:own, :others) }
 _, counts = Dir.mktmpdir { |room| built(room, { 'verify' => true }) }
-same('compared', [12, 4, 0]) { counts.values_at(:own, :others, :differing) }
+same('compared', [10, 4, 0]) { counts.values_at(:own, :others, :differing) }
 same('strict', /\ABikleinu::SyntaxError: StateWord/) do
   $stderr = StringIO.new
   Dir.mktmpdir { |room| built(room, { 'strict' => true }) }
 ensure
   $stderr = STDERR
 end
+
+# Templates that this engine renders as Liquid does, with includes: posts that are passed on, and texts that are looped over.
+PARTS = {
+  'post.html' => '<{{ include.post.title }} {{ include.post.url }} {{ include.post.size }} {{ include.post.previous.title }}>',
+  'all.html' => '{% for it in include.posts %}{% include post.html post=it %}{% include inner.html %}{% endfor %}',
+  'inner.html' => '[{{ include.posts.size }}{{ include.post.title }}]',
+  'same.html' => '{% for it in include.posts %}{% if it == include.one %}={% endif %}{% unless include.one != it %}!{% endunless %}{% endfor %}',
+  'again.html' => '{{ include.n }}{% if include.n == 1 %}{% include again.html n=2 post=include.post %}{% endif %}{{ include.post.title }}',
+  'of.html' => '{{ include.in.title }}{% for it in include.in.posts %}{{ it.title }}{% endfor %}{% for it in include.in.teas %}{{ it.title }}{% endfor %}',
+  'hyphens.html' => '{{ include.no-post.title | default: "include" }}{{ include.a-post.title }}',
+  'list.html' => '{% for it in include.list %}({{ it }}){% else %}none{% endfor %}'
+}.freeze
+POSTS = '{% for it in site.posts %}'
+WHO = '{% for it in page.who %}({{ it }}){% else %}none{% endfor %}'
+OWN = [
+  "#{POSTS}{% include post.html post=it %}{% endfor %}{% comment %}{{ include }}{% endcomment %}{% raw %}{{ include }}{% endraw %}",
+  '{% include all.html posts=site.posts %}{% include again.html n=1 post=site.posts.first %}{% include of.html in=site %}',
+  '{% assign last = site.posts.last %}{% include same.html posts=site.posts one=last %}{% include same.html posts=site.teas one=last %}',
+  '{% include hyphens.html a-post=site.posts.first %}',
+  "#{WHO}{% if page.who %}!{% endif %}{% for it in page.who reversed %}{{ forloop.length }}{% endfor %}",
+  "{% assign all = page.who %}{% for it in all %}{{ site.data.teas[it].name }}{% endfor %}{% if page.title == 'x' or all %}!{% endif %}",
+  '{% include list.html list=page.who %}{% for row in page.rows %}{% for it in row.all %}({{ it }}){% endfor %}{% endfor %}'
+].freeze
+# What an include and a page may ask for besides, with which the page is Liquid's.
+OF_POSTS = [
+  '{{ include.post }}', "{{ include.post | append: 'x' | size }}", '{% for it in include.post %}{{ it[0] }}{% endfor %}', '{{ include.post | jsonify }}',
+  "{% assign name = 'prev' | append: 'ious' %}{{ include.post[name].title }}", '{{ include.post.first }}',
+  "{% if include.post contains 'x' %}!{% endif %}", '{% cycle include.post, 1 %}', '{% assign all = include %}{{ all.post.title }}',
+  "{{ include['post'].title }}", '{% case include.post %}{% when site.posts.first %}!{% endcase %}', '{{ include.first[0] }}{{ include.post.title }}',
+  "{% assign all = include.posts | where: 'title', 'Two' %}{{ all.size }}"
+].freeze
+OF_TEXTS = [
+  '{{ page.who }}', '{{ page.who.size }}', '{{ page.who | size }}', "{% if page.who == 'Ada' %}!{% endif %}", "{% if page.who contains 'A' %}!{% endif %}",
+  "{% case page.who %}{% when 'Ada' %}!{% endcase %}", '{% for it in page.who limit: 0 %}{{ it }}{% endfor %}', '{% cycle page.who, 1 %}',
+  '{% for it in page.who offset: 1 %}{{ it }}{% endfor %}', '{% tablerow it in page.who %}{{ it }}{% endtablerow %}',
+  '{% assign all = page.who | reverse %}{% for it in all %}{{ it }}{% endfor %}', '{% if page.who == page.title %}!{% endif %}'
+].freeze
+AROUND = '{% assign all = page.rows | reverse %}{% for row in all %}{{ row.all }}{% endfor %}' \
+         '{% for row in page.rows %}{% for it in row.all %}{{ it }}{% endfor %}{% endfor %}'
+
+# The files of a site that has a page for each of these sources.
+def files_of(pages)
+  made = PARTS.transform_keys { |name| "_includes/#{name}" }
+  OF_POSTS.each_with_index { |source, at| made["_includes/of#{at}.html"] = source }
+  %w[_posts/2024-01-02-one _posts/2024-01-03-two].each { |name| made["#{name}.md"] = "---\ntitle: #{name[-3..].capitalize}\n---\n" }
+  pages.each { |name, (who, source)| made[name] = "---\ntitle: It\nwho: #{who}\nrows: [{ all: Ada }, { all: [b, c] }, { all: '' }]\n---\n#{source}" }
+  { **made, '_teas/one.md' => "---\ntitle: One\n---\n", '_data/teas.yml' => "Ada: { name: Assam }\n" }
+end
+
+own = ['Ada', "''", '[x, y]'].flat_map { |who| OWN.map { |source| [who, source] } }
+others = OF_POSTS.each_index.map { |at| ['Ada', "#{POSTS}{% include of#{at}.html post=it posts=site.posts %}{% endfor %}"] }
+others += OF_TEXTS.map { |source| ['Ada', "#{WHO}#{source}"] } + [['Ada', AROUND]]
+pages = own.each_with_index.to_h { |page, at| ["own#{at}.html", page] }.merge(others.each_with_index.to_h { |page, at| ["other#{at}.html", page] })
+REFUSED = [] # rubocop:disable Style/MutableConstant
+Jekyll.logger.define_singleton_method(:debug) { |topic, words = nil| REFUSED << words[/\A\w+\.html(?= is Liquid's)/] if topic == 'Bikleinu:' }
+_, counts = Dir.mktmpdir { |room| built(room, { 'verify' => true }, files_of(pages)) }
+same("pages that are Liquid's", pages.keys.grep(/\Aother/).sort) { REFUSED.compact.sort }
+same('those that differ', 0) { counts[:differing] }
 
 report

@@ -3,8 +3,8 @@
 module JekyllBikleinu
   # Renders the pages of one site, and counts how many were rendered by which engine.
   class Engine
-    # How deep includes may stand in one another, and how often a page may ask its filters.
-    LIMITS = { depth: 100, rounds: 1000 }.freeze
+    # How deep includes may stand in one another, and blocks with them, and how often a page may ask its filters.
+    LIMITS = { depth: 100, levels: 10_000, rounds: 1000 }.freeze
     # Filters that are no functions of their input.
     RANDOM = %w[sample].freeze
     # A rendering: which one it is, and what Jekyll gives it.
@@ -50,7 +50,7 @@ module JekyllBikleinu
 
       rendering = Call.new(@number += 1, payload, info)
       @renderings[rendering.number] = rendering
-      template.render!(Payload.new(payload, Source::NAME => rendering.number))
+      rendered(filename, template, Payload.new(payload, Source::NAME => rendering.number))
     ensure
       @renderings.delete(rendering.number) if rendering
     end
@@ -73,6 +73,21 @@ module JekyllBikleinu
       @templates[filename][1]
     end
 
+    # The page, by a near plan where the usual data don't do: then the file's further pages are made so too.
+    def rendered(filename, template, payload)
+      template.render!(payload)
+    rescue Bikleinu::Error
+      near_page(filename, template, payload) || raise
+    end
+
+    # The page by a near plan, or nil where the sources have none.
+    def near_page(filename, template, payload)
+      near = template.near
+      near&.render!(payload)&.tap { @templates[filename][1] = near }
+    rescue Bikleinu::SyntaxError, Refused
+      nil
+    end
+
     def parsed(content)
       environment.parse(source(content))
     rescue Bikleinu::Error, Refused, EncodingError => e
@@ -81,7 +96,7 @@ module JekyllBikleinu
 
     def environment
       @environment ||= Bikleinu::Environment.new(
-        jekyll: true, partials: Includes.new(self, @site), missing: :nil, decimals: :text, times: true, **LIMITS
+        jekyll: true, partials: Includes.new(self, @site), missing: :nil, decimals: :text, times: true, host: Host.new, **LIMITS
       ).tap { |made| filters(made) }
     end
 

@@ -1,12 +1,15 @@
 /* Data as a text of JSON, of values in Ruby, as far as a plan asks for them.
  *
- * A plan is nil for a whole value, and else an array of three: of a list's items false for none, true for their number, or their plan; the
- * members, each with its name as a text, as a symbol and in JSON, and its plan; and whether the length of a map is asked for. A value of another kind than
- * JSON has is given to the object that converts, with its plan, and what that answers is written in its place. */
+ * A plan is nil for a whole value, and else an array: of a list's items false for none, true for their number, or their plan; the
+ * members, each with its name as a text, as a symbol and in JSON, and its plan; and whether the length of a map is asked for. Where there is
+ * a fourth, a plan, lists and maps are whole, and it is that of all which isn't named. With a fifth a text is a list of itself, or, if empty,
+ * of nothing. A value of another kind than JSON has is given to the object that converts, with its plan, and what that answers is written
+ * in its place. */
 #include "bikleinu_ext.h"
 
-/* How many lists and maps may stand in one another, how often a thread is asked whether it is to end, and of what a plan has. */
-enum { LEVELS = 127, PAUSE = 1024, MEMBER = 4 };
+/* How many lists and maps may stand in one another, how often a thread is asked whether it is to end, of what a plan has so many for a
+ * member, and the places in it. */
+enum { LEVELS = 127, PAUSE = 1024, MEMBER = 4, ITEMS = 0, MEMBERS, COUNTED, REST, LOOPED };
 
 static VALUE refusal_class, data_error_class;
 static ID convert_id, refuse_id;
@@ -136,10 +139,13 @@ static step step_into(VALUE object, const step *up) {
     return (step){up, object, Qundef, 0, level};
 }
 
+/* What a plan has in this place. */
+static VALUE in_plan(VALUE plan, long place) { return NIL_P(plan) ? Qnil : rb_ary_entry(plan, place); }
+
 /* A list, which is that of an object. */
 static void put_list(writer *to, VALUE list, VALUE object, VALUE plan, const step *up) {
     step inside = step_into(object, up);
-    VALUE items = NIL_P(plan) ? Qnil : rb_ary_entry(plan, 0);
+    VALUE items = in_plan(plan, ITEMS);
     put_byte(to, '[');
     for (long at = 0; items != Qfalse && at < RARRAY_LEN(list); at++) {
         if (at) put_byte(to, ',');
@@ -152,10 +158,21 @@ static void put_list(writer *to, VALUE list, VALUE object, VALUE plan, const ste
 
 typedef struct {
     writer *to;
-    VALUE map;
+    VALUE map, plan;
     step inside;
     bool has_some;
 } pairs;
+
+/* The plan of a pair in a map that is whole: nil, where a loop may go over it. */
+static VALUE pair_plan(VALUE plan, VALUE name) {
+    VALUE rest = in_plan(plan, REST);
+    if (NIL_P(rest) || RTEST(rb_ary_entry(plan, COUNTED))) return Qnil;
+    VALUE members = rb_ary_entry(plan, MEMBERS);
+    for (long at = 0; at + MEMBER <= RARRAY_LEN(members); at += MEMBER) {
+        if (RTEST(rb_str_equal(RARRAY_AREF(members, at), name))) return RARRAY_AREF(members, at + 3);
+    }
+    return rest;
+}
 
 static int put_pair(VALUE key, VALUE value, VALUE given) {
     pairs *it = (pairs *)given;
@@ -171,7 +188,7 @@ static int put_pair(VALUE key, VALUE value, VALUE given) {
     it->inside.key = key;
     put_text(it->to, name, &it->inside);
     put_byte(it->to, ':');
-    put_value(it->to, value, Qnil, &it->inside);
+    put_value(it->to, value, pair_plan(it->plan, name), &it->inside);
     return ST_CONTINUE;
 }
 
@@ -182,19 +199,19 @@ static VALUE value_at(VALUE map, VALUE name, VALUE symbol) {
 }
 
 static bool is_whole(VALUE map, VALUE plan) {
-    VALUE items = NIL_P(plan) ? Qnil : rb_ary_entry(plan, 0);
+    VALUE items = in_plan(plan, ITEMS);
     if (NIL_P(items) || RB_TYPE_P(items, T_ARRAY)) return true;
-    return RTEST(rb_ary_entry(plan, 2)) && value_at(map, rb_str_new_cstr("size"), ID2SYM(rb_intern("size"))) == Qundef;
+    return RTEST(rb_ary_entry(plan, COUNTED)) && value_at(map, rb_str_new_cstr("size"), ID2SYM(rb_intern("size"))) == Qundef;
 }
 
 /* A map, which is that of an object. */
 static void put_map(writer *to, VALUE map, VALUE object, VALUE plan, const step *up) {
-    pairs it = {to, map, step_into(object, up), false};
+    pairs it = {to, map, plan, step_into(object, up), false};
     put_byte(to, '{');
     if (is_whole(map, plan)) {
         rb_hash_foreach(map, put_pair, (VALUE)&it);
     } else {
-        VALUE members = rb_ary_entry(plan, 1);
+        VALUE members = rb_ary_entry(plan, MEMBERS);
         for (long at = 0; at + MEMBER <= RARRAY_LEN(members); at += MEMBER) {
             VALUE value = value_at(map, RARRAY_AREF(members, at), RARRAY_AREF(members, at + 1)), json = RARRAY_AREF(members, at + 2);
             if (value == Qundef) continue;
@@ -208,6 +225,13 @@ static void put_map(writer *to, VALUE map, VALUE object, VALUE plan, const step 
     put_byte(to, '}');
 }
 
+/* The list that a text is for a loop. */
+static void put_looped(writer *to, VALUE text, const step *up) {
+    put_byte(to, '[');
+    if (RSTRING_LEN(text)) put_text(to, text, up);
+    put_byte(to, ']');
+}
+
 /* Whether the value is one that JSON has, which is written then. It is that of an object. */
 static bool put_plain(writer *to, VALUE value, VALUE object, VALUE plan, const step *up) {
     switch (rb_type(value)) {
@@ -217,7 +241,7 @@ static bool put_plain(writer *to, VALUE value, VALUE object, VALUE plan, const s
     case T_FIXNUM: put_integer(to, FIX2LONG(value)); return true;
     case T_BIGNUM: put_large(to, value, up); return true;
     case T_SYMBOL: put_text(to, rb_sym2str(value), up); return true;
-    case T_STRING: put_text(to, value, up); return true;
+    case T_STRING: (value == object && RTEST(in_plan(plan, LOOPED)) ? put_looped : put_text)(to, value, up); return true;
     case T_ARRAY: put_list(to, value, object, plan, up); return true;
     case T_HASH: put_map(to, value, object, plan, up); return true;
     default: return false;

@@ -16,12 +16,15 @@ module Bikleinu
     PLAIN = [NilClass, TrueClass, FalseClass, Integer, String, Symbol, Array, Hash].freeze
     BASES = [Array, Hash, Struct].freeze
     ENDS = %w[size first last].freeze
+    # A member that no template names, by which a document is another value than any other one.
+    ITSELF = "\u0001"
     OTHER = 'give a Hash, an Array, a String, an Integer, true, false or nil, as value.to_s, or define to_liquid'
-    private_constant :INVALID_INPUT, :FLOAT, :DIGITS, :OFFSET, :PLAIN, :BASES, :ENDS, :OTHER
+    private_constant :INVALID_INPUT, :FLOAT, :DIGITS, :OFFSET, :PLAIN, :BASES, :ENDS, :ITSELF, :OTHER
 
     attr_reader :decimals, :times
 
-    def initialize(decimals = nil, times = nil)
+    # Documents are objects of some classes, which lead to one another, and aren't taken whole (see NearPlan).
+    def initialize(decimals = nil, times = nil, documents = nil)
       raise ::ArgumentError, "decimals is #{decimals.inspect}, and :text or nil is wanted" unless [nil, :text].include?(decimals)
       unless [nil, false, true].include?(times) || (times.is_a?(String) && times.match?(OFFSET))
         raise ::ArgumentError, "times is #{times.inspect}, and true, false or an offset, as \"+02:00\", is wanted"
@@ -29,6 +32,7 @@ module Bikleinu
 
       @decimals = decimals
       @times = times
+      @documents = documents
       freeze
     end
 
@@ -94,20 +98,31 @@ module Bikleinu
 
     # The members that are asked for of an object that has members by name, as a drop, or all of its pairs or items.
     def object(value, plan)
+      return document(value, plan) if @documents&.any? { |it| value.is_a?(it) }
+
       is_counted = [true, false].include?(plan && plan[0])
-      return asked(value, plan) if is_counted && responds?(value, :key?, :[])
+      return asked(value, plan[1]) if is_counted && responds?(value, :key?, :[])
       return value.to_h if value.is_a?(Struct) || responds?(value, :keys, :to_h)
       return plan && plan[0] == false ? [] : value.to_a if responds?(value, :each, :to_a)
 
       responds?(value, :to_hash) ? value.to_hash : refused(value)
     end
 
+    def document(value, plan)
+      items, members, is_looped, near, _, own = plan
+      if plan.nil? || (near ? is_looped : items.is_a?(Array))
+        return refused(value, "a value of the class #{value.class}, of which the template asks for more than members by their names")
+      end
+
+      near ? asked(value, own).merge(ITSELF => value.object_id) : asked(value, members)
+    end
+
     def responds?(value, *names)
       names.all? { |name| value.respond_to?(name) }
     end
 
-    def asked(value, plan)
-      plan[1].each_slice(4).with_object({}) do |(name, *), made|
+    def asked(value, members)
+      members.each_slice(4).with_object({}) do |(name, *), made|
         if member?(value, name)
           made[name] = value[name]
         elsif ENDS.include?(name)

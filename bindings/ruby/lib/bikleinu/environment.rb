@@ -28,10 +28,12 @@ module Bikleinu
     end
     private_class_method :check_ractor
 
-    attr_reader :settings, :filters # :nodoc:
+    attr_reader :settings, :filters, :near_plans # :nodoc:
 
-    def initialize(partials: nil, filters: nil, jekyll: false, decimals: nil, times: nil, **options)
-      @settings = Settings.new(Conversions.new(decimals, times), **options)
+    # A host is an object of the plugin for Jekyll, which says what is known of its documents and its sources.
+    def initialize(partials: nil, filters: nil, jekyll: false, decimals: nil, times: nil, host: nil, **options)
+      @settings = Settings.new(Conversions.new(decimals, times, host&.documents), **options)
+      @near_plans = NearPlans.new(self, host) if host
       @jekyll = jekyll ? true : false
       @language = Fault.check(Handle.language(@jekyll))
       @filters = Filters.new

@@ -15,6 +15,16 @@ module Bikleinu
     # Partials as they are between two changes: renderings have them as they were.
     State = Struct.new(:handle, :sources)
 
+    # A handle of these sources, each as the template that a block makes of it and of its name.
+    def self.handle_of(sources)
+      handle = Fault.check(Handle.partials)
+      sources.each do |name, source|
+        number = handle.insert(name, yield(name, source))
+        raise Error.new('a partial is not taken', number:) unless number.zero?
+      end
+      handle.lend
+    end
+
     def initialize(given, environment)
       @environment = environment
       @files = given if given.respond_to?(:read_template_file)
@@ -38,6 +48,20 @@ module Bikleinu
     def []=(name, source)
       name = Text.utf8(name, "a partial's name")
       @lock.synchronize { @state = state_of(@state.sources.merge(name => source)) }
+    end
+
+    # A source as a block writes it, and those of a state that it then leads to, written so too, by their names.
+    def reached(source, state)
+      first = yield(source)
+      found = {}
+      names = static_names(first)
+      while (name = names.shift)
+        next if found.key?(name) || !state.sources.key?(name)
+
+        found[name] = yield(state.sources[name])
+        names.concat(static_names(found[name]))
+      end
+      [first, found]
     end
 
     # Nil where a page that ended by a fault may be another one now, since the partial that it lacked was read, and else the fault.
@@ -67,13 +91,7 @@ module Bikleinu
     end
 
     def state_of(sources)
-      handle = Fault.check(Handle.partials)
-      sources.each do |name, source|
-        template = @environment.parsed(source, name)
-        number = handle.insert(name, template)
-        raise Error.new('a partial is not taken', number:) unless number.zero?
-      end
-      State.new(handle.lend, sources.freeze).freeze
+      State.new(Partials.handle_of(sources) { |name, source| @environment.parsed(source, name) }, sources.freeze).freeze
     end
 
     # Reads the sources of these names, and of those that they name, and takes them.

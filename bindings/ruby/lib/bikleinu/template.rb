@@ -39,9 +39,10 @@ module Bikleinu
     # The faults of the last call of render or render!.
     attr_reader :errors
 
-    def initialize(source, environment)
+    def initialize(source, environment, is_near: false)
       @source = Text.utf8(source, 'a source').dup.freeze
       @environment = environment
+      @is_near = is_near
       @handle = environment.parsed(@source).lend
       @errors = []
     end
@@ -96,6 +97,11 @@ module Bikleinu
       Data.of(data.is_a?(String) ? Data.read(data, conversions, nil, paths) : Data.read(data, conversions, plan))
     end
 
+    # The same template with a near plan, or nil where there is none, or it has one. # :nodoc:
+    def near
+      Template.new(@source, @environment, is_near: true) if @environment.near_plans && !@is_near
+    end
+
     def initialize_copy(_other)
       raise TypeError, 'a Template can be shared, and is not copied'
     end
@@ -130,7 +136,11 @@ module Bikleinu
       return known if known && known[0].equal?(partials)
 
       paths = Fault.check(@handle.paths(partials.handle)).lend
-      @found = [partials, paths, Plan.of(JSON.parse(paths.text(Fault::TEXT)))].freeze
+      @found = [partials, paths, plan(JSON.parse(paths.text(Fault::TEXT)), partials)].freeze
+    end
+
+    def plan(paths, partials)
+      @is_near ? @environment.near_plans.of(paths, @source, partials) : Plan.of(paths)
     end
   end
 end
