@@ -34,7 +34,7 @@ SITE = {
   'sample.html' => "---\ntitle: Sample\n---\n{{ site.data.teas | slice: 0, 1 | sample | map: 'name' }}",
   'set.html' => "---\ntitle: Set\n---\n{% assign page = site.data %}{{ page.teas[0].name }}",
   'blank.html' => "---\ntitle: Blank\n---\n{% for post in site.posts %}\n {% if post.title %} {% assign last = post %} {% else %} {% endif %}\n" \
-                  "{% comment %} no {% endcomment %} {% endfor %}|{% if page.title %} {% capture x %} {% if last %} {% endif %} {% endcapture %}" \
+                  '{% comment %} no {% endcomment %} {% endfor %}|{% if page.title %} {% capture x %} {% if last %} {% endif %} {% endcapture %}' \
                   "{% endif %}[{{ x }}]{% case page.title %} {% when 'Blank' %} {% unless x %} {% endunless %} {% when 'B' %} {% endcase %}|" \
                   "{% if last %} {% increment n %} {% endif %}{% for a in site.none %} {% else %} {% cycle 'a' %} {% endfor %}|\n",
   'page.html' => "---\ntitle: Page\n---\n{{ site.posts | where_exp: 'p', 'p.title == page.title' | size }}"
@@ -76,7 +76,7 @@ PARTS = {
   'inner.html' => '[{{ include.posts.size }}{{ include.post.title }}]',
   'same.html' => '{% for it in include.posts %}{% if it == include.one %}={% endif %}{% unless include.one != it %}!{% endunless %}{% endfor %}',
   'again.html' => '{{ include.n }}{% if include.n == 1 %}{% include again.html n=2 post=include.post %}{% endif %}{{ include.post.title }}',
-  'of.html' => '{{ include.in.title }}{% for it in include.in.posts %}{{ it.title }}{% endfor %}{% for it in include.in.teas %}{{ it.title }}{% endfor %}',
+  'of.html' => '{% for it in include.in.posts %}{{ it.title }}{% endfor %}{% for it in include.in.teas %}{{ it.title }}{% endfor %}',
   'hyphens.html' => '{{ include.no-post.title | default: "include" }}{{ include.a-post.title }}',
   'list.html' => '{% for it in include.list %}({{ it }}){% else %}none{% endfor %}'
 }.freeze
@@ -93,15 +93,17 @@ OWN = [
 ].freeze
 # What an include and a page may ask for besides, with which the page is Liquid's.
 OF_POSTS = [
-  '{{ include.post }}', "{{ include.post | append: 'x' | size }}", '{% for it in include.post %}{{ it[0] }}{% endfor %}', '{{ include.post | jsonify }}',
+  '{{ include.post }}', "{{ include.post | append: 'x' | size }}", '{% for it in include.post %}{{ it[0] }}{% endfor %}',
+  '{{ include.post | jsonify }}',
   "{% assign name = 'prev' | append: 'ious' %}{{ include.post[name].title }}", '{{ include.post.first }}',
   "{% if include.post contains 'x' %}!{% endif %}", '{% cycle include.post, 1 %}', '{% assign all = include %}{{ all.post.title }}',
   "{{ include['post'].title }}", '{% case include.post %}{% when site.posts.first %}!{% endcase %}', '{{ include.first[0] }}{{ include.post.title }}',
   "{% assign all = include.posts | where: 'title', 'Two' %}{{ all.size }}"
 ].freeze
 OF_TEXTS = [
-  '{{ page.who }}', '{{ page.who.size }}', '{{ page.who | size }}', "{% if page.who == 'Ada' %}!{% endif %}", "{% if page.who contains 'A' %}!{% endif %}",
-  "{% case page.who %}{% when 'Ada' %}!{% endcase %}", '{% for it in page.who limit: 0 %}{{ it }}{% endfor %}', '{% cycle page.who, 1 %}',
+  '{{ page.who }}', '{{ page.who.size }}', '{{ page.who | size }}', "{% if page.who == 'Ada' %}!{% endif %}", '{% cycle page.who, 1 %}',
+  "{% case page.who %}{% when 'Ada' %}!{% endcase %}", '{% for it in page.who limit: 0 %}{{ it }}{% endfor %}',
+  "{% if page.who contains 'A' %}!{% endif %}",
   '{% for it in page.who offset: 1 %}{{ it }}{% endfor %}', '{% tablerow it in page.who %}{{ it }}{% endtablerow %}',
   '{% assign all = page.who | reverse %}{% for it in all %}{{ it }}{% endfor %}', '{% if page.who == page.title %}!{% endif %}'
 ].freeze

@@ -24,7 +24,7 @@ module Bikleinu
     attr_reader :decimals, :times
 
     # Documents are objects of some classes, which lead to one another, and aren't taken whole (see NearPlan).
-    def initialize(decimals = nil, times = nil, documents = nil)
+    def initialize(decimals = nil, times = nil, documents = [])
       raise ::ArgumentError, "decimals is #{decimals.inspect}, and :text or nil is wanted" unless [nil, :text].include?(decimals)
       unless [nil, false, true].include?(times) || (times.is_a?(String) && times.match?(OFFSET))
         raise ::ArgumentError, "times is #{times.inspect}, and true, false or an offset, as \"+02:00\", is wanted"
@@ -44,6 +44,7 @@ module Bikleinu
       when Time, DateLike then time(made)
       when Proc then called(made, plan)
       when *PLAIN then made
+      when *@documents then document(made, plan)
       else object(made, plan)
       end
     end
@@ -98,8 +99,6 @@ module Bikleinu
 
     # The members that are asked for of an object that has members by name, as a drop, or all of its pairs or items.
     def object(value, plan)
-      return document(value, plan) if @documents&.any? { |it| value.is_a?(it) }
-
       is_counted = [true, false].include?(plan && plan[0])
       return asked(value, plan[1]) if is_counted && responds?(value, :key?, :[])
       return value.to_h if value.is_a?(Struct) || responds?(value, :keys, :to_h)

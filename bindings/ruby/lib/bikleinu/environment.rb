@@ -32,7 +32,7 @@ module Bikleinu
 
     # A host is an object of the plugin for Jekyll, which says what is known of its documents and its sources.
     def initialize(partials: nil, filters: nil, jekyll: false, decimals: nil, times: nil, host: nil, **options)
-      @settings = Settings.new(Conversions.new(decimals, times, host&.documents), **options)
+      @settings = Settings.new(Conversions.new(decimals, times, host ? host.documents : []), **options)
       @near_plans = NearPlans.new(self, host) if host
       @jekyll = jekyll ? true : false
       @language = Fault.check(Handle.language(@jekyll))

@@ -35,15 +35,23 @@ module Bikleinu
         return whole(near, looped)
       end
 
-      looped = nil if looped&.is_whole
       items = plan.all_items
       is_sized = plan.members.key?('size')
-      items = items ? part(items, near&.all_items, looped&.all_items) : is_sized
+      items = items ? part(items, items_of(near), items_of(looped)) : is_sized
       [items, named(plan, near, looped), is_sized && !plan.items, nil, looped?(looped)].freeze
     end
 
     def named(plan, near, looped)
-      plan.named { |inner, name| part(inner, near&.members&.fetch(name, nil), looped&.members&.fetch(name, nil)) }
+      plan.named { |inner, name| part(inner, member_of(near, name), member_of(looped, name)) }
+    end
+
+    # What a plan asks of the parts of a value: all where the value is whole.
+    def member_of(plan, name)
+      plan&.is_whole ? plan : plan&.members&.fetch(name, nil)
+    end
+
+    def items_of(plan)
+      plan&.is_whole ? plan : plan&.all_items
     end
 
     # Adds to the members of documents, which have the same ones wherever they stand, so that two can be compared.
@@ -59,14 +67,13 @@ module Bikleinu
       return @rest unless near
       return if near.is_whole
 
-      looped = nil if looped&.is_whole
       items = near.all_items
-      members = near.named { |inner, name| whole(inner, looped&.members&.fetch(name, nil)) }
-      [items ? whole(items, looped&.all_items) : @rest, members, !items.nil?, @rest, looped?(looped), @documents].freeze
+      members = near.named { |inner, name| whole(inner, member_of(looped, name)) }
+      [items ? whole(items, items_of(looped)) : @rest, members, !items.nil?, @rest, looped?(looped), @documents].freeze
     end
 
     def looped?(plan)
-      plan && plan.items && plan.members.empty? && !plan.is_whole && !plan.is_seen
+      plan&.items && plan.members.empty? && !plan.is_whole && !plan.is_seen
     end
   end
 
@@ -99,5 +106,6 @@ module Bikleinu
       @handles[sources] ||= Partials.handle_of(sources) { |name, source| @environment.parsed(source, name) }
     end
   end
-  private_constant :NearPlan, :NearPlans
+  private_constant :NearPlan
+  private_constant :NearPlans
 end

@@ -53,7 +53,7 @@ module Bikleinu
 
       is_sized = !is_root && members.key?('size')
       all = is_root ? nil : all_items
-      [all ? all.frozen : is_sized, named { |inner| inner.frozen }, is_sized && !items].freeze
+      [all ? all.frozen : is_sized, named { |inner, _| inner.frozen }, is_sized && !items].freeze
     end
 
     # The members as the extension takes them, each with the plan that a block makes of its own.
