@@ -69,6 +69,28 @@ ensure
   $stderr = STDERR
 end
 
+# A near plan in short: nil for a whole value, and else the plan of items, the members, and whether all else is there, and texts are lists.
+def short(plan)
+  return plan if plan.nil? || plan == true || plan == false
+  return :rest if plan.equal?(plan[0])
+
+  [short(plan[0]), plan[1].each_slice(4).to_h { |name, _, _, inner| [name, short(inner)] }, *(:all if plan[3]), *(:texts if plan[4])]
+end
+
+# Paths, near ones and looped ones, and the plan.
+[
+  [%w[a b.c], %w[b], [], { 'a' => :rest, 'b' => [false, { 'c' => nil }] }],
+  [%w[a], %w[a[].b a[].c? a[].d[]], %w[a[].d[]],
+   { 'a' => [[:rest, { 'b' => nil, 'c' => [:rest, {}, :all], 'd' => [nil, {}, :all, :texts] }, :all], {}, :all, :texts] }],
+  [%w[a.b.c[] d.e[].f g[].h], %w[a d.e[].f g[]], %w[a d.e[].f g[]],
+   { 'a' => [false, { 'b' => [false, { 'c' => [nil, {}] }] }], 'd' => [false, { 'e' => [[false, { 'f' => nil }], {}, :texts] }],
+     'g' => [[false, { 'h' => nil }], {}, :texts] }],
+  [%w[a[] b[]? c[] d[] e.first], %w[a[] b[] c[] d[] e.first], %w[a[] b[] c d[] d? e.first],
+   { 'a' => [nil, {}, :texts], 'b' => [[false, {}], {}, :texts], 'c' => [nil, {}], 'd' => [nil, {}], 'e' => [nil, { 'first' => nil }] }]
+].each do |paths, near, looped, wanted|
+  same("a near plan of #{paths}", wanted) { short(Bikleinu.const_get(:NearPlan).of(paths, near, looped))[1] }
+end
+
 # Templates that this engine renders as Liquid does, with includes: posts that are passed on, and texts that are looped over.
 PARTS = {
   'post.html' => '<{{ include.post.title }} {{ include.post.url }} {{ include.post.size }} {{ include.post.previous.title }}>',
@@ -107,6 +129,10 @@ OF_TEXTS = [
   '{% for it in page.who offset: 1 %}{{ it }}{% endfor %}', '{% tablerow it in page.who %}{{ it }}{% endtablerow %}',
   '{% assign all = page.who | reverse %}{% for it in all %}{{ it }}{% endfor %}', '{% if page.who == page.title %}!{% endif %}'
 ].freeze
+WHOLE = [
+  '{% for it in site.posts.first %}{{ it }}{% endfor %}', '{% for it in site.posts.first %}!{% endfor %}', '{{ site.teas.first }}',
+  '{{ site | size }}', '{% assign one = site.teas | first %}{% if one %}{{ one.title }}{% endif %}{{ one }}', '{% for it in site.teas %}{{ it.first[0] }}{% endfor %}'
+].freeze
 AROUND = '{% assign all = page.rows | reverse %}{% for row in all %}{{ row.all }}{% endfor %}' \
          '{% for row in page.rows %}{% for it in row.all %}{{ it }}{% endfor %}{% endfor %}'
 
@@ -121,7 +147,7 @@ end
 
 own = ['Ada', "''", '[x, y]'].flat_map { |who| OWN.map { |source| [who, source] } }
 others = OF_POSTS.each_index.map { |at| ['Ada', "#{POSTS}{% include of#{at}.html post=it posts=site.posts %}{% endfor %}"] }
-others += OF_TEXTS.map { |source| ['Ada', "#{WHO}#{source}"] } + [['Ada', AROUND]]
+others += [*OF_TEXTS.map { |source| "#{WHO}#{source}" }, AROUND, *WHOLE].map { |source| ['Ada', source] }
 pages = own.each_with_index.to_h { |page, at| ["own#{at}.html", page] }.merge(others.each_with_index.to_h { |page, at| ["other#{at}.html", page] })
 REFUSED = [] # rubocop:disable Style/MutableConstant
 Jekyll.logger.define_singleton_method(:debug) { |topic, words = nil| REFUSED << words[/\A\w+\.html(?= is Liquid's)/] if topic == 'Bikleinu:' }

@@ -109,7 +109,7 @@ module Bikleinu
 
     def document(value, plan)
       items, members, is_looped, near, _, own = plan
-      if plan.nil? || (near ? is_looped : items.is_a?(Array))
+      if plan.nil? || (near ? is_looped : ![true, false].include?(items))
         return refused(value, "a value of the class #{value.class}, of which the template asks for more than members by their names")
       end
 
