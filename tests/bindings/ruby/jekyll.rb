@@ -131,7 +131,8 @@ OF_TEXTS = [
 ].freeze
 WHOLE = [
   '{% for it in site.posts.first %}{{ it }}{% endfor %}', '{% for it in site.posts.first %}!{% endfor %}', '{{ site.teas.first }}',
-  '{{ site | size }}', '{% assign one = site.teas | first %}{% if one %}{{ one.title }}{% endif %}{{ one }}', '{% for it in site.teas %}{{ it.first[0] }}{% endfor %}'
+  '{{ site | size }}', '{% assign one = site.teas | first %}{% if one %}{{ one.title }}{% endif %}{{ one }}',
+  '{% for it in site.teas %}{{ it.first[0] }}{% endfor %}'
 ].freeze
 AROUND = '{% assign all = page.rows | reverse %}{% for row in all %}{{ row.all }}{% endfor %}' \
          '{% for row in page.rows %}{% for it in row.all %}{{ it }}{% endfor %}{% endfor %}'
