@@ -100,6 +100,7 @@ PARTS = {
   'again.html' => '{{ include.n }}{% if include.n == 1 %}{% include again.html n=2 post=include.post %}{% endif %}{{ include.post.title }}',
   'of.html' => '{% for it in include.in.posts %}{{ it.title }}{% endfor %}{% for it in include.in.teas %}{{ it.title }}{% endfor %}',
   'hyphens.html' => '{{ include.no-post.title | default: "include" }}{{ include.a-post.title }}',
+  'deep.html' => "#{'{% if true %}' * 6}{% include inner.html post=include.post %}#{'{% endif %}' * 6}",
   'list.html' => '{% for it in include.list %}({{ it }}){% else %}none{% endfor %}'
 }.freeze
 POSTS = '{% for it in site.posts %}'
@@ -108,7 +109,7 @@ OWN = [
   "#{POSTS}{% include post.html post=it %}{% endfor %}{% comment %}{{ include }}{% endcomment %}{% raw %}{{ include }}{% endraw %}",
   '{% include all.html posts=site.posts %}{% include again.html n=1 post=site.posts.first %}{% include of.html in=site %}',
   '{% assign last = site.posts.last %}{% include same.html posts=site.posts one=last %}{% include same.html posts=site.teas one=last %}',
-  '{% include hyphens.html a-post=site.posts.first %}',
+  '{% include hyphens.html a-post=site.posts.first %}{% include deep.html post=site.posts.last %}',
   "#{WHO}{% if page.who %}!{% endif %}{% for it in page.who reversed %}{{ forloop.length }}{% endfor %}",
   "{% assign all = page.who %}{% for it in all %}{{ site.data.teas[it].name }}{% endfor %}{% if page.title == 'x' or all %}!{% endif %}",
   '{% include list.html list=page.who %}{% for row in page.rows %}{% for it in row.all %}({{ it }}){% endfor %}{% endfor %}'

@@ -1,10 +1,10 @@
 /* Data as a text of JSON, of values in Ruby, as far as a plan asks for them.
  *
  * A plan is nil for a whole value, and else an array: of a list's items false for none, true for their number, or their plan; the
- * members, each with its name as a text, as a symbol and in JSON, and its plan; and whether the length of a map is asked for. Where there is
- * a fourth, a plan, lists and maps are whole, and it is that of all which isn't named. With a fifth a text is a list of itself, or, if empty,
- * of nothing. A value of another kind than JSON has is given to the object that converts, with its plan, and what that answers is written
- * in its place. */
+ * members, each with its name as a text, as a symbol and in JSON, and its plan; and whether the length of a map is asked for. Where
+ * there is a fourth, a plan, lists and maps are whole, and it is that of what has no plan there, but if the third is true a map is
+ * whole with all in it. With a fifth a text is a list of itself, or, if empty, of nothing. A value of another kind than JSON has is
+ * given to the object that converts, with its plan, and what that answers is written in its place. */
 #include "bikleinu_ext.h"
 
 /* How many lists and maps may stand in one another, how often a thread is asked whether it is to end, of what a plan has so many for a
