@@ -1,3 +1,4 @@
+pub mod Blanks
 pub mod CallView
 pub mod Called
 pub mod Flats

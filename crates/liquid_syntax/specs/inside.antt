@@ -1,3 +1,4 @@
+pub mod BlankNodes
 pub mod Calls
 pub mod Mentions
 pub mod NameVisitors

@@ -1,6 +1,7 @@
 //! Templates: a list of nodes each, and the partials that they name.
 #![tactic(auto)]
 
+mod blanks;
 mod called;
 mod calls;
 mod item_place;

@@ -2,6 +2,7 @@
 ghost use Rattle.liquid_syntax.specs.Flats.{ends_of_nodes};
 ghost use Rattle.liquid_syntax.specs.Nested.{AreNested, AreNested-prop};
 
+use crate::blanks::empty_blanks;
 use crate::names::{Gather, Search, SearchAny};
 use crate::node::Node;
 use crate::partials::Partials;
@@ -42,6 +43,7 @@ impl Template {
     ghost use Rattle.std.specs.List.{list_any};
     ghost use Rattle.std.specs.String.{string_cmp};
     ghost use Rattle.liquid_model.specs.Answer.{IsValueOrMemory};
+    ghost use Rattle.liquid_syntax.specs.Blanks.{without_blanks};
     ghost use Rattle.liquid_syntax.specs.NameSets.{mentioned_in_set};
     ghost use Rattle.liquid_syntax.specs.Templates.{template_nodes, partials_of, positions_of};
     ghost use Rattle.liquid_syntax.specs.Templates.{kept_source, tree_of};
@@ -96,6 +98,29 @@ impl Template {
         let mut template = self;
         template.source = Some(source);
         template
+    }
+
+    /// The same template without the white space of blocks that write nothing: each text of an
+    /// `if`, `unless`, `case` or `for` in whose bodies only white space, comments, `assign`,
+    /// `capture` and such blocks stand is empty.
+    pub fn without_blanks(self) -> Template
+        ensures tree { tree_of result ≡ without_blanks (tree_of self) }
+        ensures positions { positions_of result ≡ positions_of self }
+        ensures source { kept_source result ≡ kept_source self }
+    {
+        let Template {
+            nodes,
+            positions,
+            source,
+        } = self;
+        let mut nodes = nodes;
+        let end = nodes.len();
+        empty_blanks(&mut nodes, 0, end, false);
+        Template {
+            nodes,
+            positions,
+            source,
+        }
     }
 
     /// The number of nodes of the tree, in all depths, without memory.

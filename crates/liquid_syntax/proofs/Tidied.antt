@@ -1,0 +1,171 @@
+-- What stands in a list of nodes, when some of its texts are emptied.
+use Rattle.std.proofs.Common.{◌≡◌, ℕ, suc, ◌+◌, ◌<◌, ◌≤◌, Bool, true, false, ◌&&◌, ◌⊎◌, List, [], ◌∷◌, ◌++◌, length, get_or, Option, Some, None, option_map, inl, inr, refl, sym, ap, ◌∙◌, subst, arith}
+use Rattle.std.proofs.lemmas.List.{length-map}
+use Rattle.std.proofs.lemmas.Option.{slice_get-map, slice_get_read}
+use Rattle.std.specs.Prelude.{slice_get}
+use Rattle.liquid_syntax.specs.Flats.{Maker, flat_of, flats}
+use Rattle.liquid_syntax.specs.Forest.{Forest, Bodies, empty, node, no_bodies, body, forest_size, sizes}
+use Rattle.liquid_syntax.specs.Laid.{Flat, IsLaidOut, StandBodies, last_end}
+use Rattle.liquid_syntax.specs.declared.node.Node.{Node}
+use Rattle.liquid_syntax.specs.declared.blanks.Sound.TheVariants.{Loud, Silent, OfBodies}
+use Rattle.liquid_syntax.specs.inside.BlankNodes.{IsOwnRange, drops, is_heard_as, own, owns, quiet, quiet_bodies, sound_of, tidied, tidied_bodies, cleared}
+use Rattle.liquid_syntax.proofs.Places.{Stands-le, StandBodies-le, first, first-within}
+use Rattle.liquid_syntax.proofs.Round.{append, joined}
+
+pub last_of : (k : ℕ) (es : List ℕ) (z : ℕ) → last_end k (es ++ z ∷ []) ≡ z
+last_of k [] z = refl
+last_of k (e ∷ es) z = last_of e es z
+
+-- ---- forests one after another
+
+append_stands : {A : Type 0} (ns : List (Flat A)) (k : ℕ) (f g : Forest A) (m to : ℕ) → IsLaidOut ns k f m → IsLaidOut ns m g to → IsLaidOut ns k (append f g) to
+append_stands ns k empty g m to a b = subst (λ n. IsLaidOut ns n g to) (sym a) b
+append_stands ns k (node h bs rest) g m to (x, is, eq, inner, after) b = (x, is, eq, inner, append_stands ns (last_end (k + 1) x.ends) rest g m to after b)
+
+stands_append : {A : Type 0} (ns : List (Flat A)) (k : ℕ) (f g : Forest A) (to : ℕ) → IsLaidOut ns k (append f g) to → (m : ℕ) × IsLaidOut ns k f m × IsLaidOut ns m g to
+stands_append ns k empty g to s = (k, refl, s)
+stands_append ns k (node h bs rest) g to (x, is, eq, inner, after) =
+    let (m, a, b) = stands_append ns (last_end (k + 1) x.ends) rest g to after in
+    (m, (x, is, eq, inner, a), b)
+
+pub bodies_stand : {A : Type 0} (ns : List (Flat A)) (k : ℕ) (es : List ℕ) (bs : Bodies A) → StandBodies ns k es bs → IsLaidOut ns k (joined bs) (last_end k es)
+bodies_stand ns k es no_bodies s = subst (λ l. k ≡ last_end k l) (sym s) refl
+bodies_stand ns k es (body f bs) (e, rest, eq, here, more) =
+    subst (λ l. IsLaidOut ns k (append f (joined bs)) (last_end k l)) (sym eq) (append_stands ns k f (joined bs) e (last_end e rest) here (bodies_stand ns e rest bs more))
+
+-- ---- the first node of a range
+
+pub own_within : (ns : List Node) (at : ℕ) (f : Forest Node) (to : ℕ) → IsLaidOut (owns ns) at f to → at < to → at < length ns
+own_within ns at f to s lt = subst (λ n. at < n) (length-map ns own) (first-within (owns ns) at f to s lt)
+
+-- the bodies of a node, and what stands after it
+pub Begins : List Node → ℕ → Forest Node → ℕ → Node → Type 0
+Begins ns at f to n =
+    (bs : Bodies Node) × (rest : Forest Node) × (f ≡ node n bs rest) × StandBodies (owns ns) (at + 1) (flat_of n).ends bs × IsLaidOut (owns ns) (last_end (at + 1) (flat_of n).ends) rest to
+
+pub own_first : (ns : List Node) (at : ℕ) (f : Forest Node) (to : ℕ) (n : Node) → slice_get ns at ≡ Some n → at < to → IsLaidOut (owns ns) at f to → Begins ns at f to n
+unfolding Begins
+own_first ns at f to n is lt s = first (owns ns) at f to (own n) s lt (slice_get-map own ns at ∙ ap (option_map own) is)
+
+-- the same, where the list is read at an index
+pub own_read : (ns : List Node) (at : ℕ) (f : Forest Node) (to : ℕ) (n : Node) → n ≡ get_or ns at n → at < to → IsLaidOut (owns ns) at f to → Begins ns at f to n
+own_read ns at f to n is lt s = own_first ns at f to n (slice_get_read ns (length ns) at n refl (own_within ns at f to s lt) is) lt s
+
+-- where its bodies stand, as one forest
+pub own_bodies : (ns : List Node) (at : ℕ) (f : Forest Node) (to : ℕ) (n : Node) → Begins ns at f to n → IsOwnRange ns (at + 1) (last_end (at + 1) (flat_of n).ends)
+unfolding Begins
+own_bodies ns at f to n (bs, rest, is, inner, after) = (joined bs, bodies_stand (owns ns) (at + 1) (flat_of n).ends bs inner)
+
+-- it ends after it begins, and within the range
+pub own_ends : (ns : List Node) (at : ℕ) (f : Forest Node) (to : ℕ) (n : Node) → Begins ns at f to n → (at < last_end (at + 1) (flat_of n).ends) × (last_end (at + 1) (flat_of n).ends ≤ to)
+unfolding Begins
+own_ends ns at f to n (bs, rest, is, inner, after) = (omega (arith, StandBodies-le (owns ns) (at + 1) (flat_of n).ends bs inner), Stands-le (owns ns) (last_end (at + 1) (flat_of n).ends) rest to after)
+
+-- what is asked of the nodes that are left, after one of them
+pub heard : (ns : List Node) (at : ℕ) (f : Forest Node) (to : ℕ) (n : Node) (goes_on : Bool) → Begins ns at f to n → ((bs : Bodies Node) → StandBodies (owns ns) (at + 1) (flat_of n).ends bs → is_heard_as (sound_of n) (quiet_bodies bs) ≡ goes_on)
+    → (rest : Forest Node) × IsLaidOut (owns ns) (last_end (at + 1) (flat_of n).ends) rest to × (quiet f ≡ (goes_on && quiet rest))
+unfolding Begins
+heard ns at f to n goes_on (bs, rest, is, inner, after) said = (rest, after, ap quiet is ∙ ap (λ b. b && quiet rest) (said bs inner))
+
+-- by the three ways in which it is asked
+pub heard_loud : (n : Node) → sound_of n ≡ Loud → (b : Bool) → is_heard_as (sound_of n) b ≡ false
+heard_loud n is b = ap (λ s. is_heard_as s b) is
+
+pub heard_silent : (n : Node) → sound_of n ≡ Silent → (b : Bool) → is_heard_as (sound_of n) b ≡ true
+heard_silent n is b = ap (λ s. is_heard_as s b) is
+
+pub heard_bodies : (n : Node) → sound_of n ≡ OfBodies → (b : Bool) → is_heard_as (sound_of n) b ≡ b
+heard_bodies n is b = ap (λ s. is_heard_as s b) is
+
+-- ---- how many nodes there are
+
+mutual
+  stands_size : {A : Type 0} (ns : List (Flat A)) (k : ℕ) (f : Forest A) (to : ℕ) → IsLaidOut ns k f to → to ≡ k + forest_size f
+  stands_size ns k empty to s = omega (arith, s)
+  stands_size ns k (node h bs rest) to (x, is, eq, inner, after) =
+      omega (arith, stands_size ns (last_end (k + 1) x.ends) rest to after, bodies_size ns (k + 1) x.ends bs inner)
+
+  bodies_size : {A : Type 0} (ns : List (Flat A)) (k : ℕ) (es : List ℕ) (bs : Bodies A) → StandBodies ns k es bs → last_end k es ≡ k + sizes bs
+  bodies_size ns k es no_bodies s = subst (λ l. last_end k l ≡ k + 0) (sym s) (omega arith)
+  bodies_size ns k es (body f bs) (e, rest, eq, here, more) =
+      subst (λ l. last_end k l ≡ k + (forest_size f + sizes bs)) (sym eq) (omega (arith, stands_size ns k f e here, bodies_size ns e rest bs more))
+
+mutual
+  tidied_size : (drop : Bool) (f : Forest Node) → forest_size (tidied drop f) ≡ forest_size f
+  tidied_size drop empty = refl
+  tidied_size drop (node n bs rest) = ap suc (ap (λ m. m + forest_size (tidied drop rest)) (tidied_sizes (drops n && quiet_bodies bs) bs) ∙ ap (λ m. sizes bs + m) (tidied_size drop rest))
+
+  tidied_sizes : (drop : Bool) (bs : Bodies Node) → sizes (tidied_bodies drop bs) ≡ sizes bs
+  tidied_sizes drop no_bodies = refl
+  tidied_sizes drop (body f bs) = ap (λ m. m + sizes (tidied_bodies drop bs)) (tidied_size drop f) ∙ ap (λ m. forest_size f + m) (tidied_sizes drop bs)
+
+-- ---- lists that agree in a range
+
+pub Agree : {A : Type 0} → List (Flat A) → List (Flat A) → ℕ → ℕ → Type 0
+Agree ns ms from to = (i : ℕ) → from ≤ i → i < to → slice_get ms i ≡ slice_get ns i
+
+mutual
+  unfolding Agree
+
+  pub stands_there : {A : Type 0} (ns ms : List (Flat A)) (k : ℕ) (f : Forest A) (to : ℕ) → IsLaidOut ns k f to → Agree ns ms k to → IsLaidOut ms k f to
+  stands_there ns ms k empty to s a = s
+  stands_there ns ms k (node h bs rest) to (x, is, eq, inner, after) a =
+      let inside = StandBodies-le ns (k + 1) x.ends bs inner in
+      let outside = Stands-le ns (last_end (k + 1) x.ends) rest to after in (
+        x,
+        a k (omega arith) (omega (arith, inside, outside)) ∙ is,
+        eq,
+        bodies_there ns ms (k + 1) x.ends bs inner (λ i le lt. a i (omega (arith, le)) (omega (arith, lt, outside))),
+        stands_there ns ms (last_end (k + 1) x.ends) rest to after (λ i le lt. a i (omega (arith, le, inside)) lt),
+      )
+
+  pub bodies_there : {A : Type 0} (ns ms : List (Flat A)) (k : ℕ) (es : List ℕ) (bs : Bodies A) → StandBodies ns k es bs → Agree ns ms k (last_end k es) → StandBodies ms k es bs
+  bodies_there ns ms k es no_bodies s a = s
+  bodies_there ns ms k es (body f bs) (e, rest, eq, here, more) a =
+      let a' : Agree ns ms k (last_end e rest) = subst (λ l. Agree ns ms k (last_end k l)) eq a in
+      let first = Stands-le ns k f e here in
+      let later = StandBodies-le ns e rest bs more in (
+        e,
+        rest,
+        eq,
+        stands_there ns ms k f e here (λ i le lt. a' i le (omega (arith, lt, later))),
+        bodies_there ns ms e rest bs more (λ i le lt. a' i (omega (arith, le, first)) lt),
+      )
+
+-- ---- bodies as one forest
+
+and_grouped : (a b c : Bool) → ((a && b) && c) ≡ (a && (b && c))
+and_grouped true b c = refl
+and_grouped false b c = refl
+
+quiet_append : (f g : Forest Node) → quiet (append f g) ≡ (quiet f && quiet g)
+quiet_append empty g = refl
+quiet_append (node n bs rest) g = ap (λ r. is_heard_as (sound_of n) (quiet_bodies bs) && r) (quiet_append rest g) ∙ sym (and_grouped (is_heard_as (sound_of n) (quiet_bodies bs)) (quiet rest) (quiet g))
+
+pub quiet_joined : (bs : Bodies Node) → quiet (joined bs) ≡ quiet_bodies bs
+quiet_joined no_bodies = refl
+quiet_joined (body f bs) = quiet_append f (joined bs) ∙ ap (λ r. quiet f && r) (quiet_joined bs)
+
+tidied_append : (drop : Bool) (f g : Forest Node) → tidied drop (append f g) ≡ append (tidied drop f) (tidied drop g)
+tidied_append drop empty g = refl
+tidied_append drop (node n bs rest) g = ap (node (cleared drop n) (tidied_bodies (drops n && quiet_bodies bs) bs)) (tidied_append drop rest g)
+
+tidied_joined : (drop : Bool) (bs : Bodies Node) → tidied drop (joined bs) ≡ joined (tidied_bodies drop bs)
+tidied_joined drop no_bodies = refl
+tidied_joined drop (body f bs) = tidied_append drop f (joined bs) ∙ ap (append (tidied drop f)) (tidied_joined drop bs)
+
+-- what stands one after another, by the ends of the bodies that were there
+parted : (ns : List (Flat Node)) (ms : List (Flat Maker)) (drop : Bool) (k : ℕ) (es : List ℕ) (bs : Bodies Node) (to : ℕ) → StandBodies ns k es bs → IsLaidOut ms k (joined (tidied_bodies drop bs)) to → StandBodies ms k es (tidied_bodies drop bs)
+parted ns ms drop k es no_bodies to s t = s
+parted ns ms drop k es (body f bs) to (e, rest, eq, here, more) t =
+    let (m, first, later) = stands_append ms k (tidied drop f) (joined (tidied_bodies drop bs)) to t in
+    let there : m ≡ e = stands_size ms k (tidied drop f) m first ∙ ap (λ n. k + n) (tidied_size drop f) ∙ sym (stands_size ns k f e here) in (
+      e,
+      rest,
+      eq,
+      subst (λ n. IsLaidOut ms k (tidied drop f) n) there first,
+      parted ns ms drop e rest bs to more (subst (λ n. IsLaidOut ms n (joined (tidied_bodies drop bs)) to) there later),
+    )
+
+pub bodies_tidied : (ns : List (Flat Node)) (ms : List (Flat Maker)) (drop : Bool) (k : ℕ) (es : List ℕ) (bs : Bodies Node) → StandBodies ns k es bs → IsLaidOut ms k (tidied drop (joined bs)) (last_end k es) → StandBodies ms k es (tidied_bodies drop bs)
+bodies_tidied ns ms drop k es bs s t = parted ns ms drop k es bs (last_end k es) s (subst (λ f. IsLaidOut ms k f (last_end k es)) (tidied_joined drop bs) t)
