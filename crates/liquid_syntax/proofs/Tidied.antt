@@ -39,12 +39,11 @@ pub own_within : (ns : List Node) (at : ℕ) (f : Forest Node) (to : ℕ) → Is
 own_within ns at f to s lt = subst (λ n. at < n) (length-map ns own) (first-within (owns ns) at f to s lt)
 
 -- the bodies of a node, and what stands after it
-pub Begins : List Node → ℕ → Forest Node → ℕ → Node → Type 0
+abbrev pub Begins : List Node → ℕ → Forest Node → ℕ → Node → Type 0
 Begins ns at f to n =
     (bs : Bodies Node) × (rest : Forest Node) × (f ≡ node n bs rest) × StandBodies (owns ns) (at + 1) (flat_of n).ends bs × IsLaidOut (owns ns) (last_end (at + 1) (flat_of n).ends) rest to
 
 pub own_first : (ns : List Node) (at : ℕ) (f : Forest Node) (to : ℕ) (n : Node) → slice_get ns at ≡ Some n → at < to → IsLaidOut (owns ns) at f to → Begins ns at f to n
-unfolding Begins
 own_first ns at f to n is lt s = first (owns ns) at f to (own n) s lt (slice_get-map own ns at ∙ ap (option_map own) is)
 
 -- the same, where the list is read at an index
@@ -53,18 +52,15 @@ own_read ns at f to n is lt s = own_first ns at f to n (slice_get_read ns (lengt
 
 -- where its bodies stand, as one forest
 pub own_bodies : (ns : List Node) (at : ℕ) (f : Forest Node) (to : ℕ) (n : Node) → Begins ns at f to n → IsOwnRange ns (at + 1) (last_end (at + 1) (flat_of n).ends)
-unfolding Begins
 own_bodies ns at f to n (bs, rest, is, inner, after) = (joined bs, bodies_stand (owns ns) (at + 1) (flat_of n).ends bs inner)
 
 -- it ends after it begins, and within the range
 pub own_ends : (ns : List Node) (at : ℕ) (f : Forest Node) (to : ℕ) (n : Node) → Begins ns at f to n → (at < last_end (at + 1) (flat_of n).ends) × (last_end (at + 1) (flat_of n).ends ≤ to)
-unfolding Begins
 own_ends ns at f to n (bs, rest, is, inner, after) = (omega (arith, StandBodies-le (owns ns) (at + 1) (flat_of n).ends bs inner), Stands-le (owns ns) (last_end (at + 1) (flat_of n).ends) rest to after)
 
 -- what is asked of the nodes that are left, after one of them
 pub heard : (ns : List Node) (at : ℕ) (f : Forest Node) (to : ℕ) (n : Node) (goes_on : Bool) → Begins ns at f to n → ((bs : Bodies Node) → StandBodies (owns ns) (at + 1) (flat_of n).ends bs → is_heard_as (sound_of n) (quiet_bodies bs) ≡ goes_on)
     → (rest : Forest Node) × IsLaidOut (owns ns) (last_end (at + 1) (flat_of n).ends) rest to × (quiet f ≡ (goes_on && quiet rest))
-unfolding Begins
 heard ns at f to n goes_on (bs, rest, is, inner, after) said = (rest, after, ap quiet is ∙ ap (λ b. b && quiet rest) (said bs inner))
 
 -- by the three ways in which it is asked
@@ -80,12 +76,12 @@ heard_bodies n is b = ap (λ s. is_heard_as s b) is
 -- ---- how many nodes there are
 
 mutual
-  stands_size : {A : Type 0} (ns : List (Flat A)) (k : ℕ) (f : Forest A) (to : ℕ) → IsLaidOut ns k f to → to ≡ k + forest_size f
+  pub stands_size : {A : Type 0} (ns : List (Flat A)) (k : ℕ) (f : Forest A) (to : ℕ) → IsLaidOut ns k f to → to ≡ k + forest_size f
   stands_size ns k empty to s = omega (arith, s)
   stands_size ns k (node h bs rest) to (x, is, eq, inner, after) =
       omega (arith, stands_size ns (last_end (k + 1) x.ends) rest to after, bodies_size ns (k + 1) x.ends bs inner)
 
-  bodies_size : {A : Type 0} (ns : List (Flat A)) (k : ℕ) (es : List ℕ) (bs : Bodies A) → StandBodies ns k es bs → last_end k es ≡ k + sizes bs
+  pub bodies_size : {A : Type 0} (ns : List (Flat A)) (k : ℕ) (es : List ℕ) (bs : Bodies A) → StandBodies ns k es bs → last_end k es ≡ k + sizes bs
   bodies_size ns k es no_bodies s = subst (λ l. last_end k l ≡ k + 0) (sym s) (omega arith)
   bodies_size ns k es (body f bs) (e, rest, eq, here, more) =
       subst (λ l. last_end k l ≡ k + (forest_size f + sizes bs)) (sym eq) (omega (arith, stands_size ns k f e here, bodies_size ns e rest bs more))
@@ -101,12 +97,10 @@ mutual
 
 -- ---- lists that agree in a range
 
-pub Agree : {A : Type 0} → List (Flat A) → List (Flat A) → ℕ → ℕ → Type 0
+abbrev pub Agree : {A : Type 0} → List (Flat A) → List (Flat A) → ℕ → ℕ → Type 0
 Agree ns ms from to = (i : ℕ) → from ≤ i → i < to → slice_get ms i ≡ slice_get ns i
 
 mutual
-  unfolding Agree
-
   pub stands_there : {A : Type 0} (ns ms : List (Flat A)) (k : ℕ) (f : Forest A) (to : ℕ) → IsLaidOut ns k f to → Agree ns ms k to → IsLaidOut ms k f to
   stands_there ns ms k empty to s a = s
   stands_there ns ms k (node h bs rest) to (x, is, eq, inner, after) a =

@@ -56,7 +56,10 @@ fn is_blank(text: &str) -> bool
 fn drops(node: &Node) -> bool
     ensures { result ≡ drops node.now }
 {
-    matches!(node, Node::If(..) | Node::Unless(..) | Node::Case(..) | Node::For(..))
+    matches!(
+        node,
+        Node::If(..) | Node::Unless(..) | Node::Case(..) | Node::For(..)
+    )
 }
 
 /// The index after the nodes of its bodies, of a node before the index `next`.

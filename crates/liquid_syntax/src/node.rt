@@ -54,7 +54,7 @@ pub struct Arm {
 /// A node with bodies says where each of them ends, as an index of the list; the first begins right
 /// after the node, each other one where the one before it ends.
 pub enum Node {
-    /// Text outside of outputs and tags. It is never empty.
+    /// Text outside of outputs and tags. It is empty only by [crate::Template::without_blanks].
     Text(String),
     /// `{{ chain }}`
     Output(FilterChain),

@@ -72,9 +72,8 @@ abbrev mutual
 
 -- a node, where a text is empty if drop is true
 abbrev pub cleared : Bool → Node → Maker
-cleared false n = (flat_of n).head
-cleared true (Plain t) = λ bodies. tree.plain []
-cleared true n = (flat_of n).head
+cleared drop (Plain t) = λ bodies. tree.plain (cond drop [] (string_bytes t))
+cleared drop n = (flat_of n).head
 
 abbrev mutual
   pub tidied : Bool → Forest Node → Forest Maker

@@ -45,7 +45,7 @@ returns-then-not-goes_on t c f whole =
       | in-Loud w ↦ λ bs s. heard_loud n (sym c.sound_from.ensures ∙ w.in-Loud.is) (quiet_bodies bs) ∙ sym w.goes_on-is
       | in-Silent w ↦ λ bs s. heard_silent n (sym c.sound_from.ensures ∙ w.in-Silent.is) (quiet_bodies bs) ∙ sym w.goes_on-is
       | in-OfBodies w ↦ λ bs s. heard_bodies n (sym c.sound_from.ensures ∙ w.in-OfBodies.is) (quiet_bodies bs)
-        ∙ sym (w.goes_on-is ∙ w.is_quiet-goes_on.ensures (joined bs) (subst (IsLaidOut (owns ns) (c.loop-at.at + 1) (joined bs)) (sym c.past-end.ensures) (bodies_stand (owns ns) (c.loop-at.at + 1) (flat_of n).ends bs s)) ∙ quiet_joined bs)
+          ∙ sym (w.goes_on-is ∙ w.is_quiet-goes_on.ensures (joined bs) (subst (IsLaidOut (owns ns) (c.loop-at.at + 1) (joined bs)) (sym c.past-end.ensures) (bodies_stand (owns ns) (c.loop-at.at + 1) (flat_of n).ends bs s)) ∙ quiet_joined bs)
     ] in
     let (rest, after, whole_is) = heard ns c.loop-at.at g c.args.to n c.match-sound_from.goes_on begins said in
     sym (is ∙ whole_is ∙ ap (λ b. b && quiet rest) c.if-not-goes_on.true)
@@ -74,12 +74,12 @@ loop-at-preserved t c =
       | in-Loud w ↦ λ bs s. heard_loud n (sym c.sound_from.ensures ∙ w.in-Loud.is) (quiet_bodies bs) ∙ sym w.goes_on-is
       | in-Silent w ↦ λ bs s. heard_silent n (sym c.sound_from.ensures ∙ w.in-Silent.is) (quiet_bodies bs) ∙ sym w.goes_on-is
       | in-OfBodies w ↦ λ bs s. heard_bodies n (sym c.sound_from.ensures ∙ w.in-OfBodies.is) (quiet_bodies bs)
-        ∙ sym (w.goes_on-is ∙ w.is_quiet-goes_on.ensures (joined bs) (subst (IsLaidOut (owns ns) (c.loop-at.at + 1) (joined bs)) (sym c.past-end.ensures) (bodies_stand (owns ns) (c.loop-at.at + 1) (flat_of n).ends bs s)) ∙ quiet_joined bs)
+          ∙ sym (w.goes_on-is ∙ w.is_quiet-goes_on.ensures (joined bs) (subst (IsLaidOut (owns ns) (c.loop-at.at + 1) (joined bs)) (sym c.past-end.ensures) (bodies_stand (owns ns) (c.loop-at.at + 1) (flat_of n).ends bs s)) ∙ quiet_joined bs)
     ] in
     let later : (g : Forest Node) → IsLaidOut (owns ns) c.loop-at.at g c.args.to → (rest : Forest Node) × IsLaidOut (owns ns) c.past-end.result rest c.args.to × (quiet g ≡ quiet rest) =
     λ g there.
-      let (rest, after, is) = heard ns c.loop-at.at g c.args.to n c.match-sound_from.goes_on (own_read ns c.loop-at.at g c.args.to n c.index-nodes-at.is c.loop-at-test.true there) said in
-      (rest, subst (λ k. IsLaidOut (owns ns) k rest c.args.to) (sym e) after, is ∙ ap (λ b. b && quiet rest) c.if-not-goes_on.false)
+    let (rest, after, is) = heard ns c.loop-at.at g c.args.to n c.match-sound_from.goes_on (own_read ns c.loop-at.at g c.args.to n c.index-nodes-at.is c.loop-at-test.true there) said in
+    (rest, subst (λ k. IsLaidOut (owns ns) k rest c.args.to) (sym e) after, is ∙ ap (λ b. b && quiet rest) c.if-not-goes_on.false)
     in
     record {
       begun = omega (arith, e, ends.0, c.loop-at.invariant.begun);
