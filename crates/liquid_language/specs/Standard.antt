@@ -86,4 +86,5 @@ pub record IsStandard (l : Language) : Type 0 where
   pub blocks : listed (kinds_of l.blocks) ≡ bind_each standard_blocks (listed [])
   pub filters : listed (registered_in l.filters) ≡ with_filters (listed []) standard_filters
   pub include_paths : l.include_paths ≡ false
+  pub drops_blanks : l.drops_blanks ≡ false
   pub host_tags : numbers_of l.host_tags ≡ []

@@ -131,6 +131,7 @@ impl Language {
         ensures blocks { self.new.blocks ≡ self.old.blocks }
         ensures filters { self.new.filters ≡ self.old.filters }
         ensures include_paths { self.new.include_paths ≡ self.old.include_paths }
+        ensures drops_blanks { self.new.drops_blanks ≡ self.old.drops_blanks }
     {
         if let Some(refusal) = self.name_refusal(name.as_str()) {
             return Err(TagError::Refused(refusal));

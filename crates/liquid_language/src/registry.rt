@@ -110,6 +110,8 @@ pub struct Language {
     pub host_tags: HostTags,
     /// Whether Jekyll's `include` takes a path without quotes, as in `{% include nav/top.html %}`.
     pub include_paths: bool,
+    /// Whether the white space of blocks that write nothing is dropped, as Liquid for Ruby does.
+    pub drops_blanks: bool,
 }
 
 /// Drops the fields. Written by hand, so that each early return drops the value by one call to
@@ -122,12 +124,14 @@ impl Drop for Language {
             filters: _,
             host_tags: _,
             include_paths: _,
+            drops_blanks: _,
         } = self;
     }
 }
 
 impl Language {
-    /// A language without tags, blocks and filters, in which no tag takes a path without quotes.
+    /// A language without tags, blocks and filters, in which no tag takes a path without quotes and
+    /// all white space is written.
     pub fn new(alloc: Global) -> Language
         ensures tags { kinds_of result.tags ≡ [] }
         ensures blocks { kinds_of result.blocks ≡ [] }
@@ -135,6 +139,7 @@ impl Language {
         ensures host_tags { numbers_of result.host_tags ≡ [] }
         ensures host_calls { calls_of result.host_tags ≡ [] }
         ensures include_paths { result.include_paths ≡ false }
+        ensures drops_blanks { result.drops_blanks ≡ false }
     {
         Language {
             tags: Registry::new(alloc),
@@ -142,6 +147,7 @@ impl Language {
             filters: FilterRegistry::new(alloc),
             host_tags: HostTags::new(alloc),
             include_paths: false,
+            drops_blanks: false,
         }
     }
 }

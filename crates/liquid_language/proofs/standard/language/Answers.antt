@@ -10,5 +10,6 @@ returns-clause-standard c = record {
   blocks = search rules;
   filters = c.in_ok-register_filters.ensures ∙ ap (λ ks. with_filters (listed ks) standard_filters) c.new-language.ensures.filters;
   include_paths = search rules;
+  drops_blanks = search rules;
   host_tags = search rules;
 }
