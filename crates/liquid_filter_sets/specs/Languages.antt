@@ -1,5 +1,5 @@
 -- The languages of the sets: which tag, block and filter stands under which name.
-use Rattle.std.specs.Prelude.{◌≡◌, List, [], ◌∷◌, codes, true}
+use Rattle.std.specs.Prelude.{◌≡◌, List, [], ◌∷◌, codes, false, true}
 use Rattle.liquid_model.specs.Maps.{Map, insert, listed}
 use Rattle.liquid_core.specs.Environment.{bind_each}
 use Rattle.liquid_filters.specs.declared.kind.FilterKind.TheVariants.{JekyllSort}
@@ -42,7 +42,8 @@ abbrev pub with_jekyll_filters : Map RegisteredFilter → Map RegisteredFilter
 with_jekyll_filters m = insert (with_sites m jekyll_filters) (codes "where_exp") (Host 2 2)
 
 -- the standard language with Jekyll's `include`, which takes a path, and `sort`, and the names of
--- Jekyll's filters of a host; and no tags of a host
+-- Jekyll's filters of a host, without the white space of blocks that write nothing; and no tags of
+-- a host
 pub record IsJekyll (l : Language) : Type 0 where
   pub tags : listed (kinds_of l.tags) ≡
       insert (bind_each standard_tags (listed [])) (codes "include") JekyllInclude
@@ -51,6 +52,7 @@ pub record IsJekyll (l : Language) : Type 0 where
       (insert (with_filters (listed []) standard_filters) (codes "sort")
       (Kind JekyllSort))
   pub include_paths : l.include_paths ≡ true
+  pub drops_blanks : l.drops_blanks ≡ true
   pub host_tags : numbers_of l.host_tags ≡ []
 
 -- ---- Shopify's
@@ -74,12 +76,14 @@ shopify_filters =
 abbrev pub with_shopify_filters : Map RegisteredFilter → Map RegisteredFilter
 with_shopify_filters m = with_kinds m shopify_filters
 
--- the standard language with the names of Shopify's filters of a host, and no tags of a host
+-- the standard language with the names of Shopify's filters of a host, without the white space of
+-- blocks that write nothing; and no tags of a host
 pub record IsShopify (l : Language) : Type 0 where
   pub tags : listed (kinds_of l.tags) ≡ bind_each standard_tags (listed [])
   pub blocks : listed (kinds_of l.blocks) ≡ bind_each standard_blocks (listed [])
   pub filters : listed (registered_in l.filters) ≡
       with_shopify_filters (with_filters (listed []) standard_filters)
+  pub drops_blanks : l.drops_blanks ≡ true
   pub host_tags : numbers_of l.host_tags ≡ []
 
 -- ---- decimals
@@ -103,4 +107,5 @@ pub record HasDecimals (l : Language) : Type 0 where
   pub blocks : listed (kinds_of l.blocks) ≡ bind_each standard_blocks (listed [])
   pub filters : listed (registered_in l.filters) ≡
       with_decimal_filters (with_filters (listed []) standard_filters)
+  pub drops_blanks : l.drops_blanks ≡ false
   pub host_tags : numbers_of l.host_tags ≡ []

@@ -19,7 +19,8 @@ use std::alloc::Global;
 
 /// The language of Jekyll's templates: the standard one with Jekyll's `include`, which takes a path
 /// without quotes, and `sort` in place of the standard ones, and the names of Jekyll's filters of a
-/// host. `Memory` where a growth was refused.
+/// host; it drops the white space of blocks that write nothing. `Memory` where a growth was
+/// refused.
 pub fn jekyll_language(alloc: Global) -> Result<Language>
     ensures jekyll { IfOk result IsJekyll }
     ensures memory { IfErr result (λ e. e.kind ≡ ErrorKind.Memory) }
@@ -29,6 +30,7 @@ pub fn jekyll_language(alloc: Global) -> Result<Language>
     let name = String::from_str(alloc, include.tag())?;
     language.tags.register(name, TagKind::from(include))?;
     language.include_paths = true;
+    language.drops_blanks = true;
     let name = String::from_str(alloc, "sort")?;
     language.filters.register(name, FilterKind::JekyllSort)?;
     register_jekyll_filters(alloc, &mut language.filters)?;
@@ -36,12 +38,14 @@ pub fn jekyll_language(alloc: Global) -> Result<Language>
 }
 
 /// The language of Shopify's templates: the standard one with the names of Shopify's filters of a
-/// host. `Memory` where a growth was refused.
+/// host; it drops the white space of blocks that write nothing. `Memory` where a growth was
+/// refused.
 pub fn shopify_language(alloc: Global) -> Result<Language>
     ensures shopify { IfOk result IsShopify }
     ensures memory { IfErr result (λ e. e.kind ≡ ErrorKind.Memory) }
 {
     let mut language = language(alloc)?;
+    language.drops_blanks = true;
     register_shopify_filters(alloc, &mut language.filters)?;
     Ok(language)
 }
