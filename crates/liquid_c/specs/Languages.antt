@@ -25,7 +25,8 @@ use Rattle.liquid_c.specs.declared.handle_content.HandleContent.TheVariants.{Own
 use Rattle.liquid_c.specs.declared.refusal.Refusal.{Refusal}
 use Rattle.liquid_c.specs.declared.refusal.Refusal.TheVariants.{SharedHandle, NoText, OtherHandle}
 
--- the standard language with Jekyll's `include`, which takes a path, and `sort`
+-- the standard language with Jekyll's `include`, which takes a path, and `sort`, and without the
+-- white space of blocks that write nothing
 pub record WithIncludeAndSort (l : Language) : Type 0 where
   pub tags : listed (kinds_of l.tags) ≡
       insert (bind_each standard_tags (listed [])) (codes "include") JekyllInclude
@@ -34,6 +35,7 @@ pub record WithIncludeAndSort (l : Language) : Type 0 where
       insert (with_filters (listed []) standard_filters) (codes "sort")
       (Kind JekyllSort)
   pub include_paths : l.include_paths ≡ true
+  pub drops_blanks : l.drops_blanks ≡ true
   pub host_tags : numbers_of l.host_tags ≡ []
 
 -- that language, or memory ran out
@@ -48,6 +50,7 @@ MakesIncludeAndSort _ = ⊥
 abbrev pub IsWith : Text → ℕ → ℕ → Language → Language → Type 0
 IsWith name least most old new = (new.tags ≡ old.tags) × (new.blocks ≡ old.blocks)
     × (new.host_tags ≡ old.host_tags) × (new.include_paths ≡ old.include_paths)
+    × (new.drops_blanks ≡ old.drops_blanks)
     × (listed (registered_in new.filters) ≡
     insert (listed (registered_in old.filters)) name (Host least most))
 
@@ -55,6 +58,7 @@ IsWith name least most old new = (new.tags ≡ old.tags) × (new.blocks ≡ old.
 abbrev pub IsSameLanguage : Language → Language → Type 0
 IsSameLanguage old new = (new.tags ≡ old.tags) × (new.blocks ≡ old.blocks)
     × (new.host_tags ≡ old.host_tags) × (new.include_paths ≡ old.include_paths)
+    × (new.drops_blanks ≡ old.drops_blanks)
     × (registered_in new.filters ≡ registered_in old.filters)
 
 abbrev pub HoldsLanguage : (Language → Type 0) → Option HandleContent → Type 0
