@@ -37,7 +37,7 @@ use Rattle.liquid_lexer.specs.declared.piece.Body.{Body}
 use Rattle.liquid_lexer.specs.declared.piece.Body.TheVariants as bodies
 use Rattle.liquid_syntax.specs.declared.template.Template.{Template}
 use Rattle.liquid_lexer.proofs.SourceTurns.{last_turn, no_markup, no_body, no_step, next_turn, turn_shorter}
-use Rattle.liquid_parser.proofs.TemplateLaws.{only_tree, no_tree}
+use Rattle.liquid_parser.proofs.TemplateLaws.{only_written, no_tree}
 
 pub fails_by : {X Y : Type 0} (e : ParseError) (o : Option X) (p : Option Y) → (o ≡ None → p ≡ None) → Fails e o → Fails e p
 fails_by errors.Memory o p f h = tt
@@ -68,7 +68,7 @@ source_refused l e source h = refused_all l e source (fails_by e (all_of l sourc
 
 -- the template that the builder makes of the state after all pieces
 pub source_read : (l : Language) (source : Text) (s : State) (r : Result Template ParseError) → all_of l source ≡ Some s → Finishes (at_end s.0 s.1) r → ReadsTo l source r
-source_read l source s (Ok t) e f = only_tree l (tree_of t) source (at_once l source ∙ ap (option_and_then (λ s. at_end s.0 s.1)) e ∙ f)
+source_read l source s (Ok t) e f = only_written l (tree_of t) source (at_once l source ∙ ap (option_and_then (λ s. at_end s.0 s.1)) e ∙ f)
 source_read l source s (Err errors.Memory) e f = tt
 source_read l source s (Err (errors.Fault g)) e f = no_tree l source (at_once l source ∙ ap (option_and_then (λ s. at_end s.0 s.1)) e ∙ f)
 

@@ -13,7 +13,7 @@ use Rattle.liquid_parser.specs.OpenBlocks.{Level, State, context_of, statement_s
 use Rattle.liquid_lexer.specs.Pieces.{Piece, text, output, tag, raw, comment}
 use Rattle.liquid_lexer.specs.SourceReading.{all_steps, source_at, TakesWanted}
 use Rattle.liquid_language.specs.Styles.{style_of}
-use Rattle.liquid_parser.specs.Parsing.{IsTemplate, IsOnlyTree, HasNoTree}
+use Rattle.liquid_parser.specs.Parsing.{IsTemplate, IsWrittenTree, IsOnlyWritten, IsOnlyTree, HasNoTree, kept_nodes}
 use Rattle.liquid_parser.specs.inside.TemplateReading.{body_of, piece_step, begun_with, template_at}
 use Rattle.liquid_evaluation.specs.Tree.{Nodes, no_nodes}
 use Rattle.liquid_language.specs.declared.registry.Language.{Language}
@@ -69,21 +69,27 @@ module _ (l : Language) where
       on None more = refl
       on (Some s) more = more s
 
-  pub template_takes : (t : Nodes) (source : Text) → template_at l source ≡ Some t → IsTemplate l t source
-  unfolding template_at IsTemplate
-  template_takes t source h =
+  pub written_takes : (t : Nodes) (source : Text) → template_at l source ≡ Some t → IsWrittenTree l t source
+  unfolding template_at IsWrittenTree
+  written_takes t source h =
       let (s, at_s, ends) = bind_some (source_at (style_of l) (body_of l) (piece_step l) (length source) false begun_with source) (λ s. at_end s.0 s.1) t h in
       let (ps, is, steps) = source_takes (style_of l) (body_of l) (piece_step l) (length source) false begun_with source s at_s in
       (ps, is, tree_takes (IsStatement l) (reads l) (statement_says l) (statement_stands l) t ps (sym (steps_read ps [] no_nodes) ∙ ap (option_and_then (λ s. at_end s.0 s.1)) steps ∙ ends))
 
-  pub template_again : (t : Nodes) (source : Text) → IsTemplate l t source → template_at l source ≡ Some t
-  unfolding template_at IsTemplate
-  template_again t source (ps, is, nodes) =
+  pub written_again : (t : Nodes) (source : Text) → IsWrittenTree l t source → template_at l source ≡ Some t
+  unfolding template_at IsWrittenTree
+  written_again t source (ps, is, nodes) =
       let (s, steps, ends) = bind_some (all_steps (piece_step l) ps begun_with) (λ s. at_end s.0 s.1) t (steps_read ps [] no_nodes ∙ tree_again (IsStatement l) (reads l) (statement_says l) (statement_stands l) t ps nodes) in
       ap (option_and_then (λ s. at_end s.0 s.1)) (source_again (style_of l) (body_of l) (piece_step l) agrees is (length source) (omega arith) begun_with s steps) ∙ ends
 
-  pub only_tree : (t : Nodes) (source : Text) → template_at l source ≡ Some t → IsOnlyTree l t source
-  only_tree t source h = λ u. (λ is. from_some (sym (template_again u source is) ∙ h), λ e. template_takes u source (h ∙ ap Some (sym e)))
+  pub only_written : (t : Nodes) (source : Text) → template_at l source ≡ Some t → IsOnlyWritten l t source
+  only_written t source h = λ u. (λ is. from_some (sym (written_again u source is) ∙ h), λ e. written_takes u source (h ∙ ap Some (sym e)))
 
   pub no_tree : (source : Text) → template_at l source ≡ None → HasNoTree l source
-  no_tree source h t is = let e = sym h ∙ template_again t source is in absurd cc
+  unfolding IsTemplate
+  no_tree source h t (u, is, kept) = let e = sym h ∙ written_again u source is in absurd cc
+
+  -- what the language drops of the only tree that is written leaves the only template
+  pub only_kept : (u : Nodes) (source : Text) → IsOnlyWritten l u source → IsOnlyTree l (kept_nodes l u) source
+  unfolding IsTemplate
+  only_kept u source only = λ t. (λ (v, is, kept). kept ∙ ap (kept_nodes l) ((only v).0 is), λ e. (u, (only u).1 refl, e))

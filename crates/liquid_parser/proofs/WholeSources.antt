@@ -1,4 +1,5 @@
--- What is said of whole sources: one without openers is one text, a source has at most one tree, and without paths tags have items.
+-- What is said of whole sources: one without openers is one text, a source has at most one tree, without paths tags have items, and
+-- a language that drops nothing has the trees that are written.
 use Rattle.std.proofs.Common.{◌≡◌, ℕ, List, [], ◌∷◌, Bool, true, false, cond, not, ◌==◌, ◌||◌, ◌&&◌, refl, sym, ap, subst, ◌∙◌, append-nil}
 use Rattle.std.proofs.lemmas.Bool.{eqb-true}
 use Rattle.liquid_model.specs.Bytes.{plain, open_brace, percent}
@@ -11,9 +12,11 @@ use Rattle.liquid_lexer.specs.declared.item.Delimiter.TheVariants.{Output, Tag}
 use Rattle.liquid_model.proofs.WordLaws.{from_some}
 use Rattle.liquid_parser.specs.Statements.{is_text}
 use Rattle.liquid_parser.specs.Nesting.{none, is_leaf}
-use Rattle.liquid_parser.specs.Parsing.{IsTemplate}
-use Rattle.liquid_parser.specs.TemplateLaw.{HasNoOpener, PlainSources, AtMostOneTemplate, ItemsWithoutPaths}
-use Rattle.liquid_parser.proofs.TemplateLaws.{template_again}
+use Rattle.liquid_parser.specs.Parsing.{IsTemplate, IsWrittenTree, kept_nodes}
+use Rattle.liquid_parser.specs.TemplateLaw.{HasNoOpener, text_alone, PlainSources, AtMostOneTemplate, NothingDropped, ItemsWithoutPaths}
+use Rattle.liquid_parser.proofs.TemplateLaws.{written_again}
+use Rattle.liquid_syntax.specs.Blanks.{without_blanks}
+use Rattle.liquid_evaluation.specs.Tree.{Nodes}
 use Rattle.liquid_model.specs.Maps.{listed}
 use Rattle.liquid_model.specs.Texts.{Text}
 use Rattle.liquid_lexer.proofs.SourceLaws.{items_only, items_styled}
@@ -48,13 +51,33 @@ unfolding NoneBegins
 plain_run [] h = refl
 plain_run (b ∷ bs) h = (subst (λ r. plain b r ≡ true) (sym (append-nil bs)) (plain_at b bs (λ k following e. h k [] following e)), plain_run bs (λ k front following e. h k (b ∷ front) following (ap (λ r. b ∷ r) e)))
 
+plain_written : (l : Language) (source : Text) → HasNoOpener source → IsWrittenTree l (text_alone source) source
+unfolding IsWrittenTree
+plain_written l [] h = ([], last (plain_run [] h), none)
+plain_written l (b ∷ bs) h = (pieces.text (b ∷ bs) ∷ [], last (plain_run (b ∷ bs) h), is_leaf is_text none)
+
+-- a text that stands in no block is never dropped
+text_kept : (drops : Bool) (t : Text) → text_alone t ≡ cond drops (without_blanks (text_alone t)) (text_alone t)
+text_kept true [] = refl
+text_kept true (b ∷ bs) = refl
+text_kept false t = refl
+
 pub plain_sources : PlainSources
 unfolding IsTemplate
-plain_sources l [] h = ([], last (plain_run [] h), none)
-plain_sources l (b ∷ bs) h = (pieces.text (b ∷ bs) ∷ [], last (plain_run (b ∷ bs) h), is_leaf is_text none)
+plain_sources l source h = (text_alone source, plain_written l source h, text_kept l.drops_blanks source)
 
 pub at_most_one_template : AtMostOneTemplate
-at_most_one_template l source t u this that = from_some (sym (template_again l t source this) ∙ template_again l u source that)
+unfolding IsTemplate
+at_most_one_template l source t u (v, this, kept) (w, that, also) =
+    kept ∙ ap (kept_nodes l) (from_some (sym (written_again l v source this) ∙ written_again l w source that)) ∙ sym also
+
+all_kept : (l : Language) → l.drops_blanks ≡ false → (u : Nodes) → kept_nodes l u ≡ u
+all_kept l e u = ap (λ (b : Bool). cond b (without_blanks u) u) e
+
+pub nothing_dropped : NothingDropped
+unfolding IsTemplate
+nothing_dropped l t source e =
+    (λ (u, is, kept). subst (λ (v : Nodes). IsWrittenTree l v source) (sym (kept ∙ all_kept l e u)) is, λ is. (t, is, sym (all_kept l e t)))
 
 items_of_all : (l : Language) → l.include_paths ≡ false → (w : Text) → style_of l w ≡ Items
 items_of_all l e w = ap (λ (b : Bool). cond b (style_of_kind (listed (kinds_of l.tags) w)) Items) e

@@ -1,6 +1,8 @@
--- What `parse` reads: the one tree that the written grammar gives a source.
---     IsTemplate l t source      the source is the tree t, in a language
-use Rattle.std.specs.Prelude.{◌≤◌, List, [], false, Result, Ok, Err, MatchBool, ⊤}
+-- What `parse` reads: the one tree that the written grammar gives a source, without the white space
+-- that the language drops.
+--     IsWrittenTree l u source   the written grammar gives the source the tree u, in a language
+--     IsTemplate l t source      the tree of the source's template is t, in a language
+use Rattle.std.specs.Prelude.{◌≡◌, ◌≤◌, List, [], cond, false, Result, Ok, Err, MatchBool, ⊤}
 use Rattle.liquid_model.specs.Answer.{IsTheOne}
 use Rattle.liquid_model.specs.Texts.{Text}
 use Rattle.liquid_model.specs.ErrorKinds.{is_memory, number_of}
@@ -10,6 +12,7 @@ use Rattle.liquid_parser.specs.Statements.{IsStatement}
 use Rattle.liquid_parser.specs.Nesting.{AreNodes}
 use Rattle.liquid_lexer.specs.Pieces.{Piece, IsSource}
 use Rattle.liquid_lexer.specs.Styles.{styled}
+use Rattle.liquid_syntax.specs.Blanks.{without_blanks}
 use Rattle.liquid_syntax.specs.Templates.{tree_of}
 use Rattle.liquid_evaluation.specs.Tree.{Nodes}
 use Rattle.liquid_language.specs.Styles.{style_of}
@@ -20,9 +23,17 @@ use Rattle.liquid_lexer.specs.declared.fault.ParseError.{ParseError}
 use Rattle.liquid_lexer.specs.declared.fault.ParseError.TheVariants as errors
 
 -- The source is pieces, and they are the nodes, of which blocks nest at most 200 deep.
+unfoldable pub IsWrittenTree : Language → Nodes → Text → Type 0
+IsWrittenTree l u source = (ps : List Piece) × IsSource (styled (style_of l)) false ps source ×
+    AreNodes (IsStatement l) Outside 200 u ps []
+
+-- the nodes without the white space of blocks that write nothing, where the language drops it
+abbrev pub kept_nodes : Language → Nodes → Nodes
+kept_nodes l u = cond l.drops_blanks (without_blanks u) u
+
+-- the tree is what is written, without what the language drops
 unfoldable pub IsTemplate : Language → Nodes → Text → Type 0
-IsTemplate l t source = (ps : List Piece) × IsSource (styled (style_of l)) false ps source ×
-    AreNodes (IsStatement l) Outside 200 t ps []
+IsTemplate l t source = (u : Nodes) × IsWrittenTree l u source × (t ≡ kept_nodes l u)
 
 -- the tree is the source's, and none but it is
 abbrev pub IsOnlyTree : Language → Nodes → Text → Type 0
@@ -45,8 +56,12 @@ IsOfSource kind = (21 ≤ number_of kind) × (number_of kind ≤ 31)
 abbrev pub MayRefuse : ErrorKind → Type 0
 MayRefuse kind = MatchBool (is_memory kind) ⊤ (IsOfSource kind)
 
--- as `ParsesTo`, of the reader inside
+-- the tree is written in the source, and none but it is
+abbrev pub IsOnlyWritten : Language → Nodes → Text → Type 0
+IsOnlyWritten l u source = IsTheOne (λ v. IsWrittenTree l v source) u
+
+-- as `ParsesTo`, of the reader inside, which drops nothing
 abbrev pub ReadsTo : Language → Text → Result Template ParseError → Type 0
-ReadsTo l source (Ok t) = IsOnlyTree l (tree_of t) source
+ReadsTo l source (Ok t) = IsOnlyWritten l (tree_of t) source
 ReadsTo l source (Err errors.Memory) = Unit {0}
 ReadsTo l source (Err (errors.Fault f)) = HasNoTree l source

@@ -1,12 +1,12 @@
 -- Laws of whole sources.
-use Rattle.std.specs.Prelude.{◌≡◌, List, [], ◌∷◌, ◌++◌, false}
+use Rattle.std.specs.Prelude.{◌≡◌, ◌↔◌, List, [], ◌∷◌, ◌++◌, false}
 use Rattle.liquid_model.specs.Texts.{Text}
 use Rattle.liquid_model.specs.Bytes.{open_brace}
 use Rattle.liquid_lexer.specs.Openers.{opener}
 use Rattle.liquid_lexer.specs.Pieces.{Piece, IsSource}
 use Rattle.liquid_lexer.specs.Styles.{only_items, styled}
 use Rattle.liquid_lexer.specs.declared.item.Delimiter.{Delimiter}
-use Rattle.liquid_parser.specs.Parsing.{IsTemplate}
+use Rattle.liquid_parser.specs.Parsing.{IsTemplate, IsWrittenTree}
 use Rattle.liquid_language.specs.Styles.{style_of}
 use Rattle.liquid_language.specs.declared.registry.Language.{Language}
 use Rattle.liquid_evaluation.specs.Tree.{Nodes, no_nodes, node, plain}
@@ -26,10 +26,15 @@ abbrev pub PlainSources : Type 0
 PlainSources = (l : Language) (source : Text) → HasNoOpener source →
     IsTemplate l (text_alone source) source
 
--- the written grammar gives a source at most one tree
+-- a source has at most one tree
 abbrev pub AtMostOneTemplate : Type 0
 AtMostOneTemplate = (l : Language) (source : Text) (t u : Nodes) → IsTemplate l t source →
     IsTemplate l u source → t ≡ u
+
+-- in a language that drops no white space, a template is what is written
+abbrev pub NothingDropped : Type 0
+NothingDropped = (l : Language) (t : Nodes) (source : Text) → l.drops_blanks ≡ false →
+    IsTemplate l t source ↔ IsWrittenTree l t source
 
 -- in a language without paths, items alone stand after the names of tags
 abbrev pub ItemsWithoutPaths : Type 0

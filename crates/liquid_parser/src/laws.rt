@@ -6,14 +6,16 @@ ghost use Rattle.liquid_parser.specs.StatementLaw.{ReadsStatements};
 ghost use Rattle.liquid_parser.specs.RepeatedLaw.{ReadsLoops, ReadsPairs, ReadsValues};
 ghost use Rattle.liquid_parser.specs.NestingLaw.{ReadsTheGrammar, AtMostOneTree};
 ghost use Rattle.liquid_parser.specs.TemplateLaw.{AtMostOneTemplate, ItemsWithoutPaths};
-ghost use Rattle.liquid_parser.specs.TemplateLaw.{PlainSources};
+ghost use Rattle.liquid_parser.specs.TemplateLaw.{NothingDropped, PlainSources};
 
 /// A source without `{{` and `{%` is itself, one text, in every language; and a source has at most
-/// one tree in a language. Where a language has no `include_paths`, each tag has items alone.
+/// one tree in a language. Where a language has no `include_paths`, each tag has items alone; and
+/// where it has no `drops_blanks`, a template is what is written.
 pub fn template_laws()
     ensures plain { PlainSources }
     ensures unique { AtMostOneTemplate }
     ensures items { ItemsWithoutPaths }
+    ensures written { NothingDropped }
 {}
 
 /// Reading with a stack of open blocks gives a list of pieces the tree of the written grammar, and

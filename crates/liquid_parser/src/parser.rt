@@ -1,15 +1,16 @@
 //! From a source to its template.
-ghost use Rattle.std.specs.Prelude.{[], IfErr, List, Some, false, length};
+ghost use Rattle.std.specs.Prelude.{◌≡◌, [], IfErr, List, Some, false, length};
 ghost use Rattle.liquid_language.specs.Styles.{style_of};
 ghost use Rattle.liquid_lexer.specs.PieceView.{markup_view};
 ghost use Rattle.liquid_lexer.specs.Readers.{TellsOf};
 ghost use Rattle.liquid_lexer.specs.SourceReading.{source_at};
 ghost use Rattle.liquid_parser.specs.OpenBlocks.{Level};
-ghost use Rattle.liquid_parser.specs.Parsing.{MayRefuse, ParsesTo, ReadsTo};
+ghost use Rattle.liquid_parser.specs.Parsing.{MayRefuse, ParsesTo, ReadsTo, kept_nodes};
 ghost use Rattle.liquid_parser.specs.inside.Building.{IsBuilding, IsBuilt, AdvancesTo, text_added};
 ghost use Rattle.liquid_parser.specs.inside.TemplateReading.{AddsPiece, begun_with, body_of};
 ghost use Rattle.liquid_parser.specs.inside.TemplateReading.{piece_step};
 ghost use Rattle.liquid_evaluation.specs.Tree.{Nodes, no_nodes};
+ghost use Rattle.liquid_syntax.specs.Templates.{tree_of};
 
 use crate::build::Builder;
 use crate::classify::{classify, opens};
@@ -26,7 +27,8 @@ use std::alloc::{AllocError, Global};
 /// The most bytes of a source that a template keeps.
 const MOST_KEPT: usize = 1_048_576;
 
-/// The template that a source is, in a language.
+/// The template that a source is, in a language, without the white space of blocks that write
+/// nothing where the language drops it.
 ///
 /// The pieces are read and classified from left to right, and the first fault is the answer, with
 /// its location (line and column in characters, each from 1) and a message that says what is found
@@ -40,8 +42,19 @@ pub fn parse(alloc: Global, source: &str, language: &Language) -> Result<Templat
     ensures kinds { IfErr result (λ e. MayRefuse e.kind) }
 {
     match read_template(alloc, source, language) {
-        Ok(template) => Ok(template),
+        Ok(template) => Ok(kept(template, language)),
         Err(error) => Err(error_of(alloc, source, language, error)),
+    }
+}
+
+/// The template without the white space that the language drops.
+fn kept(template: Template, language: &Language) -> Template
+    ensures { tree_of result ≡ kept_nodes language.now (tree_of template) }
+{
+    if language.drops_blanks {
+        template.without_blanks()
+    } else {
+        template
     }
 }
 

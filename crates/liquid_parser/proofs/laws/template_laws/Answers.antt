@@ -1,4 +1,4 @@
-use Rattle.liquid_parser.proofs.WholeSources.{plain_sources, at_most_one_template, items_without_paths}
+use Rattle.liquid_parser.proofs.WholeSources.{plain_sources, at_most_one_template, items_without_paths, nothing_dropped}
 use Rattle.liquid_parser.proofs.laws.template_laws.Goals as goal
 
 pub returns-clause-plain : goal.returns-clause-plain
@@ -9,3 +9,6 @@ returns-clause-unique c = at_most_one_template
 
 pub returns-clause-items : goal.returns-clause-items
 returns-clause-items c = items_without_paths
+
+pub returns-clause-written : goal.returns-clause-written
+returns-clause-written c = nothing_dropped
