@@ -63,6 +63,7 @@ fn register(alloc: Global, language: &mut Language, options: &Value) -> Result<(
         register_tags(alloc, &mut language.tags, kinds)?;
     }
     language.include_paths = option(options, "paths").is_some();
+    language.drops_blanks = option(options, "blanks").is_some();
     if let Some(names) = map_option(options, "host") {
         register_host(alloc, &mut language.filters, names)?;
     }

@@ -3,15 +3,16 @@
 //!
 //! A row is a line of JSON on standard input: `call`, and of a page its `source`, its `data`, and
 //! `on`, with `partials`, `tags` that are registered beside the standard ones, `paths` where
-//! Jekyll's `include` takes a path without quotes, `host` (names that stand for filters of a host),
-//! `host tags` (each with its filter, and the variable that is its input if one is), the `depth`,
-//! what a value that is `missing` is (`nil`, or else a fault), the `writes` that its writer takes,
-//! of at most `most` bytes each and `room` bytes in all, what is rendered `first` on the same
-//! runtime, and what is rendered `then`; its page as `answer`, and the kind of its `fault`. Where
-//! a rendering of it is refused memory, `written` is what it has written, and `refused` what is
-//! rendered in place of `then`, each with all that it may show. A `rendering` is a page whose
-//! template is parsed before its calls. A `limited page` also has the `bytes` and the `turns` of
-//! its limits, and the limit that it is `ended_by`. The `source` of an `example` is its name.
+//! Jekyll's `include` takes a path without quotes, `blanks` where the white space of blocks that
+//! write nothing is dropped, `host` (names that stand for filters of a host), `host tags` (each
+//! with its filter, and the variable that is its input if one is), the `depth`, what a value that
+//! is `missing` is (`nil`, or else a fault), the `writes` that its writer takes, of at most `most`
+//! bytes each and `room` bytes in all, what is rendered `first` on the same runtime, and what is
+//! rendered `then`; its page as `answer`, and the kind of its `fault`. Where a rendering of it is
+//! refused memory, `written` is what it has written, and `refused` what is rendered in place of
+//! `then`, each with all that it may show. A `rendering` is a page whose template is parsed before
+//! its calls. A `limited page` also has the `bytes` and the `turns` of its limits, and the limit
+//! that it is `ended_by`. The `source` of an `example` is its name.
 //! `jekyll filters` are over a site of the `address` and the `base` path that `on` has. Where what
 //! `on` has is to be `read back`, `with` is the number of lists around it. Of all other calls
 //! `with` is a list of steps. With a word each call stands between marks, for
