@@ -12,7 +12,7 @@ use Rattle.liquid_syntax.specs.declared.node.Arm.{Arm}
 use Rattle.liquid_syntax.specs.declared.node.Node.{Node}
 use Rattle.liquid_syntax.specs.declared.node.Node.TheVariants.{Text as Plain, Output, Assign, Raw, Comment, If, Unless, Capture, Case, For, TableRow, Break, Continue, Increment, Decrement, Cycle, IfChanged, Include, JekyllInclude, Render, RenderEach}
 use Rattle.liquid_syntax.specs.declared.blanks.Sound.TheVariants.{Loud, Silent, OfBodies}
-use Rattle.liquid_syntax.specs.inside.BlankNodes.{cleared, drops, is_heard_as, own, owns, quiet, quiet_bodies, sound_of, text_sound, tidied, tidied_bodies}
+use Rattle.liquid_syntax.specs.inside.BlankNodes.{cleared, drops, is_heard_as, own_flat, own_flats, quiet, quiet_bodies, sound_of, text_sound, tidied, tidied_bodies}
 
 -- ---- the same forest, of makers
 

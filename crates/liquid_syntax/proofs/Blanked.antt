@@ -12,7 +12,7 @@ use Rattle.liquid_syntax.specs.Nested.{AreNested, ends_in}
 use Rattle.liquid_syntax.specs.Templates.{template_nodes, tree_of}
 use Rattle.liquid_syntax.specs.declared.node.Node.{Node}
 use Rattle.liquid_syntax.specs.declared.template.Template.{Template}
-use Rattle.liquid_syntax.specs.inside.BlankNodes.{own, owns, tidied}
+use Rattle.liquid_syntax.specs.inside.BlankNodes.{own_flat, own_flats, tidied}
 use Rattle.liquid_syntax.proofs.BlankTrees.{IsFit, AreFit, made, made_bodies, tidy_is}
 use Rattle.liquid_syntax.proofs.Dressed.{nested_laid, laid_nested}
 use Rattle.liquid_syntax.proofs.Round.{tree_of-laid, whole-stands}
@@ -61,31 +61,31 @@ whole_laid ns f s = sym (part_laid ns 0 f (length ns) s ∙ ap (λ l. laid 0 f +
 
 -- ---- the nodes as they are
 
-owned : (ns : List Node) (k : ℕ) (x : Flat Node) → slice_get (owns ns) k ≡ Some x → (n : Node) × (slice_get ns k ≡ Some n) × (x ≡ own n)
+owned : (ns : List Node) (k : ℕ) (x : Flat Node) → slice_get (own_flats ns) k ≡ Some x → (n : Node) × (slice_get ns k ≡ Some n) × (x ≡ own_flat n)
 owned ns k x is = on (slice_get ns k) refl
   where
-    on : (o : Option Node) → slice_get ns k ≡ o → (n : Node) × (slice_get ns k ≡ Some n) × (x ≡ own n)
-    on None e = let none : Some x ≡ None = sym is ∙ slice_get-map own ns k ∙ ap (option_map own) e in absurd cc
-    on (Some n) e = let same : Some x ≡ Some (own n) = sym is ∙ slice_get-map own ns k ∙ ap (option_map own) e in (n, e, cc)
+    on : (o : Option Node) → slice_get ns k ≡ o → (n : Node) × (slice_get ns k ≡ Some n) × (x ≡ own_flat n)
+    on None e = let none : Some x ≡ None = sym is ∙ slice_get-map own_flat ns k ∙ ap (option_map own_flat) e in absurd cc
+    on (Some n) e = let same : Some x ≡ Some (own_flat n) = sym is ∙ slice_get-map own_flat ns k ∙ ap (option_map own_flat) e in (n, e, cc)
 
 bodies_count : (ns : List (Flat Node)) (k : ℕ) (es : List ℕ) (bs : Bodies Node) → StandBodies ns k es bs → length (bodies_of (made_bodies bs)) ≡ length es
 bodies_count ns k es no_bodies s = ap length (sym s)
 bodies_count ns k es (body f bs) (e, rest, eq, here, more) = let c = bodies_count ns e rest bs more in subst (λ l. length (bodies_of (made_bodies (body f bs))) ≡ length l) (sym eq) (omega (arith, c))
 
 mutual
-  fits : (ns : List Node) (k : ℕ) (f : Forest Node) (to : ℕ) → IsLaidOut (owns ns) k f to → IsFit f
+  fits : (ns : List Node) (k : ℕ) (f : Forest Node) (to : ℕ) → IsLaidOut (own_flats ns) k f to → IsFit f
   fits ns k empty to s = tt
   fits ns k (node h bs rest) to (x, is, eq, inner, after) =
       let (n, there, same) = owned ns k x is in
       let ends : x.ends ≡ (flat_of h).ends = ap (λ y. y.ends) same ∙ ap (λ m. (flat_of m).ends) (sym (ap (λ y. y.head) same) ∙ eq) in
-      (bodies_count (owns ns) (k + 1) x.ends bs inner ∙ ap length ends, all_fit ns (k + 1) x.ends bs inner, fits ns (last_end (k + 1) x.ends) rest to after)
+      (bodies_count (own_flats ns) (k + 1) x.ends bs inner ∙ ap length ends, all_fit ns (k + 1) x.ends bs inner, fits ns (last_end (k + 1) x.ends) rest to after)
 
-  all_fit : (ns : List Node) (k : ℕ) (es : List ℕ) (bs : Bodies Node) → StandBodies (owns ns) k es bs → AreFit bs
+  all_fit : (ns : List Node) (k : ℕ) (es : List ℕ) (bs : Bodies Node) → StandBodies (own_flats ns) k es bs → AreFit bs
   all_fit ns k es no_bodies s = tt
   all_fit ns k es (body f bs) (e, rest, eq, here, more) = (fits ns k f e here, all_fit ns e rest bs more)
 
 mutual
-  made_stands : (ns : List Node) (k : ℕ) (f : Forest Node) (to : ℕ) → IsLaidOut (owns ns) k f to → IsLaidOut (flats ns) k (made f) to
+  made_stands : (ns : List Node) (k : ℕ) (f : Forest Node) (to : ℕ) → IsLaidOut (own_flats ns) k f to → IsLaidOut (flats ns) k (made f) to
   made_stands ns k empty to s = s
   made_stands ns k (node h bs rest) to (x, is, eq, inner, after) =
       let (n, there, same) = owned ns k x is in
@@ -98,24 +98,24 @@ mutual
         subst (λ l. IsLaidOut (flats ns) (last_end (k + 1) l) (made rest) to) ends (made_stands ns (last_end (k + 1) x.ends) rest to after),
       )
 
-  made_bodies_stand : (ns : List Node) (k : ℕ) (es : List ℕ) (bs : Bodies Node) → StandBodies (owns ns) k es bs → StandBodies (flats ns) k es (made_bodies bs)
+  made_bodies_stand : (ns : List Node) (k : ℕ) (es : List ℕ) (bs : Bodies Node) → StandBodies (own_flats ns) k es bs → StandBodies (flats ns) k es (made_bodies bs)
   made_bodies_stand ns k es no_bodies s = s
   made_bodies_stand ns k es (body f bs) (e, rest, eq, here, more) = (e, rest, eq, made_stands ns k f e here, made_bodies_stand ns e rest bs more)
 
-ends_of_owns : (ns : List Node) → ends_in (owns ns) ≡ ends_of_nodes ns
+ends_of_owns : (ns : List Node) → ends_in (own_flats ns) ≡ ends_of_nodes ns
 ends_of_owns [] = refl
 ends_of_owns (n ∷ ns) = ap (λ l. (flat_of n).ends ∷ l) (ends_of_owns ns)
 
 -- ---- templates
 
 pub own_forest : Template → Forest Node
-own_forest t = places.tree_of (owns (template_nodes t))
+own_forest t = places.tree_of (own_flats (template_nodes t))
 
-pub own_stands : (t : Template) → IsLaidOut (owns (template_nodes t)) 0 (own_forest t) (length (template_nodes t))
+pub own_stands : (t : Template) → IsLaidOut (own_flats (template_nodes t)) 0 (own_forest t) (length (template_nodes t))
 unfolding own_forest
 own_stands t =
     let ns = template_nodes t in
-    subst (IsLaidOut (owns ns) 0 (places.tree_of (owns ns))) (length-map ns own) (whole-stands (owns ns) (places.tree_of (owns ns)) (nested_laid (owns ns) (subst AreNested (sym (ends_of_owns ns)) t.nested)))
+    subst (IsLaidOut (own_flats ns) 0 (places.tree_of (own_flats ns))) (length-map ns own_flat) (whole-stands (own_flats ns) (places.tree_of (own_flats ns)) (nested_laid (own_flats ns) (subst AreNested (sym (ends_of_owns ns)) t.nested)))
 
 made_tree : (ns : List Node) (f : Forest Maker) → IsLaidOut (flats ns) 0 f (length ns) → places.tree_of (flats ns) ≡ f
 made_tree ns f s = ap places.tree_of (sym (whole_laid (flats ns) f (subst (IsLaidOut (flats ns) 0 f) (sym (length-map ns flat_of)) s))) ∙ tree_of-laid f

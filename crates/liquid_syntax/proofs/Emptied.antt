@@ -9,7 +9,7 @@ use Rattle.liquid_syntax.specs.Forest.{Forest, Bodies, node}
 use Rattle.liquid_syntax.specs.Laid.{Flat, IsLaidOut, StandBodies, last_end}
 use Rattle.liquid_syntax.specs.declared.node.Node.{Node}
 use Rattle.liquid_syntax.specs.declared.node.Node.TheVariants.{Text as Plain, Output, Assign, Raw, Comment, If, Unless, Capture, Case, For, TableRow, Break, Continue, Increment, Decrement, Cycle, IfChanged, Include, JekyllInclude, Render, RenderEach}
-use Rattle.liquid_syntax.specs.inside.BlankNodes.{AreSameOutside, IsCleared, IsOwnRange, cleared, drops, own, owns, quiet_bodies, tidied, tidied_bodies}
+use Rattle.liquid_syntax.specs.inside.BlankNodes.{AreSameOutside, IsCleared, IsOwnRange, cleared, drops, own_flat, own_flats, quiet_bodies, tidied, tidied_bodies}
 use Rattle.liquid_syntax.proofs.Places.{Stands-le, StandBodies-le}
 use Rattle.liquid_syntax.proofs.Round.{joined}
 use Rattle.liquid_syntax.proofs.Tidied.{Agree, Begins, own_first, own_within, bodies_stand, bodies_there, bodies_tidied, stands_there}
@@ -94,20 +94,20 @@ seen : {B : Type 0} (f : Node → B) (ns ms : List Node) (i : ℕ) → slice_get
 seen f ns ms i e = slice_get-map f ms i ∙ ap (option_map f) e ∙ sym (slice_get-map f ns i)
 
 -- what isn't reached yet stands as it did
-pub still : (old ns : List Node) (from at : ℕ) (g : Forest Node) (to : ℕ) → AreSameOutside from at old ns → IsLaidOut (owns old) at g to → IsLaidOut (owns ns) at g to
-still old ns from at g to same there = stands_there (owns old) (owns ns) at g to there (λ i le lt. seen own old ns i (same i (inr le)))
+pub still : (old ns : List Node) (from at : ℕ) (g : Forest Node) (to : ℕ) → AreSameOutside from at old ns → IsLaidOut (own_flats old) at g to → IsLaidOut (own_flats ns) at g to
+still old ns from at g to same there = stands_there (own_flats old) (own_flats ns) at g to there (λ i le lt. seen own_flat old ns i (same i (inr le)))
 
 -- the bodies of a node stand on where the node itself is turned
-pub bodies_left : (drop : Bool) (at : ℕ) (n : Node) (ns ms : List Node) (es : List ℕ) (bs : Bodies Node) → IsTurned drop at n ns ms → StandBodies (owns ns) (at + 1) es bs → StandBodies (owns ms) (at + 1) es bs
-bodies_left drop at n ns ms es bs turn there = bodies_there (owns ns) (owns ms) (at + 1) es bs there (λ i le lt. seen own ns ms i (turn.others i (inr le)))
+pub bodies_left : (drop : Bool) (at : ℕ) (n : Node) (ns ms : List Node) (es : List ℕ) (bs : Bodies Node) → IsTurned drop at n ns ms → StandBodies (own_flats ns) (at + 1) es bs → StandBodies (own_flats ms) (at + 1) es bs
+bodies_left drop at n ns ms es bs turn there = bodies_there (own_flats ns) (own_flats ms) (at + 1) es bs there (λ i le lt. seen own_flat ns ms i (turn.others i (inr le)))
 
 pub range_left : (drop : Bool) (at : ℕ) (f : Forest Node) (to : ℕ) (n : Node) (ns ms : List Node) → IsTurned drop at n ns ms → Begins ns at f to n → IsOwnRange ms (at + 1) (last_end (at + 1) (flat_of n).ends)
-range_left drop at f to n ns ms turn (bs, rest, is, inner, after) = (joined bs, bodies_stand (owns ms) (at + 1) (flat_of n).ends bs (bodies_left drop at n ns ms (flat_of n).ends bs turn inner))
+range_left drop at f to n ns ms turn (bs, rest, is, inner, after) = (joined bs, bodies_stand (own_flats ms) (at + 1) (flat_of n).ends bs (bodies_left drop at n ns ms (flat_of n).ends bs turn inner))
 
 module _ (old ns ms us : List Node) (from at past : ℕ) (drop silent : Bool) (n : Node) (begun : from ≤ at) (there : slice_get ns at ≡ Some n) (is_past : past ≡ last_end (at + 1) (flat_of n).ends)
-    (same : AreSameOutside from at old ns) (turn : IsTurned drop at n ns ms) (laid : (f : Forest Node) → IsLaidOut (owns ms) (at + 1) f past → IsLaidOut (flats us) (at + 1) (tidied silent f) past)
+    (same : AreSameOutside from at old ns) (turn : IsTurned drop at n ns ms) (laid : (f : Forest Node) → IsLaidOut (own_flats ms) (at + 1) f past → IsLaidOut (flats us) (at + 1) (tidied silent f) past)
     (inside : AreSameOutside (at + 1) past ms us) (at_past : at < past)
-    (silence : (bs : Bodies Node) → StandBodies (owns ns) (at + 1) (flat_of n).ends bs → silent ≡ (drops n && quiet_bodies bs)) where
+    (silence : (bs : Bodies Node) → StandBodies (own_flats ns) (at + 1) (flat_of n).ends bs → silent ≡ (drops n && quiet_bodies bs)) where
   -- nothing has changed but up to the end of the node
   pub same_past : AreSameOutside from past old us
   same_past i (inl lt) = inside i (inl (omega (arith, lt, begun))) ∙ turn.others i (inl (omega (arith, lt, begun))) ∙ same i (inl lt)
@@ -119,20 +119,20 @@ module _ (old ns ms us : List Node) (from at past : ℕ) (drop silent : Bool) (n
       agree i le (omega (arith, lt, at_past)) ∙ seen flat_of ns us i (inside i (inl (omega (arith, lt))) ∙ turn.others i (inl lt))
 
   -- and the node that was turned, with its bodies, before what is left
-  pub node_done : (g : Forest Node) (to : ℕ) → at < to → IsLaidOut (owns old) at g to
-      → (rest : Forest Node) × IsLaidOut (owns old) past rest to × ((fs : List (Flat Maker)) → Agree (flats us) fs from past → IsLaidOut fs past (tidied drop rest) to → IsLaidOut fs at (tidied drop g) to)
+  pub node_done : (g : Forest Node) (to : ℕ) → at < to → IsLaidOut (own_flats old) at g to
+      → (rest : Forest Node) × IsLaidOut (own_flats old) past rest to × ((fs : List (Flat Maker)) → Agree (flats us) fs from past → IsLaidOut fs past (tidied drop rest) to → IsLaidOut fs at (tidied drop g) to)
   node_done g to lt before =
       let es = (flat_of n).ends in
       let (bs, rest, is, inner, after) = own_first ns at g to n there lt (still old ns from at g to same before) in
       let end = last_end (at + 1) es in
-      let later : IsLaidOut (owns old) end rest to = stands_there (owns ns) (owns old) end rest to after (λ i le l. seen own ns old i (sym (same i (inr (omega (arith, le, is_past, at_past)))))) in
-      let bodies : StandBodies (owns ms) (at + 1) es bs = bodies_left drop at n ns ms es bs turn inner in
+      let later : IsLaidOut (own_flats old) end rest to = stands_there (own_flats ns) (own_flats old) end rest to after (λ i le l. seen own_flat ns old i (sym (same i (inr (omega (arith, le, is_past, at_past)))))) in
+      let bodies : StandBodies (own_flats ms) (at + 1) es bs = bodies_left drop at n ns ms es bs turn inner in
       let done : IsLaidOut (flats us) (at + 1) (tidied silent (joined bs)) end =
-      subst (IsLaidOut (flats us) (at + 1) (tidied silent (joined bs))) is_past (laid (joined bs) (subst (IsLaidOut (owns ms) (at + 1) (joined bs)) (sym is_past) (bodies_stand (owns ms) (at + 1) es bs bodies))) in
+      subst (IsLaidOut (flats us) (at + 1) (tidied silent (joined bs))) is_past (laid (joined bs) (subst (IsLaidOut (own_flats ms) (at + 1) (joined bs)) (sym is_past) (bodies_stand (own_flats ms) (at + 1) es bs bodies))) in
       let tidy : StandBodies (flats us) (at + 1) es (tidied_bodies (drops n && quiet_bodies bs) bs) =
-      subst (λ b. StandBodies (flats us) (at + 1) es (tidied_bodies b bs)) (silence bs inner) (bodies_tidied (owns ms) (flats us) silent (at + 1) es bs bodies done) in (
+      subst (λ b. StandBodies (flats us) (at + 1) es (tidied_bodies b bs)) (silence bs inner) (bodies_tidied (own_flats ms) (flats us) silent (at + 1) es bs bodies done) in (
         rest,
-        subst (λ k. IsLaidOut (owns old) k rest to) (sym is_past) later,
+        subst (λ k. IsLaidOut (own_flats old) k rest to) (sym is_past) later,
         λ fs agree left. subst (λ f. IsLaidOut fs at (tidied drop f) to) (sym is) (
           record { head = cleared drop n; ends = es },
           agree at begun at_past ∙ slice_get-map flat_of us at ∙ ap (option_map flat_of) (inside at (inl (omega arith)) ∙ turn.there) ∙ ap Some turn.shape,

@@ -8,7 +8,7 @@ use Rattle.liquid_syntax.specs.Forest.{Forest, Bodies, empty, node, no_bodies, b
 use Rattle.liquid_syntax.specs.Laid.{Flat, IsLaidOut, StandBodies, last_end}
 use Rattle.liquid_syntax.specs.declared.node.Node.{Node}
 use Rattle.liquid_syntax.specs.declared.blanks.Sound.TheVariants.{Loud, Silent, OfBodies}
-use Rattle.liquid_syntax.specs.inside.BlankNodes.{IsOwnRange, drops, is_heard_as, own, owns, quiet, quiet_bodies, sound_of, tidied, tidied_bodies, cleared}
+use Rattle.liquid_syntax.specs.inside.BlankNodes.{IsOwnRange, drops, is_heard_as, own_flat, own_flats, quiet, quiet_bodies, sound_of, tidied, tidied_bodies, cleared}
 use Rattle.liquid_syntax.proofs.Places.{Stands-le, StandBodies-le, first, first-within}
 use Rattle.liquid_syntax.proofs.Round.{append, joined}
 
@@ -35,32 +35,32 @@ bodies_stand ns k es (body f bs) (e, rest, eq, here, more) =
 
 -- ---- the first node of a range
 
-pub own_within : (ns : List Node) (at : ℕ) (f : Forest Node) (to : ℕ) → IsLaidOut (owns ns) at f to → at < to → at < length ns
-own_within ns at f to s lt = subst (λ n. at < n) (length-map ns own) (first-within (owns ns) at f to s lt)
+pub own_within : (ns : List Node) (at : ℕ) (f : Forest Node) (to : ℕ) → IsLaidOut (own_flats ns) at f to → at < to → at < length ns
+own_within ns at f to s lt = subst (λ n. at < n) (length-map ns own_flat) (first-within (own_flats ns) at f to s lt)
 
 -- the bodies of a node, and what stands after it
 abbrev pub Begins : List Node → ℕ → Forest Node → ℕ → Node → Type 0
 Begins ns at f to n =
-    (bs : Bodies Node) × (rest : Forest Node) × (f ≡ node n bs rest) × StandBodies (owns ns) (at + 1) (flat_of n).ends bs × IsLaidOut (owns ns) (last_end (at + 1) (flat_of n).ends) rest to
+    (bs : Bodies Node) × (rest : Forest Node) × (f ≡ node n bs rest) × StandBodies (own_flats ns) (at + 1) (flat_of n).ends bs × IsLaidOut (own_flats ns) (last_end (at + 1) (flat_of n).ends) rest to
 
-pub own_first : (ns : List Node) (at : ℕ) (f : Forest Node) (to : ℕ) (n : Node) → slice_get ns at ≡ Some n → at < to → IsLaidOut (owns ns) at f to → Begins ns at f to n
-own_first ns at f to n is lt s = first (owns ns) at f to (own n) s lt (slice_get-map own ns at ∙ ap (option_map own) is)
+pub own_first : (ns : List Node) (at : ℕ) (f : Forest Node) (to : ℕ) (n : Node) → slice_get ns at ≡ Some n → at < to → IsLaidOut (own_flats ns) at f to → Begins ns at f to n
+own_first ns at f to n is lt s = first (own_flats ns) at f to (own_flat n) s lt (slice_get-map own_flat ns at ∙ ap (option_map own_flat) is)
 
 -- the same, where the list is read at an index
-pub own_read : (ns : List Node) (at : ℕ) (f : Forest Node) (to : ℕ) (n : Node) → n ≡ get_or ns at n → at < to → IsLaidOut (owns ns) at f to → Begins ns at f to n
+pub own_read : (ns : List Node) (at : ℕ) (f : Forest Node) (to : ℕ) (n : Node) → n ≡ get_or ns at n → at < to → IsLaidOut (own_flats ns) at f to → Begins ns at f to n
 own_read ns at f to n is lt s = own_first ns at f to n (slice_get_read ns (length ns) at n refl (own_within ns at f to s lt) is) lt s
 
 -- where its bodies stand, as one forest
 pub own_bodies : (ns : List Node) (at : ℕ) (f : Forest Node) (to : ℕ) (n : Node) → Begins ns at f to n → IsOwnRange ns (at + 1) (last_end (at + 1) (flat_of n).ends)
-own_bodies ns at f to n (bs, rest, is, inner, after) = (joined bs, bodies_stand (owns ns) (at + 1) (flat_of n).ends bs inner)
+own_bodies ns at f to n (bs, rest, is, inner, after) = (joined bs, bodies_stand (own_flats ns) (at + 1) (flat_of n).ends bs inner)
 
 -- it ends after it begins, and within the range
 pub own_ends : (ns : List Node) (at : ℕ) (f : Forest Node) (to : ℕ) (n : Node) → Begins ns at f to n → (at < last_end (at + 1) (flat_of n).ends) × (last_end (at + 1) (flat_of n).ends ≤ to)
-own_ends ns at f to n (bs, rest, is, inner, after) = (omega (arith, StandBodies-le (owns ns) (at + 1) (flat_of n).ends bs inner), Stands-le (owns ns) (last_end (at + 1) (flat_of n).ends) rest to after)
+own_ends ns at f to n (bs, rest, is, inner, after) = (omega (arith, StandBodies-le (own_flats ns) (at + 1) (flat_of n).ends bs inner), Stands-le (own_flats ns) (last_end (at + 1) (flat_of n).ends) rest to after)
 
 -- what is asked of the nodes that are left, after one of them
-pub heard : (ns : List Node) (at : ℕ) (f : Forest Node) (to : ℕ) (n : Node) (goes_on : Bool) → Begins ns at f to n → ((bs : Bodies Node) → StandBodies (owns ns) (at + 1) (flat_of n).ends bs → is_heard_as (sound_of n) (quiet_bodies bs) ≡ goes_on)
-    → (rest : Forest Node) × IsLaidOut (owns ns) (last_end (at + 1) (flat_of n).ends) rest to × (quiet f ≡ (goes_on && quiet rest))
+pub heard : (ns : List Node) (at : ℕ) (f : Forest Node) (to : ℕ) (n : Node) (goes_on : Bool) → Begins ns at f to n → ((bs : Bodies Node) → StandBodies (own_flats ns) (at + 1) (flat_of n).ends bs → is_heard_as (sound_of n) (quiet_bodies bs) ≡ goes_on)
+    → (rest : Forest Node) × IsLaidOut (own_flats ns) (last_end (at + 1) (flat_of n).ends) rest to × (quiet f ≡ (goes_on && quiet rest))
 heard ns at f to n goes_on (bs, rest, is, inner, after) said = (rest, after, ap quiet is ∙ ap (λ b. b && quiet rest) (said bs inner))
 
 -- by the three ways in which it is asked

@@ -5,7 +5,7 @@ ghost use Rattle.liquid_syntax.specs.Flats.{flat_of, flats};
 ghost use Rattle.liquid_syntax.specs.Forest.{Forest};
 ghost use Rattle.liquid_syntax.specs.Laid.{IsLaidOut, last_end};
 ghost use Rattle.liquid_syntax.specs.inside.BlankNodes.{AreSameOutside, IsCleared, IsOwnRange};
-ghost use Rattle.liquid_syntax.specs.inside.BlankNodes.{drops, owns, quiet};
+ghost use Rattle.liquid_syntax.specs.inside.BlankNodes.{drops, own_flats, quiet};
 ghost use Rattle.liquid_syntax.specs.inside.BlankNodes.{sound_of, text_sound, tidied};
 ghost use Rattle.liquid_syntax.specs.declared.node.Node.{Node};
 
@@ -80,7 +80,7 @@ fn past(node: &Node, next: usize) -> usize
 /// Whether the nodes from one index to another write nothing.
 fn is_quiet(nodes: &[Node], from: usize, to: usize) -> bool
     requires { IsOwnRange nodes.now from to }
-    ensures { (f : Forest Node) → IsLaidOut (owns nodes.now) from f to → result ≡ quiet f }
+    ensures { (f : Forest Node) → IsLaidOut (own_flats nodes.now) from f to → result ≡ quiet f }
 {
     let mut at = from;
     while at < to {
@@ -113,7 +113,7 @@ fn clear(node: &mut Node)
 /// and, where `in_silence`, also those that stand in no block there.
 pub(crate) fn empty_blanks(nodes: &mut [Node], from: usize, to: usize, in_silence: bool)
     requires { IsOwnRange nodes.old from to }
-    ensures laid { (f : Forest Node) → IsLaidOut (owns nodes.old) from f to →
+    ensures laid { (f : Forest Node) → IsLaidOut (own_flats nodes.old) from f to →
         IsLaidOut (flats nodes.new) from (tidied in_silence f) to }
     ensures same { AreSameOutside from to nodes.old nodes.new }
     ensures length { length nodes.new ≡ length nodes.old }

@@ -116,7 +116,7 @@ impl Template {
         let mut nodes = nodes;
         let end = nodes.len();
         empty_blanks(&mut nodes, 0, end, false);
-        Template {
+        Self {
             nodes,
             positions,
             source,

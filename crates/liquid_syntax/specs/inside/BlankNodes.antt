@@ -86,14 +86,14 @@ abbrev mutual
   tidied_bodies drop (body f bs) = body (tidied drop f) (tidied_bodies drop bs)
 
 -- the nodes of a list as they are
-abbrev pub own : Node → Flat Node
-own n = record { head = n; ends = (flat_of n).ends }
+abbrev pub own_flat : Node → Flat Node
+own_flat n = record { head = n; ends = (flat_of n).ends }
 
-abbrev pub owns : List Node → List (Flat Node)
-owns ns = map own ns
+abbrev pub own_flats : List Node → List (Flat Node)
+own_flats ns = map own_flat ns
 
 abbrev pub IsOwnRange : List Node → ℕ → ℕ → Type 0
-IsOwnRange ns from to = (f : Forest Node) × IsLaidOut (owns ns) from f to
+IsOwnRange ns from to = (f : Forest Node) × IsLaidOut (own_flats ns) from f to
 
 -- a text is empty now, and any other node is as it was
 abbrev pub IsCleared : Node → Node → Type 0

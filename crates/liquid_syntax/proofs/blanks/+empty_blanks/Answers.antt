@@ -5,7 +5,7 @@ use Rattle.liquid_syntax.specs.Flats.{flat_of, flats}
 use Rattle.liquid_syntax.specs.Forest.{Forest, Bodies, empty}
 use Rattle.liquid_syntax.specs.Laid.{IsLaidOut, StandBodies, last_end}
 use Rattle.liquid_syntax.specs.declared.node.Node.{Node}
-use Rattle.liquid_syntax.specs.inside.BlankNodes.{IsCleared, IsOwnRange, drops, owns, quiet_bodies, tidied}
+use Rattle.liquid_syntax.specs.inside.BlankNodes.{IsCleared, IsOwnRange, drops, own_flats, quiet_bodies, tidied}
 use Rattle.liquid_syntax.proofs.Emptied.{IsTurned, turned, unturned, still, range_left, same_past, agree_before, node_done}
 use Rattle.liquid_syntax.proofs.Places.{Stands-le, nothing_left}
 use Rattle.liquid_syntax.proofs.Round.{joined}
@@ -108,9 +108,9 @@ loop-at-preserved t c =
     let us = c.empty_blanks.new.nodes in
     let silent = c.if-may_drop.is_silent in
     let at_past : at < past = omega (arith, e, ends.0) in
-    let silence : (bs : Bodies Node) → StandBodies (owns ns) (at + 1) (flat_of n).ends bs → silent ≡ (drops n && quiet_bodies bs) =
+    let silence : (bs : Bodies Node) → StandBodies (own_flats ns) (at + 1) (flat_of n).ends bs → silent ≡ (drops n && quiet_bodies bs) =
     elim c.if-may_drop.branch [
-      | then-may_drop w ↦ λ bs s. w.is_silent-is ∙ w.is_quiet-is_silent.ensures (joined bs) (subst (IsLaidOut (owns ns) (at + 1) (joined bs)) (sym e) (bodies_stand (owns ns) (at + 1) (flat_of n).ends bs s)) ∙ quiet_joined bs
+      | then-may_drop w ↦ λ bs s. w.is_silent-is ∙ w.is_quiet-is_silent.ensures (joined bs) (subst (IsLaidOut (own_flats ns) (at + 1) (joined bs)) (sym e) (bodies_stand (own_flats ns) (at + 1) (flat_of n).ends bs s)) ∙ quiet_joined bs
           ∙ sym (ap (λ b. b && quiet_bodies bs) (sym (c.drops-may_drop.ensures ∙ ap drops (sym c.index-nodes-at.is)) ∙ w.if-may_drop.true))
       | else-may_drop w ↦ λ bs s. w.is_silent-is ∙ w.if-may_drop.false ∙ sym (ap (λ b. b && quiet_bodies bs) (sym (c.drops-may_drop.ensures ∙ ap drops (sym c.index-nodes-at.is)) ∙ w.if-may_drop.false))
     ] in
@@ -130,12 +130,12 @@ loop-at-preserved t c =
 pub returns-clause-laid : goal.returns-clause-laid
 returns-clause-laid t c f whole =
     let (g, there, goes_on) = c.loop-at.invariant.whole f whole in
-    let none : g ≡ empty = nothing_left (owns c.args.nodes.now) c.loop-at.at g c.args.to there (omega (arith, c.loop-at-test.false)) in
-    goes_on (flats c.loop-at.nodes) (λ i le lt. refl) (subst (λ h. IsLaidOut (flats c.loop-at.nodes) c.loop-at.at (tidied c.args.in_silence h) c.args.to) (sym none) (subst (λ h. IsLaidOut (owns c.args.nodes.now) c.loop-at.at h c.args.to) none there))
+    let none : g ≡ empty = nothing_left (own_flats c.args.nodes.now) c.loop-at.at g c.args.to there (omega (arith, c.loop-at-test.false)) in
+    goes_on (flats c.loop-at.nodes) (λ i le lt. refl) (subst (λ h. IsLaidOut (flats c.loop-at.nodes) c.loop-at.at (tidied c.args.in_silence h) c.args.to) (sym none) (subst (λ h. IsLaidOut (own_flats c.args.nodes.now) c.loop-at.at h c.args.to) none there))
 
 pub returns-clause-same : goal.returns-clause-same
 returns-clause-same t c i (inl lt) = c.loop-at.invariant.same i (inl lt)
 returns-clause-same t c i (inr le) =
     let (g, there) = c.loop-at.invariant.left in
-    let ends : c.loop-at.at ≤ c.args.to = Stands-le (owns c.args.nodes.now) c.loop-at.at g c.args.to there in
+    let ends : c.loop-at.at ≤ c.args.to = Stands-le (own_flats c.args.nodes.now) c.loop-at.at g c.args.to there in
     c.loop-at.invariant.same i (inr (omega (arith, ends, le)))

@@ -3,7 +3,7 @@ use Rattle.liquid_syntax.specs.Flats.{flat_of}
 use Rattle.liquid_syntax.specs.Forest.{Forest, Bodies, empty}
 use Rattle.liquid_syntax.specs.Laid.{IsLaidOut, StandBodies, last_end}
 use Rattle.liquid_syntax.specs.declared.node.Node.{Node}
-use Rattle.liquid_syntax.specs.inside.BlankNodes.{IsOwnRange, is_heard_as, owns, quiet, quiet_bodies, sound_of}
+use Rattle.liquid_syntax.specs.inside.BlankNodes.{IsOwnRange, is_heard_as, own_flats, quiet, quiet_bodies, sound_of}
 use Rattle.liquid_syntax.proofs.Tidied.{own_within, own_read, own_bodies, own_ends, heard, heard_loud, heard_silent, heard_bodies, quiet_joined, bodies_stand}
 use Rattle.liquid_syntax.proofs.Places.{nothing_left}
 use Rattle.liquid_syntax.proofs.Round.{joined}
@@ -40,12 +40,12 @@ returns-then-not-goes_on t c f whole =
     let ns = c.args.nodes.now in
     let (g, stands, is) = c.loop-at.invariant.whole f whole in
     let begins = own_read ns c.loop-at.at g c.args.to n c.index-nodes-at.is c.loop-at-test.true stands in
-    let said : (bs : Bodies Node) → StandBodies (owns ns) (c.loop-at.at + 1) (flat_of n).ends bs → is_heard_as (sound_of n) (quiet_bodies bs) ≡ c.match-sound_from.goes_on =
+    let said : (bs : Bodies Node) → StandBodies (own_flats ns) (c.loop-at.at + 1) (flat_of n).ends bs → is_heard_as (sound_of n) (quiet_bodies bs) ≡ c.match-sound_from.goes_on =
     elim c.match-sound_from.branch [
       | in-Loud w ↦ λ bs s. heard_loud n (sym c.sound_from.ensures ∙ w.in-Loud.is) (quiet_bodies bs) ∙ sym w.goes_on-is
       | in-Silent w ↦ λ bs s. heard_silent n (sym c.sound_from.ensures ∙ w.in-Silent.is) (quiet_bodies bs) ∙ sym w.goes_on-is
       | in-OfBodies w ↦ λ bs s. heard_bodies n (sym c.sound_from.ensures ∙ w.in-OfBodies.is) (quiet_bodies bs)
-          ∙ sym (w.goes_on-is ∙ w.is_quiet-goes_on.ensures (joined bs) (subst (IsLaidOut (owns ns) (c.loop-at.at + 1) (joined bs)) (sym c.past-end.ensures) (bodies_stand (owns ns) (c.loop-at.at + 1) (flat_of n).ends bs s)) ∙ quiet_joined bs)
+          ∙ sym (w.goes_on-is ∙ w.is_quiet-goes_on.ensures (joined bs) (subst (IsLaidOut (own_flats ns) (c.loop-at.at + 1) (joined bs)) (sym c.past-end.ensures) (bodies_stand (own_flats ns) (c.loop-at.at + 1) (flat_of n).ends bs s)) ∙ quiet_joined bs)
     ] in
     let (rest, after, whole_is) = heard ns c.loop-at.at g c.args.to n c.match-sound_from.goes_on begins said in
     sym (is ∙ whole_is ∙ ap (λ b. b && quiet rest) c.if-not-goes_on.true)
@@ -69,17 +69,17 @@ loop-at-preserved t c =
     let begins = own_read ns c.loop-at.at f c.args.to n c.index-nodes-at.is c.loop-at-test.true stands in
     let ends = own_ends ns c.loop-at.at f c.args.to n begins in
     let e = c.past-end.ensures in
-    let said : (bs : Bodies Node) → StandBodies (owns ns) (c.loop-at.at + 1) (flat_of n).ends bs → is_heard_as (sound_of n) (quiet_bodies bs) ≡ c.match-sound_from.goes_on =
+    let said : (bs : Bodies Node) → StandBodies (own_flats ns) (c.loop-at.at + 1) (flat_of n).ends bs → is_heard_as (sound_of n) (quiet_bodies bs) ≡ c.match-sound_from.goes_on =
     elim c.match-sound_from.branch [
       | in-Loud w ↦ λ bs s. heard_loud n (sym c.sound_from.ensures ∙ w.in-Loud.is) (quiet_bodies bs) ∙ sym w.goes_on-is
       | in-Silent w ↦ λ bs s. heard_silent n (sym c.sound_from.ensures ∙ w.in-Silent.is) (quiet_bodies bs) ∙ sym w.goes_on-is
       | in-OfBodies w ↦ λ bs s. heard_bodies n (sym c.sound_from.ensures ∙ w.in-OfBodies.is) (quiet_bodies bs)
-          ∙ sym (w.goes_on-is ∙ w.is_quiet-goes_on.ensures (joined bs) (subst (IsLaidOut (owns ns) (c.loop-at.at + 1) (joined bs)) (sym c.past-end.ensures) (bodies_stand (owns ns) (c.loop-at.at + 1) (flat_of n).ends bs s)) ∙ quiet_joined bs)
+          ∙ sym (w.goes_on-is ∙ w.is_quiet-goes_on.ensures (joined bs) (subst (IsLaidOut (own_flats ns) (c.loop-at.at + 1) (joined bs)) (sym c.past-end.ensures) (bodies_stand (own_flats ns) (c.loop-at.at + 1) (flat_of n).ends bs s)) ∙ quiet_joined bs)
     ] in
-    let later : (g : Forest Node) → IsLaidOut (owns ns) c.loop-at.at g c.args.to → (rest : Forest Node) × IsLaidOut (owns ns) c.past-end.result rest c.args.to × (quiet g ≡ quiet rest) =
+    let later : (g : Forest Node) → IsLaidOut (own_flats ns) c.loop-at.at g c.args.to → (rest : Forest Node) × IsLaidOut (own_flats ns) c.past-end.result rest c.args.to × (quiet g ≡ quiet rest) =
     λ g there.
     let (rest, after, is) = heard ns c.loop-at.at g c.args.to n c.match-sound_from.goes_on (own_read ns c.loop-at.at g c.args.to n c.index-nodes-at.is c.loop-at-test.true there) said in
-    (rest, subst (λ k. IsLaidOut (owns ns) k rest c.args.to) (sym e) after, is ∙ ap (λ b. b && quiet rest) c.if-not-goes_on.false)
+    (rest, subst (λ k. IsLaidOut (own_flats ns) k rest c.args.to) (sym e) after, is ∙ ap (λ b. b && quiet rest) c.if-not-goes_on.false)
     in
     record {
       begun = omega (arith, e, ends.0, c.loop-at.invariant.begun);
@@ -90,5 +90,5 @@ loop-at-preserved t c =
 pub returns : goal.returns
 returns t c f whole =
     let (g, stands, is) = c.loop-at.invariant.whole f whole in
-    let none : g ≡ empty = nothing_left (owns c.args.nodes.now) c.loop-at.at g c.args.to stands (omega (arith, c.loop-at-test.false)) in
+    let none : g ≡ empty = nothing_left (own_flats c.args.nodes.now) c.loop-at.at g c.args.to stands (omega (arith, c.loop-at-test.false)) in
     sym (is ∙ ap quiet none)

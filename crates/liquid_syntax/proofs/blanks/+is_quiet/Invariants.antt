@@ -2,7 +2,7 @@ use Rattle.std.proofs.Common.{◌-◌, ◌≡◌, ◌≤◌}
 use Rattle.liquid_syntax.specs.Forest.{Forest}
 use Rattle.liquid_syntax.specs.Laid.{IsLaidOut}
 use Rattle.liquid_syntax.specs.declared.node.Node.{Node}
-use Rattle.liquid_syntax.specs.inside.BlankNodes.{IsOwnRange, owns, quiet}
+use Rattle.liquid_syntax.specs.inside.BlankNodes.{IsOwnRange, own_flats, quiet}
 use Rattle.liquid_syntax.proofs.blanks.+is_quiet.Given as goal
 
 abbrev pub decreases-is_quiet : goal.decreases-is_quiet
@@ -14,7 +14,7 @@ invariant-loop-at l =
     record {
       begun : l.from ≤ l.at;
       left : IsOwnRange l.nodes l.at l.to;
-      whole : (f : Forest Node) → IsLaidOut (owns l.nodes) l.from f l.to → (g : Forest Node) × IsLaidOut (owns l.nodes) l.at g l.to × (quiet f ≡ quiet g);
+      whole : (f : Forest Node) → IsLaidOut (own_flats l.nodes) l.from f l.to → (g : Forest Node) × IsLaidOut (own_flats l.nodes) l.at g l.to × (quiet f ≡ quiet g);
     }
 
 abbrev pub decreases-loop-at : goal.decreases-loop-at
