@@ -76,9 +76,10 @@ pub after_written : (texts : PageTexts) (r : Result (Unit {0}) Error) (before st
     → Keeps before start → RanOut r start after ⊎ ShowsStandard texts r start after → Keeps after (append_known now []) → is_refused r ≡ false → IsPageWritten texts r before now
 after_written texts r before start after now p (inl out) k within = absurd (true≢false (sym (refused_of_memory r out.memory) ∙ within))
 after_written texts r before start after now p (inr shown) k within = record {
-    text = shown.2.text;
-    page = (shown.0, shown.1, subst (λ end. IsPage shown.0 texts shown.2.text end) (sym (shown.2.ended within)) shown.2.is_page);
-    written = whole_after before start after now shown.2.text p (shown.2.whole within) k }
+  text = shown.2.text;
+  page = (shown.0, shown.1, subst (λ end. IsPage shown.0 texts shown.2.text end) (sym (shown.2.ended within)) shown.2.is_page);
+  written = whole_after before start after now shown.2.text p (shown.2.whole within) k;
+}
 
 -- the page of the texts that were read is begun
 left_begun : (known : Option ReadableFiles) (wanted : ReadableFiles → Result PageTexts Stop) (texts : PageTexts) (old new : Option (List ℕ))

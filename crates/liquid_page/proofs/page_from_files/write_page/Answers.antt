@@ -31,16 +31,16 @@ returns-clause-page g c within =
     let start = subst (λ b. Keeps (contents c.args.writer) (buffered_contents contents b)) (sym c.new-counted.ensures.writer) c.in-Ok.ensures.held in
     elim c.match-flushed.branch [
       | in-Ok-flushed w ↦
-        let done = buffered_contents contents c.into_inner-buffered.result in
-        let kept : Keeps (buffered_contents contents c.into_inner-buffered.result) (append_known (contents c.match-answer.buffered.writer) []) =
-        elim c.match-answer.branch [
-          | in-Ok-answer v ↦ subst (λ b. Keeps done (append_known (contents b.writer) [])) (sym v.buffered-is)
-            (subst (λ xs. Keeps done (append_known (contents v.flush-flushed.new.self.writer) xs)) (after_success _ _ (sym v.flushed-is ∙ w.in-Ok-flushed.is) v.flush-flushed.ensures.empty) v.flush-flushed.ensures.bytes)
-          | in-Err-answer v ↦ subst (λ b. Keeps done (append_known (contents b.writer) [])) (sym v.buffered-is)
-            (subst (λ xs. Keeps done (append_known (contents v.flush_buffer-flushed.new.self.writer) xs)) (after_success _ _ (sym v.flushed-is ∙ w.in-Ok-flushed.is) v.flush_buffer-flushed.ensures.empty) v.flush_buffer-flushed.ensures.bytes)
-        ] in
-        subst (λ r. IsPageWritten texts r (contents c.args.writer) (contents c.into_inner.result)) (sym w.answer2-is)
-        (subst (λ x. IsPageWritten texts c.run_without_cleanup-answer.result (contents c.args.writer) (contents x)) (sym c.into_inner.ensures)
-        (after_written texts _ _ _ _ _ start c.run_without_cleanup-answer.ensures.page (subst (λ b. Keeps (buffered_contents contents b) (append_known (contents c.match-answer.buffered.writer) [])) c.into_inner-buffered.ensures kept) (subst (λ r. is_refused r ≡ false) w.answer2-is within)))
+          let done = buffered_contents contents c.into_inner-buffered.result in
+          let kept : Keeps (buffered_contents contents c.into_inner-buffered.result) (append_known (contents c.match-answer.buffered.writer) []) =
+          elim c.match-answer.branch [
+            | in-Ok-answer v ↦ subst (λ b. Keeps done (append_known (contents b.writer) [])) (sym v.buffered-is)
+                (subst (λ xs. Keeps done (append_known (contents v.flush-flushed.new.self.writer) xs)) (after_success _ _ (sym v.flushed-is ∙ w.in-Ok-flushed.is) v.flush-flushed.ensures.empty) v.flush-flushed.ensures.bytes)
+            | in-Err-answer v ↦ subst (λ b. Keeps done (append_known (contents b.writer) [])) (sym v.buffered-is)
+                (subst (λ xs. Keeps done (append_known (contents v.flush_buffer-flushed.new.self.writer) xs)) (after_success _ _ (sym v.flushed-is ∙ w.in-Ok-flushed.is) v.flush_buffer-flushed.ensures.empty) v.flush_buffer-flushed.ensures.bytes)
+          ] in
+          subst (λ r. IsPageWritten texts r (contents c.args.writer) (contents c.into_inner.result)) (sym w.answer2-is)
+          (subst (λ x. IsPageWritten texts c.run_without_cleanup-answer.result (contents c.args.writer) (contents x)) (sym c.into_inner.ensures)
+          (after_written texts _ _ _ _ _ start c.run_without_cleanup-answer.ensures.page (subst (λ b. Keeps (buffered_contents contents b) (append_known (contents c.match-answer.buffered.writer) [])) c.into_inner-buffered.ensures kept) (subst (λ r. is_refused r ≡ false) w.answer2-is within)))
       | in-Err-flushed w ↦ absurd (refused_write w.new-in-Err-flushed.result.kind w.new-in-Err-flushed.ensures.kind_or_memory (subst (λ r. is_refused r ≡ false) w.answer2-is within))
     ]
