@@ -7,7 +7,6 @@ pub mod LeftOut
 pub mod LineReadings
 pub mod ListSigns
 pub mod Members
-pub mod Objects
 pub mod Places
 pub mod RowObjects
 pub mod RowRecords

@@ -42,7 +42,6 @@ pub fn value_with_decimals(alloc: Global, text: &str) -> Result<Value>
 }
 
 /// The data, or none where the text is no object of JSON.
-#[tactic(auto, using(crate::proofs::Objects::object_is, crate::proofs::Objects::no_object_is, crate::proofs::Objects::refused_is))]
 fn object_in(alloc: Global, text: &str) -> std::result::Result<Option<Object>, AllocError>
     ensures { IfOk result (λ o. MatchOption o (spelled_data text.now ≡ Err InvalidInput)
         (λ m. spelled_data text.now ≡ Ok (pairs_view m.entries))) }
@@ -57,7 +56,6 @@ fn object_in(alloc: Global, text: &str) -> std::result::Result<Option<Object>, A
 }
 
 /// The value, or none where the text is no JSON.
-#[tactic(auto, using(crate::proofs::Objects::value_whole, crate::proofs::Objects::no_json, crate::proofs::Objects::more_json))]
 fn value_in(alloc: Global, text: &str) -> std::result::Result<Option<Value>, AllocError>
     ensures { IfOk result (λ o. MatchOption o (spelled_value text.now ≡ Err InvalidInput)
         (λ v. spelled_value text.now ≡ Ok (view v))) }
