@@ -161,7 +161,7 @@ def called(case, program):
                 file.write(text)
             return name
 
-        words = [program, "render", put("page.liquid", case.template), put("data.json", json.dumps(case.data, ensure_ascii=False))]
+        words = [program, "render", "-q", put("page.liquid", case.template), put("data.json", json.dumps(case.data, ensure_ascii=False))]
         for at, (name, text) in enumerate(case.partials.items()):
             words += ["-p", f"{name}={put(f'partial-{at}', text)}"]
         return subprocess.run(words + case.options, cwd=room, capture_output=True, timeout=60)

@@ -15,7 +15,7 @@ _bikleinu() {
     bikleinu)
       local words= values=
       case ${COMP_WORDS[1]} in
-        render) words='--text --data --define --partials --filters --assets --out --missing --max-bytes --max-turns --decimals --dates --now --help' ;;
+        render) words='--text --data --define --partials --filters --assets --out --quiet --missing --max-bytes --max-turns --decimals --dates --now --help' ;;
         merge) words='--text --out --into --data --define --partials --filters --assets --records-format --delimiter --cells --names --separator --missing --max-bytes --max-turns --from --count --dry-run --no-flush --progress --quiet --decimals --dates --now --help' ;;
         check) words='--data --define --partials --filters --format --warn --quiet --decimals --dates --now --help' ;;
         paths) words='--partials --filters --format --help' ;;

@@ -1,5 +1,5 @@
-"""The cases of long data of which `bikleinu render` reads what the template uses, for tests/bikleinu/run: what is printed is as over the
-whole data."""
+"""The cases of long data and long records of which `bikleinu render` and `merge` read what the template uses, for tests/bikleinu/run: what
+is printed is as over the whole data."""
 import json
 
 from entries import Link
@@ -26,8 +26,52 @@ def case(title, template, words="d", data=SHOP, out="", errors=(), status=None, 
     return {"title": title, "words": f"render t {words}", "files": {"t": template, "d": data, **files}, "out": out, "errors": errors, "status": bool(errors) if status is None else status}
 
 
-def used_cases():
+def record(**members):
+    """A record of some 1,000 bytes with these members among others, on a line."""
+    rest = list(REST.items())
+    return json.dumps({**dict(rest[:7]), **members, **dict(rest[7:14])}) + "\n"
+
+
+ADA, BO = record(id=1, name="Ada", town="Oslo"), record(id=2, name="Bo", town="Rome")
+
+
+def merge(title, template, records=ADA + BO, words="", pages=2, failed=0, errors=(), out="", **files):
+    """The pages of records by a template, with `d` as their shared data where it is long."""
+    given = {"t": template, "r": records, "d": SHOP, **files}
+    return {"title": title, "words": f"merge t r {words}", "files": given, "out": out, "errors": (*errors, f"pages {pages}, failed {failed}"), "status": bool(failed), "left": LEFT if "-o" in words and "--dry" not in words else {}}
+
+
+LEFT = {"Oslo-1": "Ada", "Rome-2": "Bo"}
+NAMES = "-o '{{ town }}-{{ id }}'"
+
+
+def record_cases():
+    unknown = "UnknownVariable: line 1, column 4: "
     return [
+        merge("of long records a member", "{{ name }}", out="Ada\nBo\n"),
+        merge("of long records in a list a member", "{{ name }}", f"[{ADA},{BO}]", out="Ada\nBo\n"),
+        merge("of long records a member, and others in the names of files", "{{ name }}", words=NAMES),
+        merge("the names of files of long records", "{{ name }}", words=f"{NAMES} --dry-run", out="Oslo-1\nRome-2\n"),
+        merge("a long record before long shared data", "{{ town }} {{ owner.name }}", record(name="Cy") + BO, "-d d", out="Oslo Ada\nRome Ada\n"),
+        merge("a short record before long shared data", "{{ town }} {{ products.last.price }}", '{}\n{"town": null}\n', "-d d", out="Oslo 59\n 59\n"),
+        merge("a long record before shared data that are nil", "{{ town }}{% if rest1 %}!{% endif %}", record() + BO, "-d e", e='{"town": null}', out="!\nRome!\n"),
+        merge("a member that the record replaces whole", "{{ owner.name }}{{ owner.age }}", record(owner={"name": "Cy"}), "-d d --missing nil", pages=1, out="Cy\n"),
+        merge("a page in a partial over long records", "{% include 'p' %}", words="-p p=f", f="{{ name }} {{ rest3[0] }}", out="Ada 3\nBo 3\n"),
+        merge("a name of a file by a partial", "{% if id == 0 %}{% include 'p' %}{% endif %}{{ name }}", words="-p p=f -o \"{% include 'p' %}-{{ id }}\"", f="{{ town }}"),
+        merge("a name that is similar to one of a record that isn't used", "{{ nome }}", pages=0, failed=2, errors=(f"error: record 1: {unknown}`nome` has no value; did you mean `name`?", MISSING, f"error: record 2: {unknown}`nome` has no value; did you mean `name`?")),
+        merge("a name that is similar to one of the shared data that isn't used", "{% if id == 1 %}{{ owmer.name }}{% endif %}{{ owner.age }}", words="-d d", pages=1, failed=1, out="40\n", errors=("error: record 1: UnknownVariable: line 1, column 20: `owmer.name` has no value: there is no `owmer`; did you mean `owner`?", MISSING)),
+        merge("a member that is similar to one of a record that isn't used", "{{ who.nome }}", record(who={"name": 1, "x": 2}) + record(who={"nome": 3}), pages=1, failed=1, out="3\n", errors=(f"error: record 1: {unknown}`who.nome` has no value: `who` has no `nome`; did you mean `name`?", MISSING)),
+        merge("a name of a file that is similar to a member that isn't used", "{{ name }}", ADA, "-o '{{ towm }}' --dry-run", pages=0, failed=1, errors=(f"error: record 1: the name of its file: {unknown}`towm` has no value; did you mean `town`?",)),
+        merge("a fault of a long record that isn't used", "{{ name }}", record(name="Cy", part=1.5) + BO, pages=1, failed=1, out="Bo\n", errors=("error: record 1: Float: in the data: line 1, column ", DECIMALS)),
+        merge("a long record that isn't JSON after what is used", "{{ name }}", ADA[:-3] + "\n" + BO, pages=1, failed=1, out="Bo\n", errors=("error: record 1: InvalidInput: in the data: line 1, column ",)),
+        merge("more text than is allowed of a long record", "{{ name }}{{ name }}", words="--max-bytes 4", pages=1, failed=1, out="BoBo\n", errors=("error: record 1: its page takes more than --max-bytes allows",)),
+        merge("an address of a site in long shared data", "{{ '/x' | absolute_url }}{{ site.title }}", words="-d e --filters jekyll", e=long(site={"url": "http://x.org", "title": "!"}), out="http://x.org/x!\nhttp://x.org/x!\n"),
+        merge("a format of money in long shared data", "{{ id | money }}", words="-d e --filters shopify", e=long(shop={"money_format": "{{amount}} EUR"}), out="0.01 EUR\n0.02 EUR\n"),
+    ]
+
+
+def used_cases():
+    return record_cases() + [
         case("of long data a member", "{{ town }}", out="Oslo"),
         case("of long data the first items", "{% for p in products limit:2 %}{{ p.title }},{% endfor %}", out="tea 0,tea 1,"),
         case("of long data a member of all items", "{% for p in products %}{{ p.price }} {% endfor %}", out="".join(f"{n} " for n in range(60))),
@@ -57,6 +101,13 @@ def used_cases():
         case("a time beside long data", "{{ now | date: '%Y' }} {{ town }}", "d --now 2026-11-27", out="2026 Oslo"),
         case("no time beside long data", "{{ town }}", "d --now never", errors=("error: --now wants a day or an instant",), status=2),
         case("an address of a site in long data", "{{ '/x' | absolute_url }}", "d --filters jekyll", data=long(site={"url": "http://x.org"}), out="http://x.org/x"),
+        case("the base of a site in long data, and another member", "{{ '/x' | relative_url }} {{ site.pages.last }}", "d --filters jekyll", data=long(site={"baseurl": "/b", "pages": [1, 2]}), out="/b/x 2"),
+        case("a site that isn't used but for its address", "{{ '/x' | absolute_url }}{% for i in list %}{{ i.a }}{% endfor %}", "d --filters jekyll", data=long(site={"pages": [1]}, list=[{"a": 1}]), out="/x1"),
+        case("a site that is no map in long data", "{{ '/x' | absolute_url }}", "d --filters jekyll", data=long(site=["http://x.org"]), out="/x"),
+        case("a condition over items of long data", "{% assign p = products | where_exp: 'p', 'p.price > 57' %}{{ p | map: 'title' | join }}", "d --filters jekyll", out="tea 58 tea 59"),
+        case("a name that is similar to one of long data, with a set", "{{ towm }}", "d --filters shopify", errors=("error: t: UnknownVariable: line 1, column 4: `towm` has no value; did you mean `town`?", MISSING)),
+        case("tags of a page in long data", "{{ 'a' | link_to_add_tag: 'a' }}", "d --filters shopify", data=long(collection={"handle": "teas", "x": 1}, current_tags=["b", 1, "c"]), out='<a title="Show tag a" href="/collections/teas/b+c+a">a</a>'),
+        case("sums of long data", "{{ '0.1' | decimal_plus: x }}", "d --filters decimals", data=long(x="0.2"), out="0.3"),
         case("a format of money in long data", "{{ 5 | money }}", "d --filters shopify", data=long(shop={"money_format": "{{amount}} EUR"}), out="0.05 EUR"),
         # which fault comes first
         case("a fault of the data before a file that isn't there", "{{ town }}", "d -d u", data=BAD, errors=("error: d: Float: in the data: line 1, column ", DECIMALS)),

@@ -39,7 +39,7 @@ def value_cases():
         case("the later of two values", "render t -D name=Bo --define name=Cy", hello, "Hello Cy!"),
         case("a text with signs", "render t -D 'name=a=b:=\"{{ 1 }}\" '", hello, 'Hello a=b:="{{ 1 }}" !'),
         case("a text without a letter", "render t -D name=", hello, "Hello !"),
-        case("what looks like a number is a text", "render t -D n=3", {"t": "{% if n == 3 %}number{% elsif n == '3' %}text{% endif %}"}, "text"),
+        case("what looks like a number is a text", "render t -D n=3", {"t": "{% if n == 3 %}number{% elsif n == '3' %}text{% endif %}"}, "text", ("warning: t: TextNumber: line 1, column 1: `n` is the text `3` in the data",), 0),
         case("a number", "render t -D n:=3", {"t": "{% if n == 3 %}number{% endif %}"}, "number"),
         case("a list", "render t -D 'x:=[1, \"a\", {\"b\": null}]'", {"t": "{{ x.size }}{{ x[1] }}{{ x[2].b }}"}, "3a"),
         case("an object", "render t d -D 'a:= {\"b\": {\"c\": true}} '", {"t": "{{ a.b.c }}{{ name }}", "d": '{"a": 1, "name": "Ada"}'}, "trueAda"),

@@ -1,6 +1,7 @@
 """The page of a template by the plain reading: what the program should write, and the kind of the fault that it should end by."""
 import json
 
+from language.blanks import without_blanks
 from language.evaluation import Run
 from language.faults import Fault
 from language.languages import LANGUAGES
@@ -24,9 +25,9 @@ def page(source, data_text, partials, filters=None, missing_is_nil=False):
     """
     language = LANGUAGES[filters]
     try:
-        template = parse(source, language)
+        template = template_of(source, language)
         data = read_data(data_text)
-        parsed = {name: parse(text, language) for name, text in partials}
+        parsed = {name: template_of(text, language) for name, text in partials}
     except Fault as fault:
         return "", fault.kind
     run = Run(parsed, data, language.filters(data), missing_is_nil)
@@ -35,6 +36,12 @@ def page(source, data_text, partials, filters=None, missing_is_nil=False):
     except Fault as fault:
         return "".join(run.written), fault.kind
     return "".join(run.written), None
+
+
+def template_of(source, language):
+    """The nodes of a template, as the language runs it."""
+    nodes = parse(source, language)
+    return without_blanks(nodes) if language.drops_blanks else nodes
 
 
 def paths(source, partials, filters=None):

@@ -27,7 +27,8 @@ impl Language {
         made.settled(number).map(Language::of)
     }
 
-    /// The standard language with the tag `include` and the filter `sort` of Jekyll in place of its own.
+    /// The standard language with the tag `include` and the filter `sort` of Jekyll in place of its own, and without the white space of
+    /// blocks that write nothing.
     ///
     /// # Errors
     ///

@@ -1,14 +1,17 @@
 //! The sets of filters: their languages, and their pages.
 ghost use Rattle.std.specs.Prelude.{◌≡◌, IfErr, IfOk, Some, None};
 ghost use Rattle.liquid_filter_sets.specs.Languages.{HasDecimals, IsJekyll, IsShopify};
+ghost use Rattle.liquid_filter_sets.specs.SettingUses.{SeesShop, SeesSite};
 ghost use Rattle.liquid_language.specs.Standard.{IsStandard};
+ghost use Rattle.liquid_model.specs.UseViews.{uses_view};
 
 use crate::parts::PageParts;
 use liquid_commands::FilterSet;
-use liquid_core::{ErrorKind, Filter, HostFilters, Result};
+use liquid_core::{ErrorKind, Filter, HostFilters, Object, Result, Uses};
 use liquid_decimals::DECIMAL_FILTERS;
 use liquid_filter_sets::{
-    SiteSettings, WhereExp, decimals_language, jekyll_language, shop_of, shopify_language,
+    SiteSettings, WhereExp, decimals_language, jekyll_language, shop_of, shop_uses,
+    shopify_language, site_uses,
 };
 use liquid_jekyll_host_filters::{JEKYLL_FILTERS, SiteFilter};
 use liquid_lib::{
@@ -16,6 +19,7 @@ use liquid_lib::{
 };
 use liquid_shopify_host_filters::{SHOPIFY_FILTERS, ShopifyFilter};
 use std::alloc::Global;
+use std::collections::BTreeMap;
 use std::rc::Rc;
 
 /// The language of templates that call filters of a set, or the standard one. `Memory` where a
@@ -35,6 +39,87 @@ pub fn language_with(alloc: Global, filters: Option<FilterSet>) -> Result<Langua
     }
 }
 
+/// What the filters of a set take of the data.
+pub fn setting_uses(alloc: Global, filters: Option<FilterSet>) -> Result<Uses>
+    ensures site { filters ≡ Some FilterSet.Jekyll → IfOk result (λ u. SeesSite (uses_view u)) }
+    ensures shop { filters ≡ Some FilterSet.Shopify → IfOk result (λ u. SeesShop (uses_view u)) }
+    ensures memory { IfErr result (λ e. e.kind ≡ ErrorKind.Memory) }
+{
+    match filters {
+        Some(FilterSet::Jekyll) => site_uses(alloc),
+        Some(FilterSet::Shopify) => shop_uses(alloc),
+        Some(FilterSet::Decimals) | None => Ok(BTreeMap::new(alloc)),
+    }
+}
+
+/// What is done with the filters of a set. A function that makes such filters may not return them,
+/// since no contract could say what they are.
+pub trait FilteredTask {
+    type Answer;
+
+    /// The data that has the settings of the filters.
+    fn data(&self) -> &Object;
+
+    /// Does it.
+    fn run(self, host: HostFilters) -> Self::Answer;
+}
+
+/// Does a task with the filters of a set, Shopify's with the address of assets where one is given.
+/// The answer is that of the task, or `Memory` where there is no room for the filters.
+pub fn with_filters<T: FilteredTask + Drop>(
+    alloc: Global,
+    set: FilterSet,
+    assets: Option<&str>,
+    task: T,
+) -> Result<T::Answer> {
+    match set {
+        FilterSet::Decimals => with_decimals(alloc, task),
+        FilterSet::Jekyll => with_jekyll(alloc, task),
+        FilterSet::Shopify => with_shopify(alloc, assets, task),
+    }
+}
+
+fn with_decimals<T: FilteredTask + Drop>(alloc: Global, task: T) -> Result<T::Answer> {
+    let mut filters = Vec::new(alloc);
+    for filter in &DECIMAL_FILTERS {
+        let name = String::from_str(alloc, filter.name())?;
+        let boxed: Box<dyn Filter> = Box::new(alloc, *filter)?;
+        filters.push((name, boxed))?;
+    }
+    Ok(task.run(HostFilters::new(filters)))
+}
+
+fn with_jekyll<T: FilteredTask + Drop>(alloc: Global, task: T) -> Result<T::Answer> {
+    let site = SiteSettings::of(task.data());
+    let name = String::from_str(alloc, "where_exp")?;
+    let boxed: Box<dyn Filter> = Box::new(alloc, WhereExp)?;
+    let mut filters = Vec::new(alloc);
+    filters.push((name, boxed))?;
+    for kind in &JEKYLL_FILTERS {
+        let name = String::from_str(alloc, kind.name())?;
+        let filter = SiteFilter::new(alloc, *kind, site.address, site.base)?;
+        let boxed: Box<dyn Filter> = Box::new(alloc, filter)?;
+        filters.push((name, boxed))?;
+    }
+    Ok(task.run(HostFilters::new(filters)))
+}
+
+fn with_shopify<T: FilteredTask + Drop>(
+    alloc: Global,
+    assets: Option<&str>,
+    task: T,
+) -> Result<T::Answer> {
+    let shop = Rc::new(alloc, shop_of(alloc, task.data(), assets)?)?;
+    let mut filters = Vec::new(alloc);
+    for kind in &SHOPIFY_FILTERS {
+        let name = String::from_str(alloc, kind.name())?;
+        let shop = shop.clone()?;
+        let boxed: Box<dyn Filter> = Box::new(alloc, ShopifyFilter { kind: *kind, shop })?;
+        filters.push((name, boxed))?;
+    }
+    Ok(task.run(HostFilters::new(filters)))
+}
+
 /// The page of a template with what is around it, with the filters of a set where one is given, and
 /// Shopify's with the address of assets where one is. Without a set the answer is `Memory` where a
 /// growth was refused, and no other kind.
@@ -48,58 +133,41 @@ pub fn page_with(
     ensures memory { filters ≡ None → IfErr result (λ e. e.kind ≡ ErrorKind.Memory) }
 {
     match filters {
-        Some(FilterSet::Decimals) => decimals_page(alloc, parts, around),
-        Some(FilterSet::Jekyll) => jekyll_page(alloc, parts, around),
-        Some(FilterSet::Shopify) => shopify_page(alloc, assets, parts, around),
+        Some(set) => with_filters(
+            alloc,
+            set,
+            assets,
+            PageTask {
+                alloc,
+                parts,
+                around,
+            },
+        )?,
         None => render_page_within(alloc, &parts.template, around, &parts.data),
     }
 }
 
-fn decimals_page(
+/// The page of a template, to be rendered with the filters of a set.
+#[derive(Clone, Copy, Drop)]
+struct PageTask<'p> {
     alloc: Global,
-    parts: &PageParts,
-    around: Surroundings<'_>,
-) -> Result<LimitedPage> {
-    let mut filters = Vec::new(alloc);
-    for filter in &DECIMAL_FILTERS {
-        let name = String::from_str(alloc, filter.name())?;
-        let boxed: Box<dyn Filter> = Box::new(alloc, *filter)?;
-        filters.push((name, boxed))?;
-    }
-    let host = HostFilters::new(filters);
-    render_hosted_page(alloc, &parts.template, &host, around, &parts.data)
+    parts: &'p PageParts,
+    around: Surroundings<'p>,
 }
 
-fn jekyll_page(alloc: Global, parts: &PageParts, around: Surroundings<'_>) -> Result<LimitedPage> {
-    let site = SiteSettings::of(&parts.data);
-    let name = String::from_str(alloc, "where_exp")?;
-    let boxed: Box<dyn Filter> = Box::new(alloc, WhereExp)?;
-    let mut filters = Vec::new(alloc);
-    filters.push((name, boxed))?;
-    for kind in &JEKYLL_FILTERS {
-        let name = String::from_str(alloc, kind.name())?;
-        let filter = SiteFilter::new(alloc, *kind, site.address, site.base)?;
-        let boxed: Box<dyn Filter> = Box::new(alloc, filter)?;
-        filters.push((name, boxed))?;
-    }
-    let host = HostFilters::new(filters);
-    render_hosted_page(alloc, &parts.template, &host, around, &parts.data)
-}
+impl FilteredTask for PageTask<'_> {
+    type Answer = Result<LimitedPage>;
 
-fn shopify_page(
-    alloc: Global,
-    assets: Option<&str>,
-    parts: &PageParts,
-    around: Surroundings<'_>,
-) -> Result<LimitedPage> {
-    let shop = Rc::new(alloc, shop_of(alloc, &parts.data, assets)?)?;
-    let mut filters = Vec::new(alloc);
-    for kind in &SHOPIFY_FILTERS {
-        let name = String::from_str(alloc, kind.name())?;
-        let shop = shop.clone()?;
-        let boxed: Box<dyn Filter> = Box::new(alloc, ShopifyFilter { kind: *kind, shop })?;
-        filters.push((name, boxed))?;
+    fn data(&self) -> &Object {
+        &self.parts.data
     }
-    let host = HostFilters::new(filters);
-    render_hosted_page(alloc, &parts.template, &host, around, &parts.data)
+
+    fn run(self, host: HostFilters) -> Result<LimitedPage> {
+        let PageTask {
+            alloc,
+            parts,
+            around,
+        } = self;
+        render_hosted_page(alloc, &parts.template, &host, around, &parts.data)
+    }
 }

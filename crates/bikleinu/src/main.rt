@@ -2,10 +2,12 @@
 //! `paths ..`.
 #![tactic(auto)]
 
+mod extent;
 mod files;
 mod filters;
 mod host_merge;
 mod merge;
+mod page_output;
 mod parts;
 mod paths;
 mod progress;
@@ -13,6 +15,7 @@ mod reach;
 mod records;
 mod render;
 mod report;
+mod silent;
 mod target;
 mod tips;
 

@@ -1,56 +1,77 @@
 //! The command `merge`.
+use crate::extent::Extent;
 use crate::files::record_files;
 use crate::host_merge::merge_with;
-use crate::parts::{PageParts, read_parts, read_pattern};
+use crate::parts::{UsedParts, pattern_if_parsed, read_pattern, read_shared_parts};
 use crate::progress::Progress;
 use crate::records::{front_of, records_of, shown, unreadable};
 use crate::report::Report;
 use crate::target::{RecordOutcome, Target};
 use crate::tips::Tips;
 use liquid_commands::{
-    MergeCall, RecordsFormat, Sources, Stop, Tip, form_of, is_selected, is_template_name, page_tip,
-    record_tip,
+    DataTexts, MergeCall, RecordsFormat, Sources, Stop, Tip, form_of, is_selected,
+    is_template_name, page_tip, record_tip,
 };
-use liquid_core::{ErrorKind, HostFilters};
-use liquid_data::Records;
+use liquid_core::{Error, ErrorKind, HostFilters, Object};
+use liquid_data::{RecordData, RecordFault, Records};
+use liquid_json::DataReader;
 use liquid_lib::Limits;
 use liquid_records::{Job, Merge, Why};
+use std::alloc::AllocError;
 use std::fs;
 use std::io::Read;
+
+/// To look a name up in what is used takes about as long as to build so many bytes of a record.
+const BYTES_FOR_A_NAME: usize = 32;
 
 /// Writes the page of each record. A record's fault is printed, and stops no other: the merge ends
 /// where the disk takes no more files, where ten in a row are refused for want of permission, or
 /// where the records or standard output fail.
-pub fn merge(rt: &HostRuntime, call: &MergeCall<'_>) -> Result<(), Stop> {
-    let parts = match read_parts(rt, &call.inputs) {
-        Ok(parts) => parts,
+pub fn merge<'r>(rt: &'r HostRuntime, call: &'r MergeCall<'r>) -> Result<(), Stop> {
+    let pattern = pattern_if_parsed(rt.alloc(), call.out)?;
+    let read = match read_shared_parts(rt, &call.inputs, pattern.as_ref()) {
+        Ok(read) => read,
         Err(stop) => {
             note_columns(rt, call, &stop);
             return Err(stop);
         }
     };
-    merge_with(rt, call, parts)
+    drop(pattern);
+    merge_with(rt, call, read)
 }
 
 /// The same with these parts, and with filters of a host.
-pub fn merge_by(
-    rt: &HostRuntime,
-    call: &MergeCall<'_>,
-    parts: PageParts,
+pub fn merge_by<'r>(
+    rt: &'r HostRuntime,
+    call: &'r MergeCall<'r>,
+    read: UsedParts<'r>,
     host: HostFilters,
 ) -> Result<(), Stop> {
+    let UsedParts {
+        parts,
+        uses,
+        texts,
+        bytes: _,
+    } = read;
     let has_refusals = !parts.partials.refusals().is_empty();
     let limits = Limits {
         bytes: call.max_bytes,
         turns: call.max_turns,
     };
+    let reader = match &uses {
+        Some(uses) => Some(DataReader::new(rt.alloc(), uses)?),
+        None => None,
+    };
     let (sources, job) = parts.into_job(host, call.missing, limits);
     let mut target = target_of(rt, call, &sources, job)?;
-    let run = Run {
+    let mut run = Run {
         rt,
         call,
         sources,
         has_refusals,
+        reader,
+        texts,
+        is_after_fault: false,
     };
     run.merge_into(&mut target)
 }
@@ -95,36 +116,51 @@ struct Run<'r> {
     sources: Sources,
     /// Whether a partial is refused, so that one that isn't known may be given.
     has_refusals: bool,
+    /// Reads records as far as they are used, where that is known.
+    reader: Option<DataReader>,
+    /// The texts of the shared data, where that isn't whole.
+    texts: Option<DataTexts<'r>>,
+    /// Whether the page of the last record had a fault: then the next is read whole at once.
+    is_after_fault: bool,
 }
 
 impl Run<'_> {
     /// Merges the records of standard input or of a file.
-    fn merge_into(&self, target: &mut Target<'_>) -> Result<(), Stop> {
+    fn merge_into(&mut self, target: &mut Target<'_>) -> Result<(), Stop> {
         if self.call.records == "-" {
-            return self.all(target, self.rt.reader());
+            return self.all(target, self.rt.reader(), Extent::of(self.call));
         }
         match fs::open(self.rt, self.call.records) {
-            Ok(file) => self.all(target, file),
+            Ok(file) => {
+                let extent = Extent::of_file(self.call, &file);
+                self.all(target, file, extent)
+            }
             Err(refused) => Err(unreadable(self.rt, self.call, refused.kind())),
         }
     }
 
     /// Merges the records that a reader gives.
-    fn all<R: Read + Drop>(&self, target: &mut Target<'_>, reader: R) -> Result<(), Stop> {
+    fn all<R: Read + Drop>(
+        &mut self,
+        target: &mut Target<'_>,
+        reader: R,
+        extent: Extent,
+    ) -> Result<(), Stop> {
         let mut reader = reader;
         let front = front_of(self.rt, self.call, &mut reader)?;
         let mut records = records_of(self.rt, self.call, front, reader)?;
-        self.each(target, &mut records)
+        self.each(target, &mut records, extent)
     }
 
     /// Merges one record after another, up to the last that is asked for, and prints how many pages
     /// there are and how many records failed.
     fn each<R: Read + Drop>(
-        &self,
+        &mut self,
         target: &mut Target<'_>,
         records: &mut Records<R>,
+        extent: Extent,
     ) -> Result<(), Stop> {
-        let mut progress = Progress::new(self.rt, self.call.progress);
+        let mut progress = Progress::new(self.rt, self.call.progress, extent);
         let mut tips = Tips::new();
         for _ in 0..u64::MAX {
             if !self.advance(records)? {
@@ -170,7 +206,7 @@ impl Run<'_> {
 
     /// Merges one record. What ends the merge is printed.
     fn one<R: Read + Drop>(
-        &self,
+        &mut self,
         target: &mut Target<'_>,
         records: &Records<R>,
         progress: &mut Progress,
@@ -237,17 +273,95 @@ impl Run<'_> {
         }
     }
 
-    /// Takes one record: whether its page is there, or why not.
+    /// Takes one record: whether its page is there, or why not. After a fault it is taken once more
+    /// with all of the data: what a message says may be in a part of it that nobody uses.
     fn taken<R: Read + Drop>(
-        &self,
+        &mut self,
         target: &mut Target<'_>,
         records: &Records<R>,
     ) -> Result<RecordOutcome, Stop> {
-        let number = records.number() as usize;
-        match records.data(self.rt.alloc(), form_of(self.call.inputs.forms)) {
-            Ok(Ok(data)) => target.take(self.rt, self.call.separator, number, data),
-            Ok(Err(fault)) => Ok(Err(Report::from(fault))),
-            Err(fault) => Ok(Err(Report::Fault(fault))),
+        let (outcome, is_whole) = self.taken_as_used(target, records)?;
+        self.is_after_fault = is_page_fault(&outcome);
+        if is_whole || !self.is_after_fault {
+            return Ok(outcome);
         }
+        if let Some(texts) = &self.texts {
+            // they were read before, so that want of memory alone refuses them
+            match texts.data(self.rt, None) {
+                Ok(data) => target.share(data),
+                Err(_) => return Ok(Err(Report::Fault(Error::from(AllocError)))),
+            }
+        }
+        self.texts = None;
+        match self.data_of(records) {
+            Ok(data) => self.put(target, records, data),
+            Err(report) => Ok(Err(report)),
+        }
+    }
+
+    /// Takes one record with what is used of the data, and whether that was all of it.
+    fn taken_as_used<R: Read + Drop>(
+        &self,
+        target: &mut Target<'_>,
+        records: &Records<R>,
+    ) -> Result<(RecordOutcome, bool), Stop> {
+        let data = match self.data_of(records) {
+            Ok(data) => data,
+            Err(report) => return Ok((Err(report), true)),
+        };
+        match self.used_of(&data) {
+            Some(Ok(used)) => Ok((self.put(target, records, RecordData::Data(used))?, false)),
+            Some(Err(report)) => Ok((Err(report), true)),
+            None => Ok((self.put(target, records, data)?, self.texts.is_none())),
+        }
+    }
+
+    /// All data of a record.
+    fn data_of<'d, R: Read + Drop>(
+        &self,
+        records: &'d Records<R>,
+    ) -> Result<RecordData<'d>, Report> {
+        match records.data(self.rt.alloc(), form_of(self.call.inputs.forms)) {
+            Ok(Ok(data)) => Ok(data),
+            Ok(Err(fault)) => Err(Report::from(fault)),
+            Err(fault) => Err(Report::Fault(fault)),
+        }
+    }
+
+    /// What is used of a text of JSON, where it has many bytes for each name that is asked for: to
+    /// look a name up takes about as long as to build some bytes.
+    fn used_of(&self, data: &RecordData<'_>) -> Option<Result<Object, Report>> {
+        let (Some(reader), RecordData::Text(text)) = (&self.reader, data) else {
+            return None;
+        };
+        if self.is_after_fault || text.len() / BYTES_FOR_A_NAME < reader.names()? {
+            return None;
+        }
+        match reader.data(self.rt.alloc(), text) {
+            Ok(used) => Some(Ok(used)),
+            Err(fault) => match fault.kind {
+                ErrorKind::Memory => Some(Err(Report::Fault(fault))),
+                _ => Some(Err(Report::from(RecordFault::NoData(fault)))),
+            },
+        }
+    }
+
+    /// Puts the page of a record where it belongs.
+    fn put<R: Read + Drop>(
+        &self,
+        target: &mut Target<'_>,
+        records: &Records<R>,
+        data: RecordData<'_>,
+    ) -> Result<RecordOutcome, Stop> {
+        let number = records.number() as usize;
+        target.take(self.rt, self.call.separator, number, data)
+    }
+}
+
+/// Whether a record's page or its name ends by a fault.
+fn is_page_fault(outcome: &RecordOutcome) -> bool {
+    match outcome {
+        Ok(()) => false,
+        Err(report) => matches!(report.why(), Some(Why::Faulted(_) | Why::Unnamed(_))),
     }
 }

@@ -1,16 +1,19 @@
 //! What pages are made of.
 ghost use Rattle.std.specs.Prelude.{◌≡◌};
 
-use crate::filters::language_with;
+use crate::filters::{language_with, setting_uses};
 use crate::reach::partials_in_reach;
 use crate::tips::tip_for_source;
-use liquid_commands::{DataTexts, Inputs, Source, Sources, Stop, print_fault, print_tip};
+use liquid_commands::{
+    DataTexts, FilterSet, Inputs, Source, Sources, Stop, print_fault, print_tip,
+};
 use liquid_core::{Missing, Object, Uses};
 use liquid_lib::{
     DEFAULT_DEPTH, Language, Limits, Partials, Template, language, parse_with_source,
 };
 use liquid_records::Job;
-use liquid_uses::data_uses;
+use liquid_uses::{data_uses, uses_together};
+use std::alloc::Global;
 
 /// To find out what a node uses of the data takes about as long as to read some 200 bytes of it.
 const BYTES_FOR_A_NODE: usize = 4096;
@@ -38,18 +41,35 @@ impl Drop for PageParts {
 
 /// How much of the data is read.
 #[derive(Clone, Copy, Drop)]
-enum Reading {
+enum Reading<'p> {
     Whole,
     /// What the template uses, where there is much more data than template.
     Used,
+    /// The same of the data that records share, with what the pattern of their files uses.
+    Shared(Option<&'p Template>),
+}
+
+impl Reading<'_> {
+    /// Whether it is asked what is used, of data that is long or isn't.
+    fn asks(self, is_long: bool) -> bool {
+        match self {
+            Reading::Whole => false,
+            Reading::Used => is_long,
+            Reading::Shared(_) => true,
+        }
+    }
 }
 
 /// What a page is made of, with its data as far as the template uses it.
 #[derive(Drop)]
 pub struct UsedParts<'c> {
     pub parts: PageParts,
+    /// What is used of data, where it is known.
+    pub uses: Option<Uses>,
     /// The texts of the data, where the data isn't whole.
     pub texts: Option<DataTexts<'c>>,
+    /// How many bytes the texts of the data have.
+    pub bytes: usize,
 }
 
 impl UsedParts<'_> {
@@ -66,22 +86,26 @@ impl UsedParts<'_> {
 /// Reads the template, the data, and the partials that the template leads to. A fault of the
 /// template or of the data is printed; a partial that is refused counts where a page runs it.
 pub fn read_parts(rt: &HostRuntime, inputs: &Inputs<'_>) -> Result<PageParts, Stop> {
-    let UsedParts { parts, texts: _ } = parts_read(rt, inputs, Reading::Whole)?;
-    Ok(parts)
+    Ok(parts_read(rt, inputs, Reading::Whole)?.parts)
 }
 
-/// Reads the same, and where there is much data no more of it than the template uses: over it the
-/// page has the same text and the same end, and its fault is of the same kind, though not always in
-/// the same words. What a set of filters uses isn't known, so there the data is whole.
+/// Reads the same, and where there is much data no more of it than the template and the filters of
+/// the set use: over it the page has the same text and the same end, and its fault is of the same
+/// kind, though not always in the same words.
 pub fn read_used_parts<'c>(
     rt: &HostRuntime,
     inputs: &'c Inputs<'c>,
 ) -> Result<UsedParts<'c>, Stop> {
-    let reading = match inputs.filters {
-        Some(_) => Reading::Whole,
-        None => Reading::Used,
-    };
-    parts_read(rt, inputs, reading)
+    parts_read(rt, inputs, Reading::Used)
+}
+
+/// Reads the same for a merge, whose pattern uses data too.
+pub fn read_shared_parts<'c>(
+    rt: &HostRuntime,
+    inputs: &'c Inputs<'c>,
+    pattern: Option<&Template>,
+) -> Result<UsedParts<'c>, Stop> {
+    parts_read(rt, inputs, Reading::Shared(pattern))
 }
 
 /// The fault of the template comes first, then those of the data, then those of the partials. These
@@ -89,7 +113,7 @@ pub fn read_used_parts<'c>(
 fn parts_read<'c>(
     rt: &HostRuntime,
     inputs: &'c Inputs<'c>,
-    reading: Reading,
+    reading: Reading<'_>,
 ) -> Result<UsedParts<'c>, Stop> {
     let language = language_with(rt.alloc(), inputs.filters)?;
     let mut sources = Sources::read(rt, inputs.template)?;
@@ -103,17 +127,27 @@ fn parts_read<'c>(
             return Err(stop);
         }
     };
-    let uses = uses_read(rt, reading, texts.bytes(), &template, &partials)?;
-    let data = texts.data(rt, uses.as_ref())?;
+    let bytes = texts.bytes();
+    let is_long = is_long(bytes, &template, &partials);
+    let (alloc, filters) = (rt.alloc(), inputs.filters);
+    let uses = if reading.asks(is_long) {
+        uses_with(alloc, filters, &template, &partials, reading)?
+    } else {
+        None
+    };
+    let seen = if is_long { uses.as_ref() } else { None };
+    let data = texts.data(rt, seen)?;
     sources.print_left_out(rt);
     Ok(UsedParts {
+        texts: seen.is_some().then_some(texts),
+        uses,
         parts: PageParts {
             sources,
             template,
             partials,
             data,
         },
-        texts: uses.is_some().then_some(texts),
+        bytes,
     })
 }
 
@@ -129,26 +163,38 @@ fn partials_of(
     partials_in_reach(rt, sources, template, language)
 }
 
-/// What the template uses of so many bytes of data, where no more is to be read and there are many
-/// bytes for each node of the templates: then to find it out takes little time beside reading.
-fn uses_read(
-    rt: &HostRuntime,
-    reading: Reading,
-    bytes: usize,
-    template: &Template,
-    partials: &Partials,
-) -> Result<Option<Uses>, Stop> {
+/// Whether there are many bytes of data for each node of the templates: then to find out what these
+/// use takes little time beside reading.
+fn is_long(bytes: usize, template: &Template, partials: &Partials) -> bool {
     let mut nodes = template.nodes().len();
     for slot in partials.slots().values() {
         if let Some(partial) = slot {
             nodes = nodes.saturating_add(partial.nodes().len());
         }
     }
+    bytes / BYTES_FOR_A_NODE >= nodes
+}
+
+/// What a template, the filters of a set and the pattern of a merge use of the data. None where it
+/// can't be said.
+fn uses_with(
+    alloc: Global,
+    filters: Option<FilterSet>,
+    template: &Template,
+    partials: &Partials,
+    reading: Reading<'_>,
+) -> Result<Option<Uses>, Stop> {
+    let uses = data_uses(alloc, template, partials)?;
+    let settings = setting_uses(alloc, filters)?;
+    let Some(uses) = uses_together(alloc, &uses, &settings)? else {
+        return Ok(None);
+    };
     match reading {
-        Reading::Used if bytes / BYTES_FOR_A_NODE >= nodes => {
-            Ok(Some(data_uses(rt.alloc(), template, partials)?))
+        Reading::Shared(Some(pattern)) => {
+            let names = data_uses(alloc, pattern, partials)?;
+            Ok(uses_together(alloc, &uses, &names)?)
         }
-        _ => Ok(None),
+        _ => Ok(Some(uses)),
     }
 }
 
@@ -173,6 +219,14 @@ pub fn read_pattern(rt: &HostRuntime, pattern: &str) -> Result<Template, Stop> {
             print_fault(rt, "--out", &fault, Some(pattern));
             Err(Stop::Faulted)
         }
+    }
+}
+
+/// That template, where there is one without a fault.
+pub fn pattern_if_parsed(alloc: Global, pattern: Option<&str>) -> Result<Option<Template>, Stop> {
+    match pattern {
+        Some(pattern) => Ok(parse_with_source(alloc, pattern, &language(alloc)?).ok()),
+        None => Ok(None),
     }
 }
 

@@ -3,6 +3,7 @@ ghost use Rattle.std.specs.Prelude.{◌≡◌, ◌+◌, ◌<◌, min, IfErr, IfO
 ghost use Rattle.bikleinu.specs.Reports.{ends_the_row, in_a_row};
 ghost use Rattle.liquid_commands.specs.declared.stop.Stop.TheVariants.{Faulted};
 
+use crate::extent::Extent;
 use liquid_commands::Stop;
 use std::time::Instant;
 
@@ -19,12 +20,13 @@ pub struct Progress {
     /// When the merge began, where each second is to be printed; and the last second that was.
     began: Option<Instant>,
     last_printed: u64,
+    extent: Extent,
 }
 
 impl Progress {
     /// No page yet, and no record that failed. With `is_shown` the pages so far are printed, once a
-    /// second.
-    pub fn new(rt: &HostRuntime, is_shown: bool) -> Progress
+    /// second, and how far of this extent the merge is.
+    pub fn new(rt: &HostRuntime, is_shown: bool, extent: Extent) -> Progress
         ensures pages { result.pages ≡ 0 }
         ensures failed { result.failed ≡ 0 }
         ensures forbidden { result.forbidden ≡ 0 }
@@ -40,6 +42,7 @@ impl Progress {
             forbidden: 0,
             began,
             last_printed: 0,
+            extent,
         }
     }
 
@@ -94,7 +97,11 @@ impl Progress {
             self.last_printed = seconds;
             let pages = self.pages;
             let rate = pages.checked_div(seconds).unwrap_or(pages);
-            let _ = eprintln!(rt; "{pages} pages, {rate} a second");
+            let records = pages.saturating_add(self.failed);
+            let _ = match self.extent.reached(records, seconds) {
+                Some(reached) => eprintln!(rt; "{pages} pages, {rate} a second, {reached}"),
+                None => eprintln!(rt; "{pages} pages, {rate} a second"),
+            };
         }
     }
 

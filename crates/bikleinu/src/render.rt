@@ -3,9 +3,11 @@ ghost use Rattle.std.specs.Prelude.{◌≡◌};
 
 use crate::files::{SystemPages, page_file, unwritten};
 use crate::filters::page_with;
+use crate::page_output::{PageEnd, print_page};
 use crate::parts::{PageParts, UsedParts, read_used_parts};
 use crate::reach::{print_refusal, refusal_of, tip_for_refusal};
-use liquid_commands::{RenderCall, Sources, Stop, end_line, page_tip, print_text, print_tip};
+use crate::silent::{print_silent, silent_warnings};
+use liquid_commands::{RenderCall, Sources, Stop, end_line, page_tip, print_tip};
 use liquid_core::Error;
 use liquid_lib::{DEFAULT_DEPTH, LimitReached, LimitedPage, Limits, Page, Surroundings};
 use std::mem;
@@ -14,12 +16,52 @@ use std::mem;
 /// and into no file. What was read isn't taken apart, so its memory stays until the program ends.
 pub fn render(rt: &HostRuntime, call: &RenderCall<'_>) -> Result<(), Stop> {
     let mut read = read_used_parts(rt, &call.inputs)?;
-    let answer = match page_of(rt, call, &mut read) {
-        Ok(page) => write_page(rt, call, &read.parts, page),
+    let silent = silent_warnings(rt.alloc(), call, &read)?;
+    let answer = match call.out {
+        Some(path) => file_page(rt, call, &mut read, path),
+        None => printed_page(rt, call, &mut read),
+    };
+    let answer = match answer {
+        Ok(()) => print_silent(rt, call, &read.parts, &silent),
         Err(stop) => Err(stop),
     };
     mem::forget(read);
     answer
+}
+
+/// Writes the page to standard output as it is rendered. After a fault it is rendered once more
+/// over the whole data, for the words of the fault alone.
+fn printed_page(
+    rt: &HostRuntime,
+    call: &RenderCall<'_>,
+    read: &mut UsedParts<'_>,
+) -> Result<(), Stop> {
+    let PageEnd {
+        limit,
+        fault,
+        is_line_open,
+    } = print_page(rt, call, &mut read.parts)?;
+    if limit.is_some() || fault.is_some() {
+        end_line(rt, is_line_open);
+    }
+    let fault = match fault {
+        Some(_) if read.complete(rt)? => page_over(rt, call, &read.parts)?.page.fault,
+        fault => fault,
+    };
+    ended(rt, call, &read.parts, limit, fault)
+}
+
+/// Puts the page into a file, where it has no fault.
+fn file_page(
+    rt: &HostRuntime,
+    call: &RenderCall<'_>,
+    read: &mut UsedParts<'_>,
+    path: &str,
+) -> Result<(), Stop> {
+    let LimitedPage { page, limit } = page_of(rt, call, read)?;
+    let Page { text, fault } = page;
+    ended(rt, call, &read.parts, limit, fault)?;
+    put_page(rt, call, &read.parts, path, text.as_str())
 }
 
 /// The page, over the whole data where it has a fault: what a message says may be in a part of the
@@ -47,21 +89,14 @@ fn page_over(
     Ok(page_with(rt.alloc(), inputs.filters, inputs.assets, parts, around)?)
 }
 
-/// Writes what was rendered, and prints the fault that it ended by.
-fn write_page(
+/// Prints the limit or the fault that a page ended by, where one did.
+fn ended(
     rt: &HostRuntime,
     call: &RenderCall<'_>,
     parts: &PageParts,
-    shown: LimitedPage,
+    limit: Option<LimitReached>,
+    fault: Option<Error>,
 ) -> Result<(), Stop> {
-    let LimitedPage { page, limit } = shown;
-    let Page { text, fault } = page;
-    if call.out.is_none() {
-        print_text(rt, text.as_str())?;
-        if limit.is_some() || fault.is_some() {
-            end_line(rt, text.as_str());
-        }
-    }
     if let Some(limit) = limit {
         print_limit(rt, &parts.sources, limit, call);
         return Err(Stop::Faulted);
@@ -70,10 +105,7 @@ fn write_page(
         print_end(rt, call, parts, fault);
         return Err(Stop::Faulted);
     }
-    match call.out {
-        Some(path) => put_page(rt, call, parts, path, text.as_str()),
-        None => Ok(()),
-    }
+    Ok(())
 }
 
 /// Prints the fault that a page ended by, after that of the refused partial that it ended at.

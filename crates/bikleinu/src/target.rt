@@ -4,7 +4,7 @@ ghost use Rattle.std.specs.Prelude.{◌≡◌};
 use crate::files::{Nowhere, SystemPages};
 use crate::report::Report;
 use liquid_commands::{Stop, print_text};
-use liquid_core::{HostFilters, Result as Answer};
+use liquid_core::{HostFilters, Object, Result as Answer};
 use liquid_data::RecordData;
 use liquid_files::ShownName;
 use liquid_records::{Disk, Fate, Job, Made, Merge, RecordResult};
@@ -66,6 +66,15 @@ impl<'r> Target<'r> {
     /// The files of a merge.
     pub fn files(merge: Merge<HostFilters>, files: SystemPages<'r>) -> Target<'r> {
         Target::Files(FileMerge { merge, files })
+    }
+
+    /// Takes other data that all records share.
+    pub fn share(&mut self, data: Object) {
+        match self {
+            Target::Files(file_merge) => file_merge.merge.share(data),
+            Target::Names(merge) => merge.share(data),
+            Target::Output(job) => job.shared = data,
+        }
     }
 
     /// Makes sure that what was written is on the disk, after the last record.

@@ -1,6 +1,6 @@
 -- Languages that differ from the standard one.
 use Rattle.std.specs.Prelude.{◌≡◌, ◌⊎◌, ℕ, List, [], Option, Some, None, Result, Ok, Err, codes}
-use Rattle.std.specs.Prelude.{false, true}
+use Rattle.std.specs.Prelude.{true}
 use Rattle.std.specs.Str.{IsUtf8}
 use Rattle.liquid_model.specs.ErrorKinds.{number_of}
 use Rattle.liquid_model.specs.Maps.{insert, listed}
@@ -25,7 +25,8 @@ use Rattle.liquid_c.specs.declared.handle_content.HandleContent.TheVariants.{Own
 use Rattle.liquid_c.specs.declared.refusal.Refusal.{Refusal}
 use Rattle.liquid_c.specs.declared.refusal.Refusal.TheVariants.{SharedHandle, NoText, OtherHandle}
 
--- the standard language with Jekyll's `include`, which takes a path, and `sort`
+-- the standard language with Jekyll's `include`, which takes a path, and `sort`, and without the
+-- white space of blocks that write nothing
 pub record WithIncludeAndSort (l : Language) : Type 0 where
   pub tags : listed (kinds_of l.tags) ≡
       insert (bind_each standard_tags (listed [])) (codes "include") JekyllInclude
@@ -34,7 +35,7 @@ pub record WithIncludeAndSort (l : Language) : Type 0 where
       insert (with_filters (listed []) standard_filters) (codes "sort")
       (Kind JekyllSort)
   pub include_paths : l.include_paths ≡ true
-  pub drops_blanks : l.drops_blanks ≡ false
+  pub drops_blanks : l.drops_blanks ≡ true
   pub host_tags : numbers_of l.host_tags ≡ []
 
 -- that language, or memory ran out

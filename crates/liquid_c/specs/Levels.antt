@@ -10,7 +10,7 @@ use Rattle.std.specs.Prelude.{ℕ, ◌+◌, ◌-◌, ◌*◌, max, nat_eq, nat_l
 use Rattle.std.specs.Prelude.{Bool, true, false, ◌&&◌, ◌||◌, cond, List, [], ◌∷◌, length}
 use Rattle.liquid_syntax.specs.declared.node.Node.{Node}
 use Rattle.liquid_syntax.specs.declared.node.Node.TheVariants.{If, Unless, Capture, Case, For}
-use Rattle.liquid_syntax.specs.declared.node.Node.TheVariants.{TableRow, IfChanged}
+use Rattle.liquid_syntax.specs.declared.node.Node.TheVariants.{TableRow, IfChanged, Filtered}
 use Rattle.liquid_syntax.specs.declared.node.Node.TheVariants.{Include, JekyllInclude, Render}
 use Rattle.liquid_syntax.specs.declared.node.Node.TheVariants.{RenderEach}
 use Rattle.liquid_syntax.specs.declared.node.BodyEnds.{BodyEnds}
@@ -47,6 +47,7 @@ opened at (Case target arms end) os = block 0 end os
 opened at (For head bodies) os = block 0 bodies.last_end os
 opened at (TableRow head end) os = block 0 end os
 opened at (IfChanged end) os = block 0 end os
+opened at (Filtered filters end) os = block 0 end os
 opened at _ os = os
 
 -- ---- what a list of nodes reaches

@@ -124,7 +124,7 @@ fn is_call(node: &Node) -> bool
         Node::Increment(_) | Node::Decrement(_) | Node::Cycle(_, _) => false,
         Node::If(_, _) | Node::Unless(_, _) | Node::Case(_, _, _) => false,
         Node::For(_, _) | Node::TableRow(_, _) => false,
-        Node::Capture(_, _) | Node::IfChanged(_) => false,
+        Node::Capture(_, _) | Node::IfChanged(_) | Node::Filtered(_, _) => false,
     }
 }
 
@@ -156,6 +156,7 @@ fn open_block(open: &mut LinkedList<Open>, at: usize, node: &Node) -> Result<()>
         Node::For(_, bodies) => enter(open, 0, bodies.last_end),
         Node::TableRow(_, end) => enter(open, 0, *end),
         Node::IfChanged(end) => enter(open, 0, *end),
+        Node::Filtered(_, end) => enter(open, 0, *end),
         Node::Text(_) | Node::Output(_) | Node::Assign(_, _) | Node::Raw(_) => Ok(()),
         Node::Comment | Node::Break | Node::Continue => Ok(()),
         Node::Increment(_) | Node::Decrement(_) | Node::Cycle(_, _) => Ok(()),

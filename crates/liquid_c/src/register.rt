@@ -18,7 +18,7 @@ use liquid_language::{Language, TagKind, language};
 use std::alloc::Global;
 
 /// Makes Jekyll's language: the standard one with Jekyll's `include`, which takes a path without
-/// quotes, and `sort`. 0, or `Memory`.
+/// quotes, and `sort`, and without the white space of blocks that write nothing. 0, or `Memory`.
 #[unsafe(no_mangle)]
 pub extern "C" fn bikleinu_jekyll_language(alloc: Global, made: &mut Handle) -> u32
     ensures { ResultStored MakesIncludeAndSort result made.new.held }
@@ -43,6 +43,7 @@ fn with_include_and_sort(alloc: Global) -> Answer<Language>
     let include = String::from_str(alloc, "include")?;
     language.tags.register(include, TagKind::JekyllInclude)?;
     language.include_paths = true;
+    language.drops_blanks = true;
     let sort = String::from_str(alloc, "sort")?;
     language.filters.register(sort, FilterKind::JekyllSort)?;
     Ok(language)

@@ -1,6 +1,6 @@
 //! Ends and beginnings of blocks that are left over once a tag with a fault is text.
 use liquid_core::{ErrorKind, more_similar};
-use liquid_language::{BlockKind, Language};
+use liquid_language::{BlockKind, HostKind, Language};
 use std::alloc::{AllocError, Global};
 
 /// A tag with a fault: the kind of the fault, the tag's name, and where it stands.
@@ -11,11 +11,20 @@ pub(crate) struct Wrong<'s> {
     pub(crate) start: usize,
 }
 
+/// Which block a tag begins.
+#[derive(Clone, Copy)]
+enum Begins {
+    /// A block of the language.
+    Kind(BlockKind),
+    /// A block of the host.
+    Host,
+}
+
 /// A tag with a fault that may begin a block.
 #[derive(Clone, Copy)]
 struct Begun<'s> {
     /// `None` where the tag's name isn't known.
-    kind: Option<BlockKind>,
+    block: Option<Begins>,
     name: &'s str,
     start: usize,
 }
@@ -46,8 +55,8 @@ impl<'s> LeftOver<'s> {
         wrong: Wrong<'s>,
     ) -> Result<bool, AllocError> {
         match wrong.kind {
-            ErrorKind::MissingEnd => match language.blocks.get(wrong.name) {
-                Some(kind) => self.take_end(alloc, end_of(kind), wrong.start),
+            ErrorKind::MissingEnd => match end_in(language, wrong.name) {
+                Some(end) => self.take_end(alloc, end, wrong.start),
                 None => Ok(false),
             },
             ErrorKind::UnknownTag if is_end(wrong.name) => {
@@ -63,17 +72,17 @@ impl<'s> LeftOver<'s> {
                 Ok(false)
             }
             _ => {
-                if let Some(kind) = language.blocks.get(wrong.name) {
-                    self.begin(Some(kind), wrong)?;
+                if let Some(block) = begun_by(language, wrong.name) {
+                    self.begin(Some(block), wrong)?;
                 }
                 Ok(false)
             }
         }
     }
 
-    fn begin(&mut self, kind: Option<BlockKind>, wrong: Wrong<'s>) -> Result<(), AllocError> {
+    fn begin(&mut self, block: Option<Begins>, wrong: Wrong<'s>) -> Result<(), AllocError> {
         self.begun.push(Begun {
-            kind,
+            block,
             name: wrong.name,
             start: wrong.start,
         })?;
@@ -110,7 +119,7 @@ impl<'s> LeftOver<'s> {
         }
         let mut found = None;
         for (place, begun) in self.begun.iter().enumerate() {
-            let is_unknown = begun.kind.is_none() && begun.start > start;
+            let is_unknown = begun.block.is_none() && begun.start > start;
             if found.is_none() && is_unknown && is_similar(alloc, end, begun.name)? {
                 found = Some(place);
             }
@@ -133,10 +142,11 @@ impl Begun<'_> {
     /// Whether a tag of this name may end the block: its own end, or of a name that isn't known the
     /// end of a block of this name or one similar to it.
     fn ends_by(&self, alloc: Global, end: &str) -> Result<bool, AllocError> {
-        match (self.kind, end.get(3..)) {
-            (Some(kind), _) => Ok(end == end_of(kind)),
+        match (self.block, end.get(3..)) {
+            (Some(Begins::Kind(kind)), _) => Ok(end == end_of(kind)),
+            (Some(Begins::Host), Some(name)) => Ok(name == self.name),
             (None, Some(name)) => Ok(name == self.name || is_similar(alloc, name, self.name)?),
-            (None, None) => Ok(false),
+            (_, None) => Ok(false),
         }
     }
 
@@ -144,8 +154,9 @@ impl Begun<'_> {
     fn may_have(&self, alloc: Global, word: &str) -> Result<bool, AllocError> {
         let blocks = blocks_with(word);
         for (kind, name) in blocks {
-            let is_it = match self.kind {
-                Some(known) => known == *kind,
+            let is_it = match self.block {
+                Some(Begins::Kind(known)) => known == *kind,
+                Some(Begins::Host) => false,
                 None => is_similar(alloc, name, self.name)?,
             };
             if is_it {
@@ -185,6 +196,28 @@ fn blocks_with(word: &str) -> &'static [(BlockKind, &'static str)] {
         "elsif" => &[(BlockKind::If, "if")],
         "when" => &[(BlockKind::Case, "case")],
         _ => &[],
+    }
+}
+
+/// The block that a tag of this name begins.
+fn begun_by(language: &Language, name: &str) -> Option<Begins> {
+    if let Some(kind) = language.blocks.get(name) {
+        return Some(Begins::Kind(kind));
+    }
+    match language.host_tags.get(name)? {
+        HostKind::Block(_) => Some(Begins::Host),
+        HostKind::Tag(_) => None,
+    }
+}
+
+/// The name of the end of the block that a tag of this name begins.
+fn end_in<'l>(language: &'l Language, name: &str) -> Option<&'l str> {
+    if let Some(kind) = language.blocks.get(name) {
+        return Some(end_of(kind));
+    }
+    match language.host_tags.get(name)? {
+        HostKind::Block(number) => Some(language.host_tags.end(number)),
+        HostKind::Tag(_) => None,
     }
 }
 

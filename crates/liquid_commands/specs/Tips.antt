@@ -23,7 +23,7 @@ use Rattle.liquid_commands.specs.declared.option_tips.Tip.TheVariants.{MissingIs
 use Rattle.liquid_commands.specs.declared.option_tips.Tip.TheVariants.{DecimalsAsTexts, PartOfYaml}
 use Rattle.liquid_commands.specs.declared.option_tips.Tip.TheVariants.{TextValue, Table}
 use Rattle.liquid_commands.specs.declared.option_tips.Tip.TheVariants.{TemplateFirst, Define}
-use Rattle.liquid_commands.specs.declared.option_tips.Tip.TheVariants.{DataFile}
+use Rattle.liquid_commands.specs.declared.option_tips.Tip.TheVariants.{DataFile, Dates}
 
 abbrev pub tip_text : Tip → CommandWord
 tip_text Jekyll = codes "--filters jekyll has it"
@@ -38,6 +38,7 @@ tip_text Table = codes "--records-format csv reads a table"
 tip_text TemplateFirst = codes "the template comes first, and its data or records after it"
 tip_text Define = codes "-D NAME=TEXT gives a value, and -D NAME:=JSON one of another kind"
 tip_text DataFile = codes "-d FILE gives data; each PATH is a template"
+tip_text Dates = codes "--dates reads a date as 2026-04-05, with or without a time"
 
 -- the first of the sets that has it
 abbrev pub set_tip : Bool → Bool → Bool → Option Tip

@@ -36,6 +36,8 @@ pub enum Tip {
     Define,
     /// The data of templates that are checked is in files.
     DataFile,
+    /// A text of the data may be a date.
+    Dates,
 }
 
 /// What is to be said of it.
@@ -56,6 +58,7 @@ impl fmt::Display for Tip {
             Tip::TemplateFirst => "the template comes first, and its data or records after it",
             Tip::Define => "-D NAME=TEXT gives a value, and -D NAME:=JSON one of another kind",
             Tip::DataFile => "-d FILE gives data; each PATH is a template",
+            Tip::Dates => "--dates reads a date as 2026-04-05, with or without a time",
         })
     }
 }

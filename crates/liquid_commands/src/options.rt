@@ -236,7 +236,8 @@ pub(crate) fn progress<'a>(alloc: Global) -> Arg<'a> {
     flag(
         alloc,
         "progress",
-        "Prints each second how many pages there are",
+        "Prints each second how many pages there are, \
+         and how much is left where that is known",
     )
 }
 
@@ -244,7 +245,7 @@ pub(crate) fn quiet<'a>(alloc: Global) -> Arg<'a> {
     flag(
         alloc,
         "quiet",
-        "Prints no counts and no notes on standard error",
+        "Prints no warnings, counts and notes on standard error",
     )
     .short('q')
 }

@@ -15,19 +15,19 @@ pub fn print_text(rt: &HostRuntime, text: &str) -> Result<(), Stop> {
     }
 }
 
-/// Ends the line that a text on standard output left open, where a message is to follow it: with a
+/// Ends the line that a page on standard output left open, where a message is to follow it: with a
 /// line end on standard error, where both are terminals. Standard output gets nothing.
-pub fn end_line(rt: &HostRuntime, text: &str) {
-    if is_line_open(text) && rt.stdout().is_terminal() && rt.stderr().is_terminal() {
+pub fn end_line(rt: &HostRuntime, is_line_open: bool) {
+    if is_line_open && rt.stdout().is_terminal() && rt.stderr().is_terminal() {
         let _ = eprintln!(rt; "");
     }
 }
 
-/// Whether the last line of a text has no end. It takes no memory.
-pub fn is_line_open(text: &str) -> bool
-    ensures { result ≡ is_line_open text.now }
+/// Whether the last line of these bytes has no end. It takes no memory.
+pub fn is_line_open(bytes: &[u8]) -> bool
+    ensures { result ≡ is_line_open bytes.now }
 {
-    match text.as_bytes().last() {
+    match bytes.last() {
         Some(byte) => *byte != b'\n',
         None => false,
     }

@@ -18,6 +18,8 @@ pub struct RenderCall<'w> {
     pub max_turns: Option<u64>,
     /// What becomes of a missing value.
     pub missing: Missing,
+    /// Whether no warnings and no notes are printed.
+    pub is_quiet: bool,
 }
 
 const ARGUMENTS: &[Argument] = &[
@@ -30,6 +32,7 @@ const ARGUMENTS: &[Argument] = &[
     Argument::Filters,
     Argument::Assets,
     Argument::PageFile,
+    Argument::Quiet,
     Argument::Missing,
     Argument::MaxBytes,
     Argument::MaxTurns,
@@ -52,5 +55,6 @@ pub fn render_call<'w>(alloc: Global, given: &ArgMatches<'w>) -> Result<RenderCa
         max_bytes: max_bytes_in(given)?,
         max_turns: given.get_one::<u64>("max-turns"),
         missing: missing_of(given.get_str("missing")),
+        is_quiet: given.get_flag("quiet"),
     })
 }

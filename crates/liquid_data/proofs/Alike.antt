@@ -11,9 +11,12 @@ use Rattle.serde_json.specs.Data as tree
 use Rattle.serde_json.specs.Find.{as_i64}
 use Rattle.serde_json.specs.Read.{of_json, of_items, of_members, number_of, converted, max_depth}
 use Rattle.liquid_json.specs.Json as plain
+use Rattle.liquid_json.specs.Json.{integer_of_json_number}
 use Rattle.liquid_json.specs.inside.Tokens as tokened
+use Rattle.liquid_json.specs.declared.tokens.Numbers.TheVariants.{Integers}
 use Rattle.liquid_json.proofs.Plain.{whole_plain}
-use Rattle.liquid_data.specs.Decimals.{integer_of_json_number, number_or_text, decimals_datum, decimals_items, decimals_pairs, json_of, decimals_object, decimals_read, spelled_data, spelled_value}
+use Rattle.liquid_json.specs.AnyNumbers.{number_or_text, decimals_datum, decimals_items, decimals_pairs, json_of, decimals_read, spelled_value}
+use Rattle.liquid_data.specs.Decimals.{decimals_object, spelled_data}
 use Rattle.liquid_data.specs.Laws.{is_whole, are_whole, have_whole, WholeNumbersStay, RefusedAlike, FloatsAreRead}
 
 -- ---- a text that is no object
@@ -68,7 +71,7 @@ number_same s None e = absurd (cc)
 number_same s (Some z) e = refl
 
 mutual
-  datum_same : (j : json.Json) → is_whole j ≡ true → tokened.datum_of j ≡ Some (decimals_datum j)
+  datum_same : (j : json.Json) → is_whole j ≡ true → tokened.datum_of Integers j ≡ Some (decimals_datum j)
   datum_same json.null e = refl
   datum_same (json.boolean b) e = refl
   datum_same (json.number s) e = number_same s (integer_of_json_number s) e
@@ -76,15 +79,15 @@ mutual
   datum_same (json.array js) e = ap (option_map array) (items_same js e)
   datum_same (json.object ms) e = ap (option_map object) (pairs_same ms no_pairs e)
 
-  items_same : (js : json.Items) → are_whole js ≡ true → tokened.token_items js ≡ Some (decimals_items js)
+  items_same : (js : json.Items) → are_whole js ≡ true → tokened.token_items Integers js ≡ Some (decimals_items js)
   items_same json.no_items e = refl
   items_same (json.item j js) e = let both = first_of (is_whole j) (are_whole js) e in rw (datum_same j both.0, items_same js both.1)
 
-  pairs_same : (ms : json.Members) (found : Pairs) → have_whole ms ≡ true → tokened.token_pairs ms found ≡ Some (decimals_pairs found ms)
+  pairs_same : (ms : json.Members) (found : Pairs) → have_whole ms ≡ true → tokened.token_pairs Integers ms found ≡ Some (decimals_pairs found ms)
   pairs_same json.no_members found e = refl
   pairs_same (json.member k j ms) found e =
       let both = first_of (is_whole j) (have_whole ms) e in
-      ap (option_and_then (λ d. tokened.token_pairs ms (put k d found))) (datum_same j both.0) ∙ pairs_same ms (put k (decimals_datum j) found) both.1
+      ap (option_and_then (λ d. tokened.token_pairs Integers ms (put k d found))) (datum_same j both.0) ∙ pairs_same ms (put k (decimals_datum j) found) both.1
 
 last : (o : Option (json.Json × List Token)) (j : json.Json) → option_and_then (λ p. json.if_last p.0 p.1) o ≡ Some j → o ≡ Some (j, [])
 last None j e = absurd (cc)
@@ -94,7 +97,7 @@ last (Some (k, t ∷ ts)) j e = absurd (cc)
 object_same : (source : List ℕ) (ms : json.Members) → json_of source ≡ Some (json.object ms) → have_whole ms ≡ true → plain.data_of source ≡ Ok (decimals_pairs no_pairs ms)
 object_same source ms is e =
     let all = last (json.value max_depth (tokens source)) (json.object ms) is in
-    whole_plain (json.value max_depth (tokens source)) (decimals_pairs no_pairs ms) (ap (converted tokened.datum_of) all ∙ ap (option_map {U = Datum × List Token} (λ d. (d, []))) (datum_same (json.object ms) e))
+    whole_plain (json.value max_depth (tokens source)) (decimals_pairs no_pairs ms) (ap (converted (tokened.datum_of Integers)) all ∙ ap (option_map {U = Datum × List Token} (λ d. (d, []))) (datum_same (json.object ms) e))
 
 same_at : (source : List ℕ) (j : json.Json) → json_of source ≡ Some j → is_whole j ≡ true → decimals_object (Some j) ≡ plain.data_of source
 same_at source json.null is e = sym (ap (λ o. plain.object_read (option_and_then of_json o)) is)

@@ -6,6 +6,7 @@ pub mod Fields
 pub mod LeftOut
 pub mod LineReadings
 pub mod ListSigns
+pub mod ListTexts
 pub mod Members
 pub mod Places
 pub mod RowObjects
@@ -13,5 +14,4 @@ pub mod RowRecords
 pub mod Snakes
 pub mod TableHeads
 pub mod Texts
-pub mod Turns
 pub mod WholeObjects

@@ -10,7 +10,8 @@ use Rattle.liquid_model.specs.Texts.{Text}
 use Rattle.liquid_model.specs.declared.error.ErrorKind.{ErrorKind}
 use Rattle.liquid_json.specs.Json.{data_of, value_in}
 use Rattle.liquid_data.specs.Dates.{dated_datum, dated_pairs}
-use Rattle.liquid_data.specs.Decimals.{spelled_data, spelled_value}
+use Rattle.liquid_json.specs.AnyNumbers.{spelled_value}
+use Rattle.liquid_data.specs.Decimals.{spelled_data}
 use Rattle.liquid_data.specs.Instants.{date_spelling}
 use Rattle.liquid_data.specs.declared.forms.DataForm.{DataForm}
 

@@ -6,8 +6,9 @@ use Rattle.std.specs.Prelude.{◌≡◌, ℕ, List, Some, Bool, true, ◌&&◌, 
 use Rattle.json.specs.Json as json
 use Rattle.liquid_model.specs.declared.error.ErrorKind.{ErrorKind}
 use Rattle.liquid_model.specs.declared.error.ErrorKind.TheVariants.{Float}
-use Rattle.liquid_json.specs.Json.{data_of}
-use Rattle.liquid_data.specs.Decimals.{integer_of_json_number, json_of, spelled_data}
+use Rattle.liquid_json.specs.Json.{data_of, integer_of_json_number}
+use Rattle.liquid_json.specs.AnyNumbers.{json_of}
+use Rattle.liquid_data.specs.Decimals.{spelled_data}
 
 -- every number of a value is whole and within 64 bits
 abbrev mutual

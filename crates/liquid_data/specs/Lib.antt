@@ -11,6 +11,7 @@ pub mod Heads
 pub mod Instants
 pub mod Laws
 pub mod Lines
+pub mod ListLaws
 pub mod Lists
 pub mod Names
 pub mod Quotes

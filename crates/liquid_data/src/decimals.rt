@@ -3,11 +3,10 @@ ghost use Rattle.std.specs.Prelude.{IfOk, MatchOption, ◌≡◌, Ok, Err};
 ghost use Rattle.liquid_model.specs.Answer.{Answers};
 ghost use Rattle.liquid_model.specs.View.{pairs_view, view};
 ghost use Rattle.liquid_model.specs.declared.error.ErrorKind.TheVariants.{InvalidInput};
-ghost use Rattle.liquid_data.specs.Decimals.{spelled_data, spelled_value};
+ghost use Rattle.liquid_json.specs.AnyNumbers.{spelled_value};
+ghost use Rattle.liquid_data.specs.Decimals.{spelled_data};
 
-use crate::reader::{MAX_DEPTH, NoValue, read};
-use json::{Reader, Scratch};
-use liquid_json::{data_from_json, value_from_json};
+use liquid_json::{data_from_json, value_from_json, value_of_any_numbers};
 use liquid_model::{Object, Result, Value};
 use std::alloc::{AllocError, Global};
 
@@ -35,7 +34,7 @@ pub fn data_with_decimals(alloc: Global, text: &str) -> Result<Object>
 pub fn value_with_decimals(alloc: Global, text: &str) -> Result<Value>
     ensures { Answers view result (spelled_value text.now) }
 {
-    match value_in(alloc, text)? {
+    match value_of_any_numbers(alloc, text)? {
         Some(value) => Ok(value),
         None => value_from_json(alloc, text),
     }
@@ -46,29 +45,11 @@ fn object_in(alloc: Global, text: &str) -> std::result::Result<Option<Object>, A
     ensures { IfOk result (λ o. MatchOption o (spelled_data text.now ≡ Err InvalidInput)
         (λ m. spelled_data text.now ≡ Ok (pairs_view m.entries))) }
 {
-    let Some(value) = value_in(alloc, text)? else {
+    let Some(value) = value_of_any_numbers(alloc, text)? else {
         return Ok(None);
     };
     match value {
         Value::Object(data) => Ok(Some(data)),
         _ => Ok(None),
     }
-}
-
-/// The value, or none where the text is no JSON.
-fn value_in(alloc: Global, text: &str) -> std::result::Result<Option<Value>, AllocError>
-    ensures { IfOk result (λ o. MatchOption o (spelled_value text.now ≡ Err InvalidInput)
-        (λ v. spelled_value text.now ≡ Ok (view v))) }
-{
-    let mut scratch = Scratch::new(alloc);
-    let mut reader = Reader::new(text, &mut scratch)?;
-    let value = match read(alloc, &mut reader, MAX_DEPTH) {
-        Ok(value) => value,
-        Err(NoValue::Memory) => return Err(AllocError),
-        Err(NoValue::NoJson) => return Ok(None),
-    };
-    if reader.next().is_some() {
-        return Ok(None);
-    }
-    Ok(Some(value))
 }

@@ -18,12 +18,10 @@ mod lines;
 mod list_objects;
 mod names;
 mod quotes;
-mod reader;
 mod record;
 mod records;
 mod toml_data;
 mod value;
-mod whole;
 
 pub use csv_rows::{HeadStop, Rows};
 pub use dates::dated;

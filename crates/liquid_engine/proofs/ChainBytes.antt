@@ -17,7 +17,7 @@ use Rattle.liquid_meaning.specs.Runs.{evaluate}
 use Rattle.liquid_engine.specs.Limits.{Takes, TakesBytes}
 use Rattle.liquid_engine.specs.Performs.{Configuration, Meets}
 use Rattle.liquid_engine.specs.declared.limits.Limits.{Limits}
-use Rattle.liquid_engine.specs.inside.ChainBytes.{bytes_on, chain_bytes, made_bytes}
+use Rattle.liquid_engine.specs.inside.ChainBytes.{bytes_on, chain_bytes, made_bytes, through_bytes}
 use Rattle.liquid_engine.proofs.Taken.{TakesBytes-more}
 
 Takes-none : (o : Option ℕ) → Takes 0 o o
@@ -46,16 +46,9 @@ pub record Taken {X : Type 0} (total : ℕ) (answers : FilterAnswers) (f : X →
 none_more : (n : ℕ) → n ≡ 0 + n
 none_more n = omega arith
 
-pub taken_none : {X : Type 0} (answers : FilterAnswers) (f : X → FilterCall) (chain : Chain) (e : Environment) (xs ys : List X) (d : Datum) (l : Limits)
-    → chain.filters ≡ map f xs → ys ≡ xs → entry_value e.missing (value_of chain.entry e) chain.filters ≡ Ok d
-    → Taken (chain_bytes answers chain e) (answers_in e.missing answers) f e ys d l l
-taken_none answers f chain e xs ys d l filters same entry = record {
-  spent = 0;
-  all = ap (bytes_on (λ x. made_bytes (calls_by (answers_in e.missing answers) chain.filters) x e)) entry
-      ∙ ap (λ fs. made_bytes (calls_by (answers_in e.missing answers) fs) d e) (filters ∙ ap (map f) (sym same))
-      ∙ none_more _;
-  taken = TakesBytes-none l;
-}
+pub taken_none : {X : Type 0} (answers : FilterAnswers) (f : X → FilterCall) (e : Environment) (xs : List X) (d : Datum) (l : Limits)
+    → Taken (through_bytes answers (map f xs) d e) (answers_in e.missing answers) f e xs d l l
+taken_none answers f e xs d l = record { spent = 0; all = none_more _; taken = TakesBytes-none l }
 
 sums : (total spent left size more : ℕ) → total ≡ spent + left → left ≡ size + more → total ≡ (spent + size) + more
 sums total spent left size more a b = omega (arith, a, b)
@@ -83,6 +76,13 @@ pub taken_all : {X : Type 0} (total : ℕ) (answers : FilterAnswers) (f : X → 
 taken_all total answers f e xs i d old new h before =
     let none = ap (λ ys. before.spent + made_bytes (calls_by answers (map f ys)) d e) (drop_all i xs h) in
     subst (λ n. TakesBytes n old new) (no_more total before.spent (before.all ∙ none)) before.taken
+
+-- a chain takes what its filters take of the value of its entry
+pub chain_taken : {V : Type 0} (r : Result V Error) (answers : FilterAnswers) (chain : Chain) (e : Environment) (d : Datum) (old new : Limits)
+    → entry_value e.missing (value_of chain.entry e) chain.filters ≡ Ok d
+    → OnOk r (TakesBytes (through_bytes answers chain.filters d e) old new) → OnOk r (TakesBytes (chain_bytes answers chain e) old new)
+chain_taken r answers chain e d old new entry taken =
+    subst (λ n. OnOk r (TakesBytes n old new)) (sym (ap (bytes_on (λ x. through_bytes answers chain.filters x e)) entry)) taken
 
 -- ---- what is assigned
 

@@ -90,6 +90,12 @@ no_value_met view e f p h = on (is_memory e.kind) refl h
     on true is h = inr (record { cause = inl (memory_of e.kind is, inl refl); adds = AddsPart-none p.sink _ })
     on false is h = inl (record { end = sym h.0; within = h.1; adds = Adds-nil p.sink; none_failed = refl; same = refl })
 
+-- the same value, or the same kind
+pub evaluated_as : {V A : Type 0} (view : V → A) (r : Result V Error) (f g : Environment → Result A ErrorKind) (p q : Configuration) → f p.environment ≡ g p.environment → Meets view r (evaluate g) p q → Meets view r (evaluate f) p q
+unfolding evaluate
+evaluated_as view r f g p q is h =
+    subst (λ x. MeetsAt view r (record { text = []; environment = p.environment; end = x }) p.sink q.sink q.environment) (sym is) h
+
 -- a fault of this kind
 pub answers_fault : {X Y : Type 0} (view : X → Y) (wanted : ErrorKind) (e : Error) → is_refusal wanted ≡ false → IsKindOrMemory wanted e.kind → Answers view (Err e) (Err wanted)
 answers_fault {Y = Y} view wanted e within h = on (is_memory e.kind) h

@@ -12,7 +12,7 @@ use Rattle.liquid_syntax.specs.declared.node.BodyEnds.{BodyEnds}
 use Rattle.liquid_evaluation.specs.declared.condition.Condition.{Condition}
 use Rattle.liquid_evaluation.specs.ConditionView.{condition_view}
 use Rattle.liquid_syntax.specs.declared.node.Node.{Node}
-use Rattle.liquid_syntax.specs.declared.node.Node.TheVariants.{Text as Plain, Output, Assign, Raw, Comment, If, Unless, Capture, Case, For, TableRow, Break, Continue, Increment, Decrement, Cycle, IfChanged, Include, JekyllInclude, Render, RenderEach}
+use Rattle.liquid_syntax.specs.declared.node.Node.TheVariants.{Text as Plain, Output, Assign, Raw, Comment, If, Unless, Capture, Case, For, TableRow, Break, Continue, Increment, Decrement, Cycle, IfChanged, Filtered, Include, JekyllInclude, Render, RenderEach}
 use Rattle.liquid_syntax.proofs.Places.{Stands-le, nothing_left}
 use Rattle.liquid_engine.specs.Limits.{Takes, TakesTurns}
 use Rattle.liquid_engine.specs.declared.limits.Limits.{Limits}
@@ -86,6 +86,9 @@ other_no_if (Cycle group values) other fs h = h
 other_no_if (IfChanged end) other [] h = h
 other_no_if (IfChanged end) other (b ∷ []) h = h
 other_no_if (IfChanged end) other (b ∷ d ∷ fs) h = h
+other_no_if (Filtered filters end) other [] h = h
+other_no_if (Filtered filters end) other (b ∷ []) h = h
+other_no_if (Filtered filters end) other (b ∷ d ∷ fs) h = h
 other_no_if (Include name bindings) other fs h = h
 other_no_if (JekyllInclude name bindings) other fs h = h
 other_no_if (Render name bindings) other fs h = h
@@ -109,6 +112,7 @@ no_elsif (tree.for_each t s w b d) more other = refl
 no_elsif (tree.tablerow t s w x b) more other = refl
 no_elsif (tree.capture t b) more other = refl
 no_elsif (tree.ifchanged b) more other = refl
+no_elsif (tree.filtered filters b) more other = refl
 no_elsif (tree.include x bs) more other = refl
 no_elsif (tree.jekyll_include t bs) more other = refl
 no_elsif (tree.render x o bs) more other = refl
@@ -132,6 +136,7 @@ followed (tree.for_each t s w b d) m more = refl
 followed (tree.tablerow t s w x b) m more = refl
 followed (tree.capture t b) m more = refl
 followed (tree.ifchanged b) m more = refl
+followed (tree.filtered filters b) m more = refl
 followed (tree.include x bs) m more = refl
 followed (tree.jekyll_include t bs) m more = refl
 followed (tree.render x o bs) m more = refl

@@ -1,8 +1,10 @@
 -- How what was added is put together, and an output around a buffer.
-use Rattle.std.proofs.Common.{◌≡◌, ℕ, List, [], ◌++◌, Option, Some, IsSome, is_some, refl, sym, ap, subst, ◌∙◌, append_assoc}
+use Rattle.std.proofs.Common.{◌≡◌, ℕ, List, [], ◌++◌, Option, Some, IsSome, is_some, refl, sym, ap, subst, ◌∙◌, append_assoc, String, Global, string_bytes}
 use Rattle.std.specs.Io.KnownBytes.{Appends}
 use Rattle.std.proofs.KnownBytes.{Appends-trans, Appends-nil}
-use Rattle.liquid_engine.specs.Sinks.{Sink, growing_contents, held_in, Adds, AddsPart}
+use Rattle.std.specs.Option.{option_map}
+use Rattle.liquid_engine.specs.Sinks.{Sink, sink_of, growing_contents, held_in, Adds, AddsPart}
+use Rattle.liquid_engine.specs.declared.output.Output.{Output}
 
 pub Adds-nil : (s : Sink) → Adds s s []
 Adds-nil s = record { added = Appends-nil (growing_contents s); same_place = refl; unwritten = λ _. refl }
@@ -54,6 +56,20 @@ pub record Around (s p q u : Sink) (text : List ℕ) : Type 0 where
   pub contents_out : u.contents ≡ q.contents
   pub failures_in : p.failures ≡ s.failures
   pub failures_out : u.failures ≡ q.failures
+
+-- an output before its buffer is opened, with the buffer open, after the body, and with it closed
+pub around_buffer : {W : Type 0} (contents : W → Option (List ℕ)) (failure_count : W → ℕ) (before opened ran closed : Output W) (outer : Option (String Global)) (text : String Global)
+    → outer ≡ before.buffer → option_map string_bytes opened.buffer ≡ Some [] → opened.writer ≡ before.writer → ran.buffer ≡ Some text → closed.buffer ≡ outer → closed.writer ≡ ran.writer
+    → Around (sink_of contents failure_count before) (sink_of contents failure_count opened) (sink_of contents failure_count ran) (sink_of contents failure_count closed) (string_bytes text)
+around_buffer contents failure_count before opened ran closed outer text was empty writer_in holds back writer_out = record {
+  opened = empty;
+  closed = ap (option_map string_bytes) holds;
+  back = ap (option_map string_bytes) (back ∙ was);
+  contents_in = ap (λ w. contents w.now) writer_in;
+  contents_out = ap (λ w. contents w.now) writer_out;
+  failures_in = ap (λ w. failure_count w.now) writer_in;
+  failures_out = ap (λ w. failure_count w.now) writer_out;
+}
 
 IsSome-of : {A : Type 0} (o : Option A) (x : A) → o ≡ Some x → IsSome o
 IsSome-of o x e = ap is_some e

@@ -3,6 +3,7 @@ pub mod Changed
 pub mod Choices
 pub mod Counters
 pub mod Engine
+pub mod Filtered
 pub mod Given
 pub mod LoopRuns
 pub mod LoopTurns

@@ -3,7 +3,7 @@
 //! These calls recurse as deep as the nodes are nested, through blocks and partials. To keep a
 //! level small on the stack, `#[inline(never)]` keeps everything but the recursive calls out of
 //! the frames of [run_range], [run_node] and [run_chosen].
-ghost use Rattle.std.specs.Prelude.{◌≡◌, ℕ, ◌+◌, ◌<◌, ◌≤◌, IfOk, IsOk};
+ghost use Rattle.std.specs.Prelude.{◌≡◌, ℕ, ◌<◌, ◌≤◌, IfOk, IsOk};
 ghost use Rattle.liquid_core.specs.ExpressionView.{expression_view};
 ghost use Rattle.liquid_core.specs.States.{environment_of, layers_of, loops_of};
 ghost use Rattle.liquid_syntax.specs.Flats.{Maker, IsForestAt, IsNodeRange, NodeAt, IsNode};
@@ -18,6 +18,7 @@ ghost use Rattle.liquid_engine.specs.Performs.{Performs, configuration_of};
 ghost use Rattle.liquid_engine.specs.Silent.{AreSilent, IsDoneOrStopped, IsSilent};
 ghost use Rattle.liquid_engine.specs.Sinks.{sink_of};
 
+mod buffers;
 mod loops;
 mod renders;
 
@@ -27,13 +28,13 @@ use crate::counted::CountedWrite;
 use crate::counters::{run_decrement, run_increment};
 use crate::cycle::run_cycle;
 use crate::fault_location::{in_partial, located};
-use crate::ifchanged::show_if_changed;
 use crate::node_ends::next_after;
 use crate::node_turns::{run_no_nodes, turns_of_node};
 use crate::output::{Output, Turns};
 use crate::output_and_assign::{run_assign, run_output, run_raw, run_text};
 use crate::partial::{enter_include, enter_jekyll_include};
-use liquid_core::{Expression, Interrupt, NamedFilters, Result, State, Value};
+use buffers::{run_capture, run_filtered, run_ifchanged};
+use liquid_core::{Expression, Interrupt, NamedFilters, Result, State};
 use liquid_syntax::{Binding, Node};
 use loops::{run_for, run_tablerow};
 use renders::{run_render, run_render_each};
@@ -156,6 +157,9 @@ fn run_node<'d, W: CountedWrite, H: NamedFilters>(
             out,
             state,
         ),
+        Node::Filtered(filters, end) => run_filtered(
+            alloc, context, nodes, at, filters, *end, out, state,
+        ),
         Node::Include(name, bindings) => { run_include(alloc, context, name, bindings, out, state) }
         Node::JekyllInclude(name, bindings) => run_jekyll_include(
             alloc,
@@ -209,68 +213,6 @@ fn run_chosen<'d, W: CountedWrite, H: NamedFilters>(
         Ok(range) => run_range(alloc, context, nodes, range.0, range.1, out, state),
         Err(fault) => Err(fault),
     }
-}
-
-/// Runs the body into a buffer, and sets an assigned variable to its text.
-#[cycle(run)]
-#[inline(never)]
-fn run_capture<'d, W: CountedWrite, H: NamedFilters>(
-    alloc: Global,
-    context: &RunContext<'d, H>,
-    nodes: &'d [Node],
-    at: usize,
-    name: &str,
-    end: usize,
-    out: &mut Output<'_, W>,
-    state: &mut State<'d>,
-) -> Result<()>
-    requires body { IsNodeRange nodes.now (at + 1) end }
-    ensures performs { (b : Forest Maker) → IsForestAt nodes.now (at + 1) b end →
-        Performs result (node_in H.named context.now (tree.capture name.now (nodes_of b)))
-        (configuration_of W.contents W.failure_count out.old state.old)
-        (configuration_of W.contents W.failure_count out.new state.new) }
-    ensures same_writer { out.new.writer.ghost_name ≡ out.old.writer.ghost_name }
-    ensures kept { (b : Forest Maker) → IsForestAt nodes.now (at + 1) b end →
-        Keeps (node_names (tree.capture name.now (nodes_of b))) (setting_of H.named context.now)
-        state.old state.new }
-    ensures loops { loops_of state.new ≡ loops_of state.old }
-{
-    let outer = out.open(alloc);
-    let answer = run_range(alloc, context, nodes, at + 1, end, out, state);
-    let text = out.close(outer);
-    answer?;
-    state.set_global(String::from_str(alloc, name)?, Value::Text(text))
-}
-
-/// Runs the body into a buffer, and writes its text where it differs from the last one, as the body
-/// left that.
-#[cycle(run)]
-#[inline(never)]
-fn run_ifchanged<'d, W: CountedWrite, H: NamedFilters>(
-    alloc: Global,
-    context: &RunContext<'d, H>,
-    nodes: &'d [Node],
-    at: usize,
-    end: usize,
-    out: &mut Output<'_, W>,
-    state: &mut State<'d>,
-) -> Result<()>
-    requires { IsNodeRange nodes.now (at + 1) end }
-    ensures performs { (b : Forest Maker) → IsForestAt nodes.now (at + 1) b end →
-        Performs result (node_in H.named context.now (tree.ifchanged (nodes_of b)))
-        (configuration_of W.contents W.failure_count out.old state.old)
-        (configuration_of W.contents W.failure_count out.new state.new) }
-    ensures same_writer { out.new.writer.ghost_name ≡ out.old.writer.ghost_name }
-    ensures kept { (b : Forest Maker) → IsForestAt nodes.now (at + 1) b end →
-        Keeps (node_names (tree.ifchanged (nodes_of b))) (setting_of H.named context.now) state.old
-        state.new }
-    ensures loops { loops_of state.new ≡ loops_of state.old }
-{
-    let outer = out.open(alloc);
-    let ended = run_range(alloc, context, nodes, at + 1, end, out, state);
-    let text = out.close(outer);
-    ended?;
-    show_if_changed(alloc, text, out, state)
 }
 
 /// Runs a partial over the caller's names, with the pairs as a scope.

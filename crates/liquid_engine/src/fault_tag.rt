@@ -177,6 +177,7 @@ pub(crate) fn item_of_other(
             Ok(PieceItem::At(0))
         }
         Node::Increment(_) | Node::Decrement(_) => Ok(PieceItem::At(0)),
+        // the filters of a block of the host don't stand in its tag
         _ => Ok(PieceItem::Whole),
     }
 }

@@ -13,6 +13,7 @@ mod engine;
 mod fault_item;
 mod fault_location;
 mod fault_tag;
+mod filtered;
 mod hosted_page;
 mod ifchanged;
 mod isolated_scope;

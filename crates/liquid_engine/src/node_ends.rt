@@ -29,6 +29,7 @@ pub(crate) fn next_after(nodes: &[Node], at: usize, to: usize) -> usize
         Node::Unless(_, bodies) => bodies.last_end,
         Node::Capture(_, end) => *end,
         Node::IfChanged(end) => *end,
+        Node::Filtered(_, end) => *end,
         Node::Case(_, _, end) => *end,
         Node::For(_, bodies) => bodies.last_end,
         Node::TableRow(_, end) => *end,

@@ -91,6 +91,7 @@ fn turns_at(nodes: &[Node], at: usize, to: usize) -> u64
         Node::RenderEach(_, _, _) => 1,
         Node::Output(chain) => one_and(chain.filters.len() as u64),
         Node::Assign(_, chain) => one_and(chain.filters.len() as u64),
+        Node::Filtered(filters, _) => one_and(filters.len() as u64),
         Node::If(condition, bodies) => {
             let others = comparisons_of_elsifs(nodes, bodies.first_end, bodies.last_end);
             one_and(added(comparisons_of(condition), others))

@@ -2,8 +2,8 @@
 -- `elsif` is a node of its own, a `when` is none.
 use Rattle.std.specs.Prelude.{ℕ, ◌+◌}
 use Rattle.liquid_evaluation.specs.Tree.{Node, if_true, unless, case_of, for_each, tablerow}
-use Rattle.liquid_evaluation.specs.Tree.{capture, ifchanged, Nodes, no_nodes, node, Whens, no_whens}
-use Rattle.liquid_evaluation.specs.Tree.{when}
+use Rattle.liquid_evaluation.specs.Tree.{capture, ifchanged, filtered, Nodes, no_nodes, node, Whens}
+use Rattle.liquid_evaluation.specs.Tree.{no_whens, when}
 
 unfoldable mutual
   pub count_of_nodes : Nodes → ℕ
@@ -22,6 +22,7 @@ unfoldable mutual
   count_of_node (tablerow name source window columns body) = 1 + count_of_nodes body
   count_of_node (capture name body) = 1 + count_of_nodes body
   count_of_node (ifchanged body) = 1 + count_of_nodes body
+  count_of_node (filtered filters body) = 1 + count_of_nodes body
   count_of_node _ = 1
 
   pub count_of_whens : Whens → ℕ

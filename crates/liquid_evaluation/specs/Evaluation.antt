@@ -88,6 +88,10 @@ call_by answers call = record { answers = answers call.filter; arguments = call.
 abbrev pub calls_by : FilterAnswers → List FilterCall → List Call
 calls_by answers = map (call_by answers)
 
+-- a value, through filters in order
+abbrev pub through : FilterAnswers → List FilterCall → Datum → Environment → Result Datum ErrorKind
+through answers filters d e = applied (calls_by (answers_in e.missing answers) filters) d e
+
 -- the entry, then the filters in order
 unfoldable pub chain_value : FilterAnswers → Chain → Environment → Result Datum ErrorKind
 chain_value answers chain e = do

@@ -10,8 +10,9 @@ use Rattle.liquid_evaluation.specs.Tree.{FilterCall, Chain, Atom, bare, compared
 use Rattle.liquid_evaluation.specs.Tree.{each_of, counted, Window, Bindings, Node, plain, raw}
 use Rattle.liquid_evaluation.specs.Tree.{comment, output, assign, increment, decrement, break_loop}
 use Rattle.liquid_evaluation.specs.Tree.{continue_loop, cycle, if_true, unless, case_of, for_each}
-use Rattle.liquid_evaluation.specs.Tree.{tablerow, capture, ifchanged, include, jekyll_include}
-use Rattle.liquid_evaluation.specs.Tree.{render, Nodes, no_nodes, node, Whens, no_whens, when}
+use Rattle.liquid_evaluation.specs.Tree.{tablerow, capture, ifchanged, filtered, include}
+use Rattle.liquid_evaluation.specs.Tree.{jekyll_include, render, Nodes, no_nodes, node, Whens}
+use Rattle.liquid_evaluation.specs.Tree.{no_whens, when}
 use Rattle.liquid_core.specs.Environment.{Names}
 
 -- the first name of each variable, also in steps
@@ -102,6 +103,7 @@ unfoldable mutual
       (optional_names columns ++ (window_names window ++ nodes_names body)))
   node_names (capture name body) = name ∷ nodes_names body
   node_names (ifchanged body) = nodes_names body
+  node_names (filtered filters body) = filters_names filters ++ nodes_names body
   node_names (include x bindings) =
       expression_names x ++ (target_names bindings ++ bound_names bindings)
   node_names (jekyll_include name bindings) = include_name bindings ++ bound_names bindings

@@ -17,8 +17,8 @@ use Rattle.liquid_core.specs.Expression.{Expression, literal, variable}
 use Rattle.liquid_evaluation.specs.Tree.{Node, plain, raw, comment, output, assign, increment}
 use Rattle.liquid_evaluation.specs.Tree.{decrement, break_loop, continue_loop, cycle, if_true}
 use Rattle.liquid_evaluation.specs.Tree.{unless, case_of, for_each, tablerow, capture, ifchanged}
-use Rattle.liquid_evaluation.specs.Tree.{include, jekyll_include, render, Nodes, no_nodes, node}
-use Rattle.liquid_evaluation.specs.Tree.{Whens, no_whens, when}
+use Rattle.liquid_evaluation.specs.Tree.{filtered, include, jekyll_include, render, Nodes}
+use Rattle.liquid_evaluation.specs.Tree.{no_nodes, node, Whens, no_whens, when}
 
 -- what a place looks up: a name that only its run knows; a name that stands there; or such a name,
 -- and where no partial has it, that name with `.liquid`
@@ -59,6 +59,7 @@ unfoldable mutual
   node_calls (tablerow name source window columns body) = nodes_calls body
   node_calls (capture name body) = nodes_calls body
   node_calls (ifchanged body) = nodes_calls body
+  node_calls (filtered filters body) = nodes_calls body
   node_calls (include x bindings) = call_of_expression of_name x ∷ []
   node_calls (jekyll_include name bindings) = of_name name ∷ []
   node_calls (render x each bindings) = call_of_expression of_name_or_liquid x ∷ []

@@ -71,6 +71,8 @@ mutual
     -- the name that is assigned, and the body
     capture : Text → Nodes → Node
     ifchanged : Nodes → Node
+    -- a host's block: the filters that its body's text goes through, and the body
+    filtered : List FilterCall → Nodes → Node
     -- the partial's name, and the pairs
     include : Expression → Bindings → Node
     -- the partial's name is a text, and no variable

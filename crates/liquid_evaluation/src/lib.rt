@@ -27,6 +27,7 @@ pub use range::Range;
 pub use range_expression::RangeExpression;
 pub use stored_filter::StoredFilter;
 pub use visit::{
-    visit_chain, visit_condition, visit_expression, visit_expressions, visit_optional, visit_source,
+    visit_chain, visit_condition, visit_expression, visit_expressions, visit_filters,
+    visit_optional, visit_source,
 };
 pub use window::{Window, evaluate_amount};

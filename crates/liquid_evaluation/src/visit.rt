@@ -24,7 +24,8 @@ pub fn visit_chain<V: NameVisitor>(chain: &FilterChain, visitor: &mut V) -> bool
     visit_expression(&chain.entry, visitor) || visit_filters(&chain.filters, visitor)
 }
 
-fn visit_filters<V: NameVisitor>(filters: &[ChainFilter], visitor: &mut V) -> bool
+/// The names of the arguments of filters, one filter after another.
+pub fn visit_filters<V: NameVisitor>(filters: &[ChainFilter], visitor: &mut V) -> bool
     ensures { V.tells visitor.old (filters_names (map chain_filter_view filters.now)) result
         visitor.new }
 {

@@ -20,10 +20,10 @@ pub(crate) fn unknown_tag<'s>(
 ) -> Result<Phrasing<'s>, AllocError> {
     let name = piece.name;
     if is_end(name) {
-        return Ok(wrong_end(outline, name));
+        return Ok(wrong_end(language, outline, name));
     }
     if is_control(name) {
-        return Ok(wrong_control(outline, name));
+        return Ok(wrong_control(language, outline, name));
     }
     unknown_name(alloc, language, outline.at, piece)
 }
@@ -43,13 +43,18 @@ fn is_control(name: &str) -> bool {
 /// Of a source that ends in a block, at the tag that begins it. The name is that of the piece which
 /// the fault is in, if it is in one:
 /// then that piece begins a verbatim body.
-pub(crate) fn missing_end<'s>(fault: &Fault, outline: &Outline<'s>, name: &'s str) -> Phrasing<'s> {
+pub(crate) fn missing_end<'s>(
+    language: &'s Language,
+    fault: &Fault,
+    outline: &Outline<'s>,
+    name: &'s str,
+) -> Phrasing<'s> {
     if !outline.at.is_empty() {
         let words = "`{% … %}` has no `{% ¤ %}`";
         return Phrasing::quoting(outline.at, words, name, words_of(fault.expected).words);
     }
     match outline.open.last() {
-        Some(opener) => block_without_end(opener),
+        Some(opener) => block_without_end(language, opener),
         None => {
             let words = "the source ends where `{% ¤ %}` is wanted";
             Phrasing::quoting("", words, words_of(fault.expected).words, "")
@@ -57,20 +62,22 @@ pub(crate) fn missing_end<'s>(fault: &Fault, outline: &Outline<'s>, name: &'s st
     }
 }
 
-fn block_without_end<'s>(opener: &Opener<'s>) -> Phrasing<'s> {
+fn block_without_end<'s>(language: &'s Language, opener: &Opener<'s>) -> Phrasing<'s> {
     let words = "`{% … %}` has no `{% ¤ %}`";
-    Phrasing::quoting(opener.from, words, opener.name, end_tag(opener.block))
+    let end = end_tag(language, opener.block);
+    Phrasing::quoting(opener.from, words, opener.name, end)
 }
 
 /// An end of another block than the innermost, or of none.
-fn wrong_end<'s>(outline: &Outline<'s>, name: &'s str) -> Phrasing<'s> {
+fn wrong_end<'s>(language: &'s Language, outline: &Outline<'s>, name: &'s str) -> Phrasing<'s> {
     match outline.open.last() {
         Some(opener) => {
             let words = "found `{% … %}` where `{% ¤ %}` is wanted, the end of the `{% … %}` of §";
+            let end = end_tag(language, opener.block);
             Phrasing {
                 third: opener.name,
                 other: opener.from,
-                ..Phrasing::quoting(outline.at, words, name, end_tag(opener.block))
+                ..Phrasing::quoting(outline.at, words, name, end)
             }
         }
         None => {
@@ -82,7 +89,7 @@ fn wrong_end<'s>(outline: &Outline<'s>, name: &'s str) -> Phrasing<'s> {
 
 /// A control word that the innermost block doesn't know, or knows no longer, or that stands in no
 /// block.
-fn wrong_control<'s>(outline: &Outline<'s>, name: &'s str) -> Phrasing<'s> {
+fn wrong_control<'s>(language: &'s Language, outline: &Outline<'s>, name: &'s str) -> Phrasing<'s> {
     let Some(opener) = outline.open.last() else {
         let words = "found `{% ¤ %}`, and no block is open here";
         return Phrasing::quoting(outline.at, words, name, "");
@@ -91,19 +98,24 @@ fn wrong_control<'s>(outline: &Outline<'s>, name: &'s str) -> Phrasing<'s> {
         (Block::If | Block::Unless | Block::Case | Block::For, Some(otherwise)) => {
             after_else(outline.at, otherwise, name)
         }
-        _ => strange_control(outline.at, opener, name),
+        _ => strange_control(language, outline.at, opener, name),
     }
 }
 
 /// A control word that its block doesn't know.
-fn strange_control<'s>(at: &'s str, opener: &Opener<'s>, name: &'s str) -> Phrasing<'s> {
+fn strange_control<'s>(
+    language: &'s Language,
+    at: &'s str,
+    opener: &Opener<'s>,
+    name: &'s str,
+) -> Phrasing<'s> {
     let words = if name == "elsif" && matches!(opener.block, Block::Unless) {
         "found `{% ¤ %}`, which the `{% … %}` of § can't have; it may have one `{% else %}`"
     } else {
         "found `{% ¤ %}`, which the `{% … %}` of § can't have; is its `{% ¤ %}` missing?"
     };
     Phrasing {
-        third: end_tag(opener.block),
+        third: end_tag(language, opener.block),
         other: opener.from,
         ..Phrasing::quoting(at, words, name, opener.name)
     }

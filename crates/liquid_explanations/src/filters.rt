@@ -4,7 +4,7 @@ use crate::names::{kind_of_filter, lacking_filter, meant_filter};
 use crate::numbers::comma_in_argument;
 use crate::phrasing::Phrasing;
 use crate::similar::most_similar;
-use liquid_language::{FilterRegistry, HostCall, Language, RegisteredFilter};
+use liquid_language::{FilterRegistry, HostKind, Language, RegisteredFilter};
 use liquid_lexer::{Item, PlacedItem, PlacedPiece, Symbol};
 use std::alloc::{AllocError, Global};
 
@@ -31,9 +31,9 @@ pub(crate) fn unknown_filter<'s>(
     piece: &PlacedPiece<'s>,
     at: &'s str,
 ) -> Result<Phrasing<'s>, AllocError> {
-    if let Some(call) = host_call(language, piece.name) {
+    if let Some(filter) = host_filter(language, piece.name) {
         let words = "`…` calls the filter `…`, which isn't registered";
-        return Ok(Phrasing::quoting(at, words, piece.name, call.filter.as_str()));
+        return Ok(Phrasing::quoting(at, words, piece.name, filter));
     }
     let calls = calls(alloc, &piece.items)?;
     match unregistered(&language.filters, &calls) {
@@ -107,8 +107,8 @@ pub(crate) fn miscounted<'s>(
     piece: &PlacedPiece<'s>,
     at: &'s str,
 ) -> Result<Phrasing<'s>, AllocError> {
-    let calls = match host_call(language, piece.name) {
-        Some(call) => return Ok(miscounted_values(&language.filters, call, piece, at)),
+    let calls = match host_filter(language, piece.name) {
+        Some(filter) => return Ok(miscounted_values(&language.filters, filter, piece, at)),
         None => calls(alloc, &piece.items)?,
     };
     Ok(match refused(&language.filters, &calls) {
@@ -120,10 +120,10 @@ pub(crate) fn miscounted<'s>(
     })
 }
 
-/// Of a host's tag whose filter doesn't take the number of its values.
+/// Of a host's tag or block whose filter doesn't take the number of its values.
 fn miscounted_values<'s>(
     filters: &FilterRegistry,
-    call: &HostCall,
+    filter: &str,
     piece: &PlacedPiece<'s>,
     at: &'s str,
 ) -> Phrasing<'s> {
@@ -134,7 +134,7 @@ fn miscounted_values<'s>(
         has_colon: true,
         names_arguments: false,
     };
-    match filters.get(call.filter.as_str()) {
+    match filters.get(filter) {
         Some(filter) => miscount(&tag, bounds(filter)),
         None => Phrasing::plain(at, "a tag takes another number of values"),
     }
@@ -150,9 +150,12 @@ fn value_count(items: &[PlacedItem<'_>]) -> usize {
     count
 }
 
-/// The call that a tag's name stands for, if it is a host's.
-fn host_call<'l>(language: &'l Language, name: &str) -> Option<&'l HostCall> {
-    language.host_tags.call(language.host_tags.number(name)?)
+/// The filter that a tag's or a block's name stands for, if it is a host's.
+fn host_filter<'l>(language: &'l Language, name: &str) -> Option<&'l str> {
+    match language.host_tags.get(name)? {
+        HostKind::Tag(number) => Some(language.host_tags.call(number)?.filter.as_str()),
+        HostKind::Block(number) => Some(language.host_tags.block(number)?.filter.as_str()),
+    }
 }
 
 /// Of a filter that takes a least and a greatest number of arguments, and other ones are given, or

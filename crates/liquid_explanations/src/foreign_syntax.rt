@@ -7,7 +7,7 @@ mod tags;
 use crate::characters::{follows_dot, is_digit, is_in_word, is_letter, is_quote};
 use conditions::CONDITION;
 use liquid_lexer::{Delimiter, Expectation, PlacedPiece};
-use outputs::{OUTPUT, VALUE};
+use outputs::{BEGUN, OUTPUT, VALUE};
 use pieces::ANYWHERE;
 use tags::{ASSIGN, ELSE, LOOP, NAME, OTHER, PARTIAL, SETTING, TAG};
 
@@ -38,6 +38,8 @@ pub struct ErrorSite<'s> {
     pub expected: Expectation,
     /// The item before it, or `^` where there is none.
     pub before: &'s str,
+    /// The first item of the piece, or empty where there is none.
+    pub first: &'s str,
     /// The item at it, as far as one can be read.
     pub found: &'s str,
     /// The source from it on.
@@ -50,6 +52,9 @@ pub struct ErrorSite<'s> {
 
 /// What the message says of a habit, where one is met.
 pub(crate) fn advice(site: &ErrorSite<'_>) -> Option<&'static str> {
+    if let Some(words) = of_slice(site) {
+        return Some(words);
+    }
     match site.context {
         PieceContext::Name => first_of(NAME, site),
         PieceContext::Output => of_output(site).or(of_any_piece(site)),
@@ -58,7 +63,32 @@ pub(crate) fn advice(site: &ErrorSite<'_>) -> Option<&'static str> {
 }
 
 fn of_output(site: &ErrorSite<'_>) -> Option<&'static str> {
-    of_map(site).or(first_of(OUTPUT, site)).or(of_value(site))
+    let begun = ErrorSite {
+        before: site.first,
+        ..*site
+    };
+    of_map(site)
+        .or(of_setting(site))
+        .or(first_of(OUTPUT, site))
+        .or(first_of(BEGUN, &begun))
+        .or(of_value(site))
+}
+
+/// A name with a `$` that is set.
+fn of_setting(site: &ErrorSite<'_>) -> Option<&'static str> {
+    let (inside, _) = site.rest.strip_prefix("$")?.split_once("}}")?;
+    if inside.contains(":=") {
+        return Some("`{{ $a := 1 }}` is written `{% assign a = 1 %}`");
+    }
+    None
+}
+
+/// A `:` inside the brackets of a step.
+fn of_slice(site: &ErrorSite<'_>) -> Option<&'static str> {
+    if site.at_item || !site.rest.starts_with(":") {
+        return None;
+    }
+    Some("a part of a text or of a list is `| slice: 0, 3`")
 }
 
 fn of_assign(site: &ErrorSite<'_>) -> Option<&'static str> {

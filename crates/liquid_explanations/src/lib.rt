@@ -80,7 +80,7 @@ fn phrasing_of<'s>(
         FaultKind::UnknownTag => unknown_tag(alloc, language, outline, piece),
         FaultKind::UnknownFilter => unknown_filter(alloc, language, piece, outline.at),
         FaultKind::FilterArguments => miscounted(alloc, language, piece, outline.at),
-        FaultKind::MissingEnd => Ok(missing_end(fault, outline, piece.name)),
+        FaultKind::MissingEnd => Ok(missing_end(language, fault, outline, piece.name)),
         FaultKind::TooNested => Ok(too_nested(outline.from)),
         FaultKind::Expected if fault.remaining == outline.at.len() => {
             Ok(misplaced(language, fault, piece))

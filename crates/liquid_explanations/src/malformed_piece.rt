@@ -182,6 +182,7 @@ fn site_of<'s>(fault: &Fault, from: &'s str, piece: &PlacedPiece<'s>) -> ErrorSi
         context: context_of(piece),
         expected: fault.expected,
         before: spelling_before(&piece.items, count),
+        first: spelling_before(&piece.items, 1),
         found: closer_of(from, piece.kind),
         rest: from,
         count,

@@ -44,6 +44,7 @@ fn site_of<'s>(fault: &Fault, piece: &PlacedPiece<'s>) -> ErrorSite<'s> {
         context: context_of(piece),
         expected: fault.expected,
         before: spelling_before(&piece.items, count),
+        first: spelling_before(&piece.items, 1),
         found,
         rest,
         count,
@@ -193,12 +194,24 @@ fn after_first<'s>(language: &Language, site: &ErrorSite<'s>) -> Option<Phrasing
         before if language.filters.get(before).is_some() => {
             "a filter follows its value and a `|`: write `{{ a | … }}`"
         }
+        before if before.starts_with(is_letter) && is_name && has_more(site) => {
+            let words = "a filter follows its value and a `|`, as `{{ … | ¤: .. }}`";
+            return Some(Phrasing::quoting(site.rest, words, site.found, before));
+        }
         before if before.starts_with(is_letter) && is_name => {
             "a name is one word, and a part of one is written `….…`"
         }
         _ => "an output shows one value; write `{{ a }}{{ b }}`",
     };
     Some(Phrasing::quoting(site.rest, words, site.before, site.found))
+}
+
+/// Whether one more value follows the one at the fault.
+fn has_more(site: &ErrorSite<'_>) -> bool {
+    match site.rest.strip_prefix(site.found) {
+        Some(after) => after.trim_start().starts_with(begins_value),
+        None => false,
+    }
 }
 
 /// What is meant by what stands where a pair is wanted, after the name of a partial.
@@ -293,7 +306,7 @@ pub(crate) fn is_adjacent(site: &ErrorSite<'_>, items: &[PlacedItem<'_>]) -> boo
 pub(crate) fn is_tag(language: &Language, name: &str) -> bool {
     language.tags.get(name).is_some()
         || language.blocks.get(name).is_some()
-        || language.host_tags.number(name).is_some()
+        || language.host_tags.get(name).is_some()
 }
 
 /// The spelling of the item of the index, or none.

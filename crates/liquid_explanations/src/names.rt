@@ -54,7 +54,7 @@ post_url: `post_url` is of Jekyll, and isn't known; write the address itself
 seo: `seo` is of a plugin of Jekyll, and isn't known; write the `<meta>` tags yourself
 feed_meta: `feed_meta` is of a plugin of Jekyll, and isn't known; write the `<link>` yourself
 gist: `gist` is of a plugin of Jekyll, and isn't known; let the data bring the HTML
-do: `do` isn't known; `assign` sets a name
+do: `do` isn't known; `assign` sets a name, as `{% assign list = list | concat: more %}`
 then: a condition ends without `then`
 next: `next` is written `continue`
 fi: an end is written as `{% endif %}`
@@ -210,7 +210,7 @@ within: it is of Shopify's themes; write the address itself
 color_to_rgb: it is of Shopify's themes
 payment_type_svg_tag: it is of Shopify's themes
 placeholder_svg_tag: it is of Shopify's themes
-structured_data: it is of Shopify's themes
+structured_data: it is of Shopify's themes; let the data bring the JSON
 weight_with_unit: it is of Shopify's themes; write the unit after the number
 camelize: it is of Shopify's themes
 camelcase: it is of Shopify's themes
@@ -225,6 +225,10 @@ remove_last: `remove_first` removes the first one, and `remove` all
 replace_last: `replace_first` replaces the first one, and `replace` all
 raw: nothing is escaped by itself, so leave `| raw` out
 safe: nothing is escaped by itself, so leave `| safe` out
+safeHTML: nothing is escaped by itself, so leave `| safeHTML` out
+safeURL: nothing is escaped by itself, so leave `| safeURL` out
+safeJS: nothing is escaped by itself, so leave `| safeJS` out
+safeCSS: nothing is escaped by itself, so leave `| safeCSS` out
 html_safe: nothing is escaped by itself, so leave `| html_safe` out
 unescape: nothing is escaped by itself; let the data bring the plain text
 format: `append` and `prepend` join texts, and `date: '%d %b %Y'` shows a date

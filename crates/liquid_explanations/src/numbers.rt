@@ -21,10 +21,13 @@ pub(crate) fn no_whole<'s>(
             ..Phrasing::quoting(from, words, number, before)
         };
     };
-    let words = if unit == 1 {
-        "`…` has a fraction, and templates have whole numbers alone; write `¹`"
-    } else {
-        words_of_fraction(piece)
+    let words = match (unit, last_filter(piece)) {
+        (1, Some("divided_by")) => {
+            "`…` has a fraction, and templates have whole numbers alone; write `¹`, which drops \
+            the rest, and `modulo: ¹` for that"
+        }
+        (1, _) => "`…` has a fraction, and templates have whole numbers alone; write `¹`",
+        _ => words_of_fraction(piece),
     };
     Phrasing {
         third: number,

@@ -37,7 +37,18 @@ pub struct Outline<'s> {
     pub from: &'s str,
 }
 
-impl Outline<'_> {
+impl<'s> Outline<'s> {
+    /// Opens the block that a tag of this name begins.
+    fn begin(&mut self, block: Block, name: &'s str, from: &'s str) -> Result<(), AllocError> {
+        self.open.push(Opener {
+            block,
+            name,
+            from,
+            otherwise: None,
+        })?;
+        Ok(())
+    }
+
     /// Where the next piece stands.
     fn context(&self) -> BlockContext {
         match self.open.last() {
@@ -51,7 +62,7 @@ impl Outline<'_> {
 /// Whether the body that is read is the last that the block can have.
 fn is_last(opener: &Opener<'_>) -> bool {
     match opener.block {
-        Block::Capture | Block::IfChanged | Block::TableRow => true,
+        Block::Capture | Block::IfChanged | Block::TableRow | Block::Host(_) => true,
         Block::If | Block::Unless | Block::Case | Block::For => opener.otherwise.is_some(),
     }
 }
@@ -129,14 +140,10 @@ fn enter<'s>(
     match role_of(language, outline.context(), name) {
         Some(Role::Block(kind)) => {
             if let Some(block) = block_of(kind) {
-                outline.open.push(Opener {
-                    block,
-                    name: *name,
-                    from,
-                    otherwise: None,
-                })?;
+                outline.begin(block, name, from)?;
             }
         }
+        Some(Role::HostBlock(number)) => outline.begin(Block::Host(number), name, from)?,
         Some(Role::End) => {
             outline.open.pop();
         }

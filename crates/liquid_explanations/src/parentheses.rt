@@ -108,11 +108,20 @@ fn called_step<'s>(
     opening: &'s str,
 ) -> Phrasing<'s> {
     if language.filters.get(step).is_some() {
-        let words = "a filter follows a `|`: write `… | …`";
+        let words = if opening.starts_with("()") {
+            "a filter follows a `|`: write `… | …`"
+        } else {
+            "a filter follows a `|`, and its arguments a `:`: write `… | …: ..`"
+        };
         return Phrasing::quoting(opening, words, front, step);
     }
     if let Some(filter) = meant_here(&language.filters, step) {
-        return Phrasing::quoting(opening, "write `… | ¤`", front, filter);
+        let words = if opening.starts_with("()") {
+            "write `… | ¤`"
+        } else {
+            "write `… | ¤: ..`"
+        };
+        return Phrasing::quoting(opening, words, front, filter);
     }
     match step {
         "get" => {
@@ -142,6 +151,9 @@ fn no_range(site: &ErrorSite<'_>) -> Option<&'static str> {
         }
         PieceContext::Loop if site.count == 0 => {
             Some("a loop has one name and no parentheses around it, as `{% for i in list %}`")
+        }
+        PieceContext::Loop if site.rest.starts_with("reversed") => {
+            Some("`reversed` stands after the range, as `(1..5) reversed`")
         }
         PieceContext::Loop => Some("a range has two ends and two dots between them, as `(1..5)`"),
         _ if site.rest.starts_with("}}") => None,

@@ -1,3 +1,4 @@
+pub mod Buffering
 pub mod Entries
 pub mod Faults
 pub mod FileNames

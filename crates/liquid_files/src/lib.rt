@@ -2,6 +2,7 @@
 //! that files have as partials, and what is printed of a file and of the line that a fault is in.
 #![tactic(auto)]
 
+mod buffered;
 mod disk;
 mod entry;
 mod excerpt;
@@ -23,6 +24,7 @@ mod shown_path;
 mod system;
 mod unreadable;
 
+pub use buffered::Buffered;
 pub use disk::{Disk, DiskFault, Protected};
 pub use entry::{
     Entry, Target, Way, entry_at, folder_entry, has_byte_zero, is_hidden_name, lies_in,

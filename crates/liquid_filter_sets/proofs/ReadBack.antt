@@ -9,7 +9,7 @@ use Rattle.std.specs.Prelude.{IsTrue, ℤ}
 use Rattle.json.specs.Token.{Token}
 use Rattle.json.specs.Lex.{tokens}
 use Rattle.json.specs.Json as grammar
-use Rattle.json.specs.Print.{print, IsNumber}
+use Rattle.json.specs.Print.{print, ArePrintable, IsNumber}
 use lib.Signed.{mag}
 use Rattle.json.specs.Tree as tree
 use Rattle.json.proofs.Nesting.{value-depth}
@@ -27,8 +27,10 @@ use Rattle.liquid_model.specs.Fallible.{◌>>=◌}
 use Rattle.liquid_model.specs.Texts.{Text}
 use Rattle.liquid_model.specs.Whole.{fits}
 use Rattle.liquid_json.specs.Json as reader
-use Rattle.liquid_json.specs.JsonTexts.{json_text}
-use Rattle.liquid_filter_sets.specs.ReadBack.{IsWellFormed, AreWellFormedItems, HasWellFormedValues, datum_depth, items_depth, pairs_depth, pair_names, value_read, JsonifyIsReadBack, DataAreReadBack, DeeperIsRefused}
+use Rattle.liquid_json.specs.JsonTexts.{json_text, json_tokens, items_tokens, pairs_tokens}
+use Rattle.liquid_json.specs.ScriptTexts.{script_json}
+use Rattle.liquid_json.proofs.ScriptTokens.{AreSpared, are_spared-append, script_tokens, spared_number}
+use Rattle.liquid_filter_sets.specs.ReadBack.{IsWellFormed, AreWellFormedItems, HasWellFormedValues, datum_depth, items_depth, pairs_depth, pair_names, value_read, json_read_back, JsonifyIsReadBack, DataAreReadBack, DeeperIsRefused}
 use Rattle.liquid_filter_sets.proofs.JsonData.{data_of, items_of, members_of, value_tokens}
 
 -- ---- numbers
@@ -72,6 +74,33 @@ tokens_back : (d : Datum) → IsWellFormed d → tokens (json_text d) ≡ tree.j
 tokens_back d h =
     ap (λ ts. tokens (print ts)) (value_tokens d)
     ∙ tokens-print (tree.json_tokens (outline (data_of d))) (ArePrintable-json_tokens (outline (data_of d)) (have_numbers d h))
+
+-- no number has a mark
+mutual
+  spared : (d : Datum) → IsWellFormed d → AreSpared (json_tokens d)
+  spared nil h = (tt, tt)
+  spared (truth b) h = (tt, tt)
+  spared (number z) h = (spared_number z (within z h), tt)
+  spared (text s) h = (tt, tt)
+  spared (array ds) h = (tt, spared_items ds h)
+  spared (object ms) h = (tt, spared_pairs ms h.1)
+
+  spared_items : (ds : Items) → AreWellFormedItems ds → AreSpared (items_tokens ds)
+  spared_items no_items h = (tt, tt)
+  spared_items (item d ds) h = are_spared-append (json_tokens d) (items_tokens ds) (spared d h.0) (spared_items ds h.1)
+
+  spared_pairs : (ms : Pairs) → HasWellFormedValues ms → AreSpared (pairs_tokens ms)
+  spared_pairs no_pairs h = (tt, tt)
+  spared_pairs (pair k d ms) h =
+      (tt, are_spared-append (json_tokens d) (pairs_tokens ms) (spared d h.0) (spared_pairs ms h.1))
+
+printable : (d : Datum) → IsWellFormed d → ArePrintable (json_tokens d)
+printable d h =
+    subst ArePrintable (sym (value_tokens d)) (ArePrintable-json_tokens (outline (data_of d)) (have_numbers d h))
+
+-- the text for scripts has the tokens of the other
+for_scripts : (d : Datum) → IsWellFormed d → tokens (script_json d) ≡ tokens (json_text d)
+for_scripts d h = script_tokens (json_tokens d) (printable d h) (spared d h)
 
 mutual
   same_depth : (d : Datum) → tree.depth (outline (data_of d)) ≡ datum_depth d
@@ -178,11 +207,18 @@ text_read d h shallow =
     ap whole (ap (grammar.value max_depth) (tokens_back d h ∙ sym (append-nil _)) ∙ value-json_tokens (outline (data_of d)) max_depth [] (omega (arith, same_depth d)))
     ∙ read_json d h
 
+-- both texts are read alike
+alike : (d : Datum) → IsWellFormed d → read (script_json d) ≡ read (json_text d)
+alike d h = ap (λ ts. whole (grammar.value max_depth ts)) (for_scripts d h)
+
 pub read_back_law : JsonifyIsReadBack
-read_back_law d h shallow = ap value_read (text_read d h shallow) ∙ data_back d h
+read_back_law d h shallow = ap value_read (alike d h ∙ text_read d h shallow) ∙ data_back d h
+
+pub json_law : (d : Datum) → IsWellFormed d → datum_depth d ≤ max_depth → json_read_back d ≡ Ok d
+json_law d h shallow = ap value_read (text_read d h shallow) ∙ data_back d h
 
 pub data_law : DataAreReadBack
-data_law ms h shallow = ap reader.object_read (text_read (object ms) h shallow) ∙ pairs_back ms h.1
+data_law ms h shallow = ap reader.object_read (alike (object ms) h ∙ text_read (object ms) h shallow) ∙ pairs_back ms h.1
 
 -- two values with the same tokens are one
 one_value : (i j : grammar.Json) → tree.json_tokens i ≡ tree.json_tokens j → i ≡ j
@@ -208,4 +244,4 @@ too_deep j h (Some (i, [])) e =
 pub deeper_law : DeeperIsRefused
 deeper_law d h deep =
     let j = outline (data_of d) in
-    ap value_read (ap (λ ts. whole (grammar.value max_depth ts)) (tokens_back d h) ∙ too_deep j (omega (arith, same_depth d)) _ refl)
+    ap value_read (alike d h ∙ ap (λ ts. whole (grammar.value max_depth ts)) (tokens_back d h) ∙ too_deep j (omega (arith, same_depth d)) _ refl)

@@ -1,11 +1,13 @@
 -- The languages of the sets: which tag, block and filter stands under which name.
-use Rattle.std.specs.Prelude.{◌≡◌, List, [], ◌∷◌, codes, false, true}
+use Rattle.std.specs.Prelude.{◌≡◌, ℕ, List, [], ◌∷◌, Some, codes, false, true}
 use Rattle.liquid_model.specs.Maps.{Map, insert, listed}
 use Rattle.liquid_core.specs.Environment.{bind_each}
 use Rattle.liquid_filters.specs.declared.kind.FilterKind.TheVariants.{JekyllSort}
-use Rattle.liquid_language.specs.HostTags.{numbers_of}
+use Rattle.liquid_language.specs.HostTags.{block_at, end_in, numbers_of}
 use Rattle.liquid_language.specs.Languages.{kinds_of}
 use Rattle.liquid_language.specs.Registered.{registered_in}
+use Rattle.liquid_lexer.specs.declared.style.Style.TheVariants as styles
+use Rattle.liquid_language.specs.declared.host_tags.HostKind.TheVariants as kinds
 use Rattle.liquid_language.specs.declared.registry.Language.{Language}
 use Rattle.liquid_language.specs.declared.registry.TagKind.TheVariants.{JekyllInclude}
 use Rattle.liquid_language.specs.declared.registered_filter.RegisteredFilter.{RegisteredFilter}
@@ -36,14 +38,25 @@ abbrev pub jekyll_filters : List JekyllFilter
 jekyll_filters =
     j.RelativeUrl ∷ j.AbsoluteUrl ∷ j.DateToString ∷ j.DateToLongString ∷ j.DateToXmlschema ∷
     j.DateToRfc822 ∷ j.XmlEscape ∷ j.CgiEscape ∷ j.UriEscape ∷ j.Jsonify ∷ j.NormalizeWhitespace ∷
-    j.NumberOfWords ∷ j.ToInteger ∷ j.ArrayToSentenceString ∷ j.GroupBy ∷ j.Where ∷ j.Find ∷ []
+    j.NumberOfWords ∷ j.ToInteger ∷ j.ArrayToSentenceString ∷ j.GroupBy ∷ j.Where ∷ j.Find ∷
+    j.Highlight ∷ []
 
 abbrev pub with_jekyll_filters : Map RegisteredFilter → Map RegisteredFilter
 with_jekyll_filters m = insert (with_sites m jekyll_filters) (codes "where_exp") (Host 2 2)
 
--- the standard language with Jekyll's `include`, which takes a path, and `sort`, and the names of
--- Jekyll's filters of a host, without the white space of blocks that write nothing; and no tags of
--- a host
+-- the one name of the host is that of a block, `highlight`: its markup is one text, and the filter
+-- of its name is called with it on the body's text
+pub record HasHighlight (l : Language) : Type 0 where
+  pub number : ℕ
+  pub name : listed (numbers_of l.host_tags) ≡
+      insert (listed []) (codes "highlight") (kinds.Block number)
+  pub block : block_at l number ≡
+      Some (record { filter = codes "highlight"; style = styles.Text })
+  pub end : end_in l.host_tags number ≡ codes "endhighlight"
+
+-- the standard language with Jekyll's `include`, which takes a path, `sort` and the block
+-- `highlight`, and the names of Jekyll's filters of a host, without the white space of blocks that
+-- write nothing
 pub record IsJekyll (l : Language) : Type 0 where
   pub tags : listed (kinds_of l.tags) ≡
       insert (bind_each standard_tags (listed [])) (codes "include") JekyllInclude
@@ -53,7 +66,7 @@ pub record IsJekyll (l : Language) : Type 0 where
       (Kind JekyllSort))
   pub include_paths : l.include_paths ≡ true
   pub drops_blanks : l.drops_blanks ≡ true
-  pub host_tags : numbers_of l.host_tags ≡ []
+  pub highlight : HasHighlight l
 
 -- ---- Shopify's
 

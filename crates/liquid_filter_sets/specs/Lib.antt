@@ -4,6 +4,7 @@ pub mod Laws
 pub mod MoneyFormats
 pub mod ReadBack
 pub mod Selections
+pub mod SettingUses
 pub mod Settings
 pub mod Truths
 pub mod Views

@@ -15,6 +15,7 @@ use Rattle.liquid_model.specs.declared.error.ErrorKind.TheVariants.{InvalidInput
 use Rattle.liquid_model.specs.Arguments.{Answer}
 use Rattle.liquid_json.specs.Json.{data_of, datum_of}
 use Rattle.liquid_json.specs.JsonTexts.{json_text}
+use Rattle.liquid_json.specs.ScriptTexts.{script_json}
 use Rattle.liquid_jekyll_host_filters.specs.Json.{jsonify_answer}
 
 -- the value that a text of JSON is
@@ -29,6 +30,10 @@ read_as_json d = value_read (read (text_of d))
 -- what `jsonify` writes of a value, read as JSON
 abbrev pub read_back : Datum → Answer
 read_back d = jsonify_answer d [] >>= read_as_json
+
+-- a value's JSON without the escapes for scripts, read as JSON
+abbrev pub json_read_back : Datum → Answer
+json_read_back d = value_read (read (json_text d))
 
 -- how deep lists and maps nest
 abbrev mutual
@@ -80,7 +85,7 @@ JsonifyIsReadBack = (d : Datum) → IsWellFormed d → datum_depth d ≤ max_dep
 -- of a map it is the text of data that are the map
 abbrev pub DataAreReadBack : Type 0
 DataAreReadBack = (ms : Pairs) → IsWellFormed (object ms) → datum_depth (object ms) ≤ max_depth →
-    data_of (json_text (object ms)) ≡ Ok ms
+    data_of (script_json (object ms)) ≡ Ok ms
 
 -- what nests deeper is refused
 abbrev pub DeeperIsRefused : Type 0

@@ -5,18 +5,19 @@ ghost use Rattle.liquid_model.specs.declared.error.ErrorKind.TheVariants.{Invali
 ghost use Rattle.liquid_filter_sets.specs.ReadBack.{AreWellFormedItems, IsWellFormed, datum_depth};
 ghost use Rattle.liquid_filter_sets.specs.ReadBack.{HasAscendingKeys};
 ghost use Rattle.liquid_filter_sets.specs.ReadBack.{HasWellFormedValues, items_depth, pairs_depth};
-ghost use Rattle.liquid_filter_sets.specs.ReadBack.{read_back};
+ghost use Rattle.liquid_filter_sets.specs.ReadBack.{json_read_back, read_back};
 
 use liquid_core::{Object, Value};
 
 /// How deep lists and maps may stand in one another where data are read from JSON.
 const MAX_DEPTH: usize = 127;
 
-/// Whether what `jsonify` and `json` write of the value is read as the value again. It is unless
-/// lists and maps stand more than 127 deep in one another; then the text is refused, as any JSON
-/// that nests so deep.
+/// Whether what `jsonify`, `json` and `json_of` write of the value is read as the value again. It
+/// is unless lists and maps stand more than 127 deep in one another; then the text is refused, as
+/// any JSON that nests so deep.
 pub fn is_read_back(value: &Value) -> bool
     ensures read { result ≡ true → read_back (view value.now) ≡ Ok (view value.now) }
+    ensures json { result ≡ true → json_read_back (view value.now) ≡ Ok (view value.now) }
     ensures refused { result ≡ false → read_back (view value.now) ≡ Err InvalidInput }
 {
     nests_within(value, MAX_DEPTH)

@@ -9,6 +9,7 @@ mod languages;
 pub mod laws;
 mod member;
 mod money;
+mod setting_uses;
 mod shop;
 mod site;
 mod truth;
@@ -20,6 +21,7 @@ pub use languages::{
     register_shopify_filters, shopify_language,
 };
 pub use money::money_format;
+pub use setting_uses::{shop_uses, site_uses};
 pub use shop::shop_of;
 pub use site::SiteSettings;
 pub use where_exp::WhereExp;

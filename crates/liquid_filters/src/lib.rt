@@ -20,4 +20,6 @@ pub use kind::FilterKind;
 pub use laws::{answer_law, join_gives_back};
 pub use read::read_date;
 pub use stdlib::filters::array::sequence::{all_maps, property, sequence};
+pub use stdlib::filters::html::escape::escaped;
 pub use stdlib::filters::math::decimal::Decimal as DecimalText;
+pub use stdlib::filters::string::operate::replaced;

@@ -16,7 +16,7 @@ true_not_false : (t : Bool) → t ≡ true → t ≡ false → ⊥
 true_not_false true h k = cc
 true_not_false false h k = cc
 
-boundary : (bs : List ℕ) (n : ℕ) → IsUtf8 bs → n ≤ length bs → ((k : ℕ) → k < n → get_or bs k 0 < 128) → IsCharBoundary bs n
+pub boundary : (bs : List ℕ) (n : ℕ) → IsUtf8 bs → n ≤ length bs → ((k : ℕ) → k < n → get_or bs k 0 < 128) → IsCharBoundary bs n
 boundary bs zero u l h = IsCharBoundary-start bs u
 boundary bs (suc n) u l h = let e : n + 1 ≡ suc n = omega arith in subst (IsCharBoundary bs) e (IsCharBoundary-after_ascii bs n u (omega (arith, l)) (h n (omega arith)))
 

@@ -4,7 +4,9 @@ pub mod GroupedItems
 pub mod MarkedTexts
 pub mod NamePaths
 pub mod Sentences
+pub mod HighlightedCode
 pub mod SplitWords
+pub mod StrippedEnds
 pub mod UrlTexts
 pub mod UrlsAgain
 pub mod WordLaws

@@ -1,6 +1,7 @@
 pub mod Dates
 pub mod Escapes
 pub mod Groups
+pub mod Highlight
 pub mod Json
 pub mod Laws
 pub mod Numbers

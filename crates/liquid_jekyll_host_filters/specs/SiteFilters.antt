@@ -9,6 +9,7 @@ use Rattle.liquid_jekyll_host_filters.specs.Dates.{date_to_rfc822_answer, date_t
 use Rattle.liquid_jekyll_host_filters.specs.Dates.{date_to_xmlschema_answer}
 use Rattle.liquid_jekyll_host_filters.specs.Escapes.{xml_escape_answer}
 use Rattle.liquid_jekyll_host_filters.specs.Groups.{group_by_answer}
+use Rattle.liquid_jekyll_host_filters.specs.Highlight.{jekyll_highlight_answer}
 use Rattle.liquid_jekyll_host_filters.specs.Json.{jsonify_answer}
 use Rattle.liquid_jekyll_host_filters.specs.Numbers.{to_integer_answer}
 use Rattle.liquid_jekyll_host_filters.specs.Searches.{find_answer, jekyll_where_answer}
@@ -35,6 +36,7 @@ use Rattle.liquid_jekyll_host_filters.specs.declared.site_filter.JekyllFilter.Th
 use Rattle.liquid_jekyll_host_filters.specs.declared.site_filter.JekyllFilter.TheVariants.{GroupBy}
 use Rattle.liquid_jekyll_host_filters.specs.declared.site_filter.JekyllFilter.TheVariants.{Where}
 use Rattle.liquid_jekyll_host_filters.specs.declared.site_filter.JekyllFilter.TheVariants.{Find}
+use Rattle.liquid_jekyll_host_filters.specs.declared.site_filter.JekyllFilter as jekyll
 
 abbrev pub filter_name : JekyllFilter → List ℕ
 filter_name RelativeUrl = codes "relative_url"
@@ -54,12 +56,14 @@ filter_name ArrayToSentenceString = codes "array_to_sentence_string"
 filter_name GroupBy = codes "group_by"
 filter_name Where = codes "where"
 filter_name Find = codes "find"
+filter_name jekyll.TheVariants.Highlight = codes "highlight"
 
 -- the least and the greatest number of arguments; each number between is taken
 abbrev pub filter_least : JekyllFilter → ℕ
 filter_least GroupBy = 1
 filter_least Where = 2
 filter_least Find = 2
+filter_least jekyll.TheVariants.Highlight = 1
 filter_least f = 0
 
 abbrev pub filter_most : JekyllFilter → ℕ
@@ -69,6 +73,7 @@ filter_most ArrayToSentenceString = 1
 filter_most GroupBy = 1
 filter_most Where = 2
 filter_most Find = 2
+filter_most jekyll.TheVariants.Highlight = 1
 filter_most f = 0
 
 abbrev pub filter_counts : JekyllFilter → ℕ → Bool
@@ -78,6 +83,7 @@ filter_counts ArrayToSentenceString n = nat_le n 1
 filter_counts GroupBy n = nat_eq n 1
 filter_counts Where n = nat_eq n 2
 filter_counts Find n = nat_eq n 2
+filter_counts jekyll.TheVariants.Highlight n = nat_eq n 1
 filter_counts f n = nat_eq n 0
 
 abbrev pub filter_answer : JekyllFilter → Text → Text → Datum → List Datum → Answer
@@ -98,3 +104,4 @@ filter_answer ArrayToSentenceString address base = jekyll_sentence_answer
 filter_answer GroupBy address base = group_by_answer
 filter_answer Where address base = jekyll_where_answer
 filter_answer Find address base = find_answer
+filter_answer jekyll.TheVariants.Highlight address base = jekyll_highlight_answer

@@ -2,11 +2,12 @@
 ghost use Rattle.std.specs.Prelude.{nat_eq};
 ghost use Rattle.liquid_jekyll_host_filters.specs.Json.{jsonify_answer};
 
-use liquid_json::json_of;
+use liquid_json::json_for_scripts;
 use liquid_model::{Filter, Result, Value};
 use std::alloc::Global;
 
-/// `jsonify`: the input as JSON without spaces, the keys of a map in the order of their bytes.
+/// `jsonify`: the input as JSON without spaces, the keys of a map in the order of their bytes, with
+/// `\u003c`, `\u003e` and `\u0026` for `<`, `>` and `&`, so that it can stand in a `<script>`.
 #[derive(Clone, Copy, Drop)]
 pub struct Jsonify;
 
@@ -20,6 +21,6 @@ impl Filter for Jsonify {
     }
 
     fn evaluate(&self, alloc: Global, input: &Value, _args: &[Value]) -> Result<Value> {
-        Ok(Value::Text(json_of(alloc, input)?))
+        Ok(Value::Text(json_for_scripts(alloc, input)?))
     }
 }

@@ -4,6 +4,8 @@
 mod dates;
 mod escapes;
 mod groups;
+mod highlight;
+mod highlight_markup;
 mod json;
 pub mod laws;
 mod numbers;
@@ -18,6 +20,7 @@ mod words;
 
 pub use dates::{DateToLongString, DateToRfc822, DateToString, DateToXmlschema};
 pub use groups::GroupBy;
+pub use highlight::Highlight;
 pub use json::Jsonify;
 pub use numbers::ToInteger;
 pub use searches::{Find, Where};

@@ -8,6 +8,7 @@ ghost use Rattle.liquid_jekyll_host_filters.specs.SiteFilters.{filter_name};
 
 use crate::dates::{DateToLongString, DateToRfc822, DateToString, DateToXmlschema};
 use crate::groups::GroupBy;
+use crate::highlight::Highlight;
 use crate::json::Jsonify;
 use crate::numbers::ToInteger;
 use crate::searches::{Find, Where};
@@ -38,10 +39,11 @@ pub enum JekyllFilter {
     GroupBy,
     Where,
     Find,
+    Highlight,
 }
 
 /// Each of them.
-pub const JEKYLL_FILTERS: [JekyllFilter; 17] = [
+pub const JEKYLL_FILTERS: [JekyllFilter; 18] = [
     JekyllFilter::RelativeUrl,
     JekyllFilter::AbsoluteUrl,
     JekyllFilter::DateToString,
@@ -59,6 +61,7 @@ pub const JEKYLL_FILTERS: [JekyllFilter; 17] = [
     JekyllFilter::GroupBy,
     JekyllFilter::Where,
     JekyllFilter::Find,
+    JekyllFilter::Highlight,
 ];
 
 impl JekyllFilter {
@@ -84,6 +87,7 @@ impl JekyllFilter {
             JekyllFilter::GroupBy => "group_by",
             JekyllFilter::Where => "where",
             JekyllFilter::Find => "find",
+            JekyllFilter::Highlight => "highlight",
         }
     }
 
@@ -93,7 +97,7 @@ impl JekyllFilter {
     {
         match self {
             JekyllFilter::Where | JekyllFilter::Find => 2,
-            JekyllFilter::GroupBy => 1,
+            JekyllFilter::GroupBy | JekyllFilter::Highlight => 1,
             _ => 0,
         }
     }
@@ -105,7 +109,8 @@ impl JekyllFilter {
         match self {
             JekyllFilter::Where | JekyllFilter::Find => 2,
             JekyllFilter::DateToString | JekyllFilter::DateToLongString => 2,
-            JekyllFilter::GroupBy | JekyllFilter::ArrayToSentenceString => 1,
+            JekyllFilter::GroupBy | JekyllFilter::Highlight => 1,
+            JekyllFilter::ArrayToSentenceString => 1,
             _ => 0,
         }
     }
@@ -149,7 +154,7 @@ impl Filter for SiteFilter {
         match self.filter {
             JekyllFilter::DateToString | JekyllFilter::DateToLongString => count <= 2,
             JekyllFilter::ArrayToSentenceString => count <= 1,
-            JekyllFilter::GroupBy => count == 1,
+            JekyllFilter::GroupBy | JekyllFilter::Highlight => count == 1,
             JekyllFilter::Where | JekyllFilter::Find => count == 2,
             _ => count == 0,
         }
@@ -181,6 +186,7 @@ impl Filter for SiteFilter {
             JekyllFilter::GroupBy => GroupBy.evaluate(alloc, input, args),
             JekyllFilter::Where => Where.evaluate(alloc, input, args),
             JekyllFilter::Find => Find.evaluate(alloc, input, args),
+            JekyllFilter::Highlight => Highlight.evaluate(alloc, input, args),
         }
     }
 }

@@ -1,4 +1,5 @@
 pub mod After
+mod AnyNumbers
 mod Appended
 pub mod Ascending
 mod FirstItems
@@ -8,6 +9,9 @@ mod NoMembers
 pub mod Plain
 mod PlainCopies
 mod PlainUses
+mod Readers
 pub mod ScalarTokens
+mod ScriptMarks
+pub mod ScriptTokens
 pub mod Turns
 pub mod Under

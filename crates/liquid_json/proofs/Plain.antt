@@ -13,6 +13,7 @@ use Rattle.serde_json.specs.Find.{as_i64}
 use Rattle.serde_json.specs.Read.{of_json, of_items, of_members, number_of, converted}
 use Rattle.liquid_json.specs.Json.{whole_number, datum_of, parsed_items, parsed_pairs, parsed_object, object_read}
 use Rattle.liquid_json.specs.inside.Tokens as plain
+use Rattle.liquid_json.specs.declared.tokens.Numbers.TheVariants.{Integers}
 use Rattle.liquid_json.proofs.Turns.{converted_some}
 
 -- ---- a member put in
@@ -66,33 +67,33 @@ number_stands None = tt
 number_stands (Some n) = integer_stands n (as_i64 n) refl
 
 mutual
-  datum_stands : (j : json.Json) → IfSome (plain.datum_of j) (Stands (of_json j))
+  datum_stands : (j : json.Json) → IfSome (plain.datum_of Integers j) (Stands (of_json j))
   datum_stands json.null = (tree.null, refl, refl)
   datum_stands (json.boolean b) = (tree.boolean b, refl, refl)
   datum_stands (json.number s) = number_stands (number_of s)
   datum_stands (json.string s) = (tree.string s, refl, refl)
   datum_stands (json.array js) =
-      if_map (ItemsStand (of_items js)) (Stands (of_json (json.array js))) array (plain.token_items js) (items_stand js) (λ es h. (tree.array h.0, ap (option_map tree.array) h.1, ap (λ r. r >>= λ es. Ok (array es)) h.2))
+      if_map (ItemsStand (of_items js)) (Stands (of_json (json.array js))) array (plain.token_items Integers js) (items_stand js) (λ es h. (tree.array h.0, ap (option_map tree.array) h.1, ap (λ r. r >>= λ es. Ok (array es)) h.2))
   datum_stands (json.object ms) =
-      if_map (PairsStand (of_members ms tree.no_members)) (Stands (of_json (json.object ms))) object (plain.token_pairs ms no_pairs) (pairs_stand ms tree.no_members no_pairs refl)
+      if_map (PairsStand (of_members ms tree.no_members)) (Stands (of_json (json.object ms))) object (plain.token_pairs Integers ms no_pairs) (pairs_stand ms tree.no_members no_pairs refl)
       (λ ps h. (tree.object h.0, ap (option_map tree.object) h.1, ap (λ r. r >>= λ ps. Ok (object ps)) h.2))
 
-  items_stand : (js : json.Items) → IfSome (plain.token_items js) (ItemsStand (of_items js))
+  items_stand : (js : json.Items) → IfSome (plain.token_items Integers js) (ItemsStand (of_items js))
   items_stand json.no_items = (tree.no_items, refl, refl)
   items_stand (json.item j js) =
-      if_then (Stands (of_json j)) (ItemsStand (of_items (json.item j js))) (λ e. option_map (item e) (plain.token_items js)) (plain.datum_of j) (datum_stands j)
-      (λ e h. if_map (ItemsStand (of_items js)) (ItemsStand (of_items (json.item j js))) (item e) (plain.token_items js) (items_stand js) (λ es g. (tree.item h.0 g.0, rw (h.1, g.1), rw (h.2, g.2))))
+      if_then (Stands (of_json j)) (ItemsStand (of_items (json.item j js))) (λ e. option_map (item e) (plain.token_items Integers js)) (plain.datum_of Integers j) (datum_stands j)
+      (λ e h. if_map (ItemsStand (of_items js)) (ItemsStand (of_items (json.item j js))) (item e) (plain.token_items Integers js) (items_stand js) (λ es g. (tree.item h.0 g.0, rw (h.1, g.1), rw (h.2, g.2))))
 
-  pairs_stand : (ms : json.Members) (found : tree.Members) (ps : Pairs) → parsed_pairs found ≡ Ok ps → IfSome (plain.token_pairs ms ps) (PairsStand (of_members ms found))
+  pairs_stand : (ms : json.Members) (found : tree.Members) (ps : Pairs) → parsed_pairs found ≡ Ok ps → IfSome (plain.token_pairs Integers ms ps) (PairsStand (of_members ms found))
   pairs_stand json.no_members found ps is = (found, refl, is)
   pairs_stand (json.member k j ms) found ps is =
-      if_then (Stands (of_json j)) (PairsStand (of_members (json.member k j ms) found)) (λ e. plain.token_pairs ms (put k e ps)) (plain.datum_of j) (datum_stands j)
-      (λ e h. subst (λ o. IfSome (plain.token_pairs ms (put k e ps)) (PairsStand o)) (ap (option_and_then (λ d. of_members ms (tree.put k d found))) (sym h.1))
+      if_then (Stands (of_json j)) (PairsStand (of_members (json.member k j ms) found)) (λ e. plain.token_pairs Integers ms (put k e ps)) (plain.datum_of Integers j) (datum_stands j)
+      (λ e h. subst (λ o. IfSome (plain.token_pairs Integers ms (put k e ps)) (PairsStand o)) (ap (option_and_then (λ d. of_members ms (tree.put k d found))) (sym h.1))
       (pairs_stand ms (tree.put k h.0 found) (put k e ps) (pairs_put k h.0 e found ps h.2 is)))
 
 -- ---- the whole text
 
-stands_where : (j : json.Json) (e : Datum) → plain.datum_of j ≡ Some e → Stands (of_json j) e
+stands_where : (j : json.Json) (e : Datum) → plain.datum_of Integers j ≡ Some e → Stands (of_json j) e
 stands_where j e is = subst (λ o. IfSome o (Stands (of_json j))) is (datum_stands j)
 
 abbrev pairs_within : Pairs → Datum → Pairs
@@ -128,9 +129,9 @@ abbrev pub whole : Option (json.Json × List Token) → Option tree.Data
 whole o = option_and_then of_json (option_and_then (λ p. json.if_last p.0 p.1) o)
 
 -- the value that takes all tokens is the data of the tree
-pub whole_plain : (o : Option (json.Json × List Token)) (ps : Pairs) → converted plain.datum_of o ≡ Some (object ps, []) → object_read (whole o) ≡ Ok ps
+pub whole_plain : (o : Option (json.Json × List Token)) (ps : Pairs) → converted (plain.datum_of Integers) o ≡ Some (object ps, []) → object_read (whole o) ≡ Ok ps
 whole_plain o ps is =
-    let j = converted_some plain.datum_of o (object ps) [] is in
+    let j = converted_some (plain.datum_of Integers) o (object ps) [] is in
     let d = stands_where j.0 (object ps) j.2 in
     let seen : parsed_object d.0 ≡ Ok ps = of_object d.0 ps d.2 in
     ap (λ p. object_read (whole p)) j.1 ∙ ap object_read d.1 ∙ seen

@@ -1,7 +1,7 @@
 -- The data that a text of JSON gives.
 --     data_of source      the data of an object
 --     value_in source      the data of any value
-use Rattle.std.specs.Prelude.{ℕ, ℤ, List, Option, Some, None, Result, Ok, Err}
+use Rattle.std.specs.Prelude.{ℕ, ℤ, List, Option, Some, None, option_and_then, Result, Ok, Err}
 use Rattle.liquid_model.specs.Fallible.{◌>>=◌}
 use Rattle.liquid_model.specs.Data.{Datum, nil, truth, number, text, array, object, Items, no_items}
 use Rattle.liquid_model.specs.Data.{item, Pairs, no_pairs, pair}
@@ -9,7 +9,11 @@ use Rattle.liquid_model.specs.declared.error.ErrorKind.{ErrorKind}
 use Rattle.liquid_model.specs.declared.error.ErrorKind.TheVariants.{InvalidInput, Float}
 use Rattle.serde_json.specs.Data as json
 use Rattle.serde_json.specs.Find.{as_i64}
-use Rattle.serde_json.specs.Read.{read}
+use Rattle.serde_json.specs.Read.{number_of, read}
+
+-- the whole number of 64 bits that a number of JSON writes; `-0` is none
+abbrev pub integer_of_json_number : List ℕ → Option ℤ
+integer_of_json_number s = option_and_then as_i64 (number_of s)
 
 abbrev pub whole_number : Option ℤ → Result Datum ErrorKind
 whole_number (Some z) = Ok (number z)

@@ -1,8 +1,11 @@
+pub mod AnyNumbers
 pub mod Asked
 pub mod Json
 pub mod JsonTexts
 pub mod MapsAsked
 pub mod PlainUses
+pub mod Readers
 pub mod Schemas
+pub mod ScriptTexts
 pub mod Under
 pub mod inside

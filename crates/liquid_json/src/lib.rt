@@ -4,6 +4,7 @@
 
 mod copies;
 mod data;
+mod data_reader;
 mod flaw;
 mod grammar;
 mod json_text;
@@ -15,11 +16,16 @@ mod planned;
 mod quoted;
 mod scalars;
 mod schema;
+mod script_text;
 mod skip;
 mod tokens;
 mod whole;
 
 pub use data::{data_for, data_from_json, value_from_json};
+pub use data_reader::DataReader;
 pub use json_text::json_of;
 pub use named::map_for;
 pub use schema::schema_of;
+pub use script_text::json_for_scripts;
+pub use tokens::value_of_any_numbers;
+pub use whole::integer_of;

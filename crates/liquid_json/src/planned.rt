@@ -11,9 +11,10 @@ ghost use Rattle.liquid_json.specs.inside.Planned.{IsPlanned, IsReadData, PairsP
 ghost use Rattle.liquid_json.specs.inside.Planned.{AreFirstItems, ArePlanned};
 ghost use Rattle.liquid_json.specs.inside.Skipped.{IsItems, IsSkippedValue};
 ghost use Rattle.liquid_json.specs.inside.Tokens.{pairs_at};
+ghost use Rattle.liquid_json.specs.declared.tokens.Numbers.TheVariants.{Integers};
 
 use crate::skip::{skip_items, skipped};
-use crate::tokens::{MAX_DEPTH, NoData, put_member, read, read_pairs, scalar};
+use crate::tokens::{MAX_DEPTH, NoData, Numbers, put_member, read, read_pairs, scalar};
 use json::{Reader, Scratch, Token};
 use liquid_model::{ItemUse, Object, Use, Uses, Value};
 use std::alloc::{AllocError, Global};
@@ -129,10 +130,11 @@ fn without_items(alloc: Global, reader: &mut Reader<'_>, depth: usize) -> Result
 /// A map as a whole.
 fn whole_map(alloc: Global, reader: &mut Reader<'_>, depth: usize) -> Result<Value, NoData>
     ensures ok { IfOk result (λ v. parse_map object
-        (pairs_at depth no_pairs (length reader.old) reader.old) ≡ Some (view v, reader.new)) }
+        (pairs_at Integers depth no_pairs (length reader.old) reader.old) ≡
+        Some (view v, reader.new)) }
     ensures shorter { OnOk result (length reader.new < length reader.old) }
 {
-    Ok(Value::Object(read_pairs(alloc, reader, depth)?))
+    Ok(Value::Object(read_pairs(alloc, reader, depth, Numbers::Integers)?))
 }
 
 /// The value at the front of the tokens, as far as it is asked for.
@@ -150,7 +152,7 @@ fn read_planned(
 {
     match asked {
         Use::Nothing => unread(reader, depth),
-        Use::Everything => read(alloc, reader, depth),
+        Use::Everything => read(alloc, reader, depth, Numbers::Integers),
         Use::Parts { members, items } => read_parts(alloc, reader, depth, items, members),
     }
 }
@@ -192,7 +194,7 @@ fn read_parts(
                 Some(_asked) => whole_map(alloc, reader, depth - 1),
             }
         }
-        _ => scalar(alloc, token),
+        _ => scalar(alloc, token, Numbers::Integers),
     }
 }
 
@@ -288,7 +290,7 @@ fn read_item(
     ensures shorter { OnOk result (length reader.new < length reader.old) }
 {
     match extent {
-        Extent::Whole => read(alloc, reader, depth),
+        Extent::Whole => read(alloc, reader, depth, Numbers::Integers),
         Extent::Asked => read_planned(alloc, reader, depth, asked),
     }
 }

@@ -3,6 +3,7 @@ ghost use Rattle.std.specs.Prelude.{◌<◌, length, IfOk, IsSome, OnOk};
 ghost use Rattle.json.specs.Reads.{token_of};
 ghost use Rattle.liquid_json.specs.inside.Skipped.{IsSkippedValue, IsItems, IsPairs};
 ghost use Rattle.liquid_json.specs.inside.Tokens.{scalar_of};
+ghost use Rattle.liquid_json.specs.declared.tokens.Numbers.TheVariants.{Integers};
 
 use crate::whole::integer_of;
 use json::{Invalid, Reader, Token};
@@ -20,7 +21,7 @@ impl From<Invalid> for Refused {
 /// Refuses a token that isn't a value by itself, and a number that isn't whole.
 #[inline(always)]
 fn check_scalar(token: Token<'_>) -> Result<(), Refused>
-    ensures { OnOk result (IsSome (scalar_of (token_of token.entry))) }
+    ensures { OnOk result (IsSome (scalar_of Integers (token_of token.entry))) }
 {
     match token {
         Token::Number(text) => match integer_of(text) {

@@ -1,16 +1,16 @@
 //! The whole numbers of JSON.
-ghost use Rattle.std.specs.Prelude.{◌≡◌, ◌<◌, ◌==◌, length, slice_index, true, false, Some, IfSome};
+ghost use Rattle.std.specs.Prelude.{◌≡◌, ◌<◌, ◌==◌, length, slice_index, true, false};
 ghost use Rattle.std.specs.Prelude.{IsTrue, option_and_then};
 ghost use Rattle.serde_json.specs.Find.{as_i64};
 ghost use Rattle.serde_json.specs.Read.{number_from};
-ghost use Rattle.liquid_json.specs.inside.Tokens as spec;
+ghost use Rattle.liquid_json.specs.Json.{integer_of_json_number};
 
 use fast_float::Numeral;
 
 /// The whole number that a number of JSON writes, where it is one of 64 bits. `-0` is none.
 #[inline(always)]
 pub fn integer_of(text: &str) -> Option<i64>
-    ensures { IfSome result (λ z. spec.integer_of text.now ≡ Some z) }
+    ensures { result ≡ integer_of_json_number text.now }
 {
     let bytes = text.as_bytes();
     if has_minus(bytes) {
@@ -30,7 +30,7 @@ fn has_minus(bytes: &[u8]) -> bool
 
 #[inline(always)]
 fn from_zero(numeral: &Numeral<'_>) -> Option<i64>
-    ensures { IfSome result (λ z. option_and_then as_i64 (number_from false numeral.now) ≡ Some z) }
+    ensures { result ≡ option_and_then as_i64 (number_from false numeral.now) }
 {
     match numeral.to_u64() {
         Some(n) => if n <= i64::MAX as u64 {
@@ -44,7 +44,7 @@ fn from_zero(numeral: &Numeral<'_>) -> Option<i64>
 
 #[inline(always)]
 fn below_zero(numeral: &Numeral<'_>) -> Option<i64>
-    ensures { IfSome result (λ z. option_and_then as_i64 (number_from true numeral.now) ≡ Some z) }
+    ensures { result ≡ option_and_then as_i64 (number_from true numeral.now) }
 {
     match numeral.to_i64(true) {
         Some(n) => if n < 0 { Some(n) } else { None },

@@ -1,20 +1,29 @@
 -- The words that a block knows besides those that are registered.
-use Rattle.std.specs.Prelude.{codes, cond, bytes_eq, Option, Some, None}
+use Rattle.std.specs.Prelude.{[], codes, cond, bytes_eq, Option, Some, None}
 use Rattle.liquid_model.specs.Texts.{Text}
+use Rattle.liquid_language.specs.HostTags.{end_in}
 use Rattle.liquid_language.specs.declared.block.Block.{Block}
 use Rattle.liquid_language.specs.declared.block.Control.{Control}
 use Rattle.liquid_language.specs.declared.block.Control.TheVariants.{Elsif, Else, BareElse, When}
 use Rattle.liquid_language.specs.declared.block.Block.TheVariants.{If, Unless, Case, For, TableRow}
-use Rattle.liquid_language.specs.declared.block.Block.TheVariants.{Capture, IfChanged}
+use Rattle.liquid_language.specs.declared.block.Block.TheVariants.{Capture, IfChanged, Host}
+use Rattle.liquid_language.specs.declared.registry.Language.{Language}
 
-abbrev pub end_word : Block → Text
-end_word If = codes "endif"
-end_word Unless = codes "endunless"
-end_word Case = codes "endcase"
-end_word For = codes "endfor"
-end_word TableRow = codes "endtablerow"
-end_word Capture = codes "endcapture"
-end_word IfChanged = codes "endifchanged"
+-- the name of the tag that ends a block, of those that each language may have
+abbrev pub standard_end : Block → Text
+standard_end If = codes "endif"
+standard_end Unless = codes "endunless"
+standard_end Case = codes "endcase"
+standard_end For = codes "endfor"
+standard_end TableRow = codes "endtablerow"
+standard_end Capture = codes "endcapture"
+standard_end IfChanged = codes "endifchanged"
+standard_end (Host n) = []
+
+-- the name of the tag that ends a block
+abbrev pub end_word : Language → Block → Text
+end_word l (Host n) = end_in l.host_tags n
+end_word l b = standard_end b
 
 -- `else`, or nothing
 abbrev pub else_word : Text → Option Control
@@ -33,3 +42,4 @@ control_of For w = bare_else_word w
 control_of TableRow w = None
 control_of Capture w = None
 control_of IfChanged w = None
+control_of (Host n) w = None

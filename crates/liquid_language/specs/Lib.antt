@@ -1,5 +1,6 @@
 pub mod Controls
 pub mod Entries
+pub mod HostNames
 pub mod HostTags
 pub mod Languages
 pub mod Registered

@@ -1,10 +1,12 @@
 //! Blocks that are open while a source is read.
-ghost use Rattle.std.specs.Prelude.{◌≡◌};
-ghost use Rattle.liquid_language.specs.Controls.{control_of, end_word};
-ghost use Rattle.liquid_language.specs.Roles.{body_after, registered, role_of, verbatim_body};
+ghost use Rattle.std.specs.Prelude.{◌≡◌, bytes_eq};
+ghost use Rattle.liquid_language.specs.Controls.{control_of, end_word, standard_end};
+ghost use Rattle.liquid_language.specs.Roles.{body_after, host_role, registered, role_of};
+ghost use Rattle.liquid_language.specs.Roles.{verbatim_body};
 ghost use Rattle.liquid_lexer.specs.PieceView.{piece_view};
 ghost use Rattle.liquid_lexer.specs.SourceReading.{wanted_body};
 
+use crate::host_tags::HostKind;
 use crate::registry::{BlockKind, Language, TagKind};
 use liquid_lexer::{Body, Piece, bare_name};
 
@@ -18,6 +20,8 @@ pub enum Block {
     TableRow,
     Capture,
     IfChanged,
+    /// A block of the host, by its number.
+    Host(usize),
 }
 
 /// Where a piece of a source stands.
@@ -68,17 +72,20 @@ pub enum Role {
     Block(BlockKind),
     /// A tag of the host, by its number.
     HostTag(usize),
+    /// A block of the host, by its number.
+    HostBlock(usize),
 }
 
 /// What the name is, where a tag stands: in a block its end comes first, then the control words
-/// that can end the body, then registered tags, then registered blocks, then the host's tags.
+/// that can end the body, then registered tags, then registered blocks, then what the host
+/// registered.
 pub fn role_of(language: &Language, context: BlockContext, name: &str) -> Option<Role>
     ensures { result ≡ role_of language.now context name.now }
 {
     match context {
         BlockContext::Outside => registered(language, name),
         BlockContext::InBody(block) => {
-            if name == end_tag(block) {
+            if is_end(language, block, name) {
                 return Some(Role::End);
             }
             match control_word(block, name) {
@@ -87,7 +94,7 @@ pub fn role_of(language: &Language, context: BlockContext, name: &str) -> Option
             }
         }
         BlockContext::InLast(block) => {
-            if name == end_tag(block) {
+            if is_end(language, block, name) {
                 return Some(Role::End);
             }
             registered(language, name)
@@ -95,7 +102,8 @@ pub fn role_of(language: &Language, context: BlockContext, name: &str) -> Option
     }
 }
 
-/// What is registered under the name: tags come before blocks, and both before the host's tags.
+/// What is registered under the name: tags come before blocks, and both before what the host
+/// registered.
 fn registered(language: &Language, name: &str) -> Option<Role>
     ensures { result ≡ registered language.now name.now }
 {
@@ -104,7 +112,16 @@ fn registered(language: &Language, name: &str) -> Option<Role>
     }
     match language.blocks.get(name) {
         Some(kind) => Some(Role::Block(kind)),
-        None => Some(Role::HostTag(language.host_tags.number(name)?)),
+        None => Some(host_role(language.host_tags.get(name)?)),
+    }
+}
+
+fn host_role(kind: HostKind) -> Role
+    ensures { result ≡ host_role kind }
+{
+    match kind {
+        HostKind::Tag(number) => Role::HostTag(number),
+        HostKind::Block(number) => Role::HostBlock(number),
     }
 }
 
@@ -127,9 +144,26 @@ pub fn body_after(language: &Language, context: BlockContext, piece: &Piece<'_>)
     verbatim_body(role_of(language, context, bare_name(piece)?))
 }
 
-/// The tag that ends the block.
-pub fn end_tag(block: Block) -> &'static str
-    ensures { result.now ≡ end_word block }
+/// Whether a tag of the name ends the block.
+pub fn is_end(language: &Language, block: Block, name: &str) -> bool
+    ensures { result ≡ bytes_eq name.now (end_word language.now block) }
+{
+    name == end_tag(language, block)
+}
+
+/// The name of the tag that ends the block.
+pub fn end_tag(language: &Language, block: Block) -> &str
+    ensures { result.now ≡ end_word language.now block }
+{
+    match block {
+        Block::Host(number) => language.host_tags.end(number),
+        _ => standard_end(block),
+    }
+}
+
+/// The name of the tag that ends the block; nothing for a block of the host.
+pub fn standard_end(block: Block) -> &'static str
+    ensures { result.now ≡ standard_end block }
 {
     match block {
         Block::If => "endif",
@@ -139,5 +173,6 @@ pub fn end_tag(block: Block) -> &'static str
         Block::TableRow => "endtablerow",
         Block::Capture => "endcapture",
         Block::IfChanged => "endifchanged",
+        Block::Host(_) => "",
     }
 }

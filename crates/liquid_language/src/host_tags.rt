@@ -1,14 +1,16 @@
-//! Tags of a host, which stand for its filters.
-ghost use Rattle.std.specs.Prelude.{◌≡◌, [], ◌∷◌, ◌++◌, length, map, string_bytes};
-ghost use Rattle.std.specs.Prelude.{option_map, OnErr, OnOk, slice_get};
+//! Tags and blocks of a host, which stand for its filters.
+ghost use Rattle.std.specs.Prelude.{◌≡◌, ◌↔◌, [], ◌∷◌, ◌++◌, IsTrue, length, map, string_bytes};
+ghost use Rattle.std.specs.Prelude.{codes, option_map, OnErr, OnOk, slice_get};
 ghost use Rattle.liquid_model.specs.Answer.{IsValueOrMemory};
 ghost use Rattle.liquid_model.specs.Maps.{insert, listed};
-ghost use Rattle.liquid_language.specs.HostTags.{begins_as_end, calls_of, is_reserved, is_tag_name};
-ghost use Rattle.liquid_language.specs.HostTags.{name_refusal, numbers_of, RefusesName, tag_call};
+ghost use Rattle.liquid_language.specs.HostTags.{block_call, blocks_of, calls_of, end_in};
+ghost use Rattle.liquid_language.specs.HostTags.{end_names, numbers_of, style_in, tag_call};
+ghost use Rattle.liquid_language.specs.declared.host_tags.HostKind.TheVariants as kinds;
 
-use crate::registry::{Language, Registry};
+use crate::registry::Registry;
 use liquid_core::Expression;
-use liquid_model::{Result, word};
+use liquid_lexer::Style;
+use liquid_model::Result;
 use std::alloc::Global;
 use std::collections::btree_map::Keys;
 
@@ -18,6 +20,8 @@ pub struct HostCall {
     pub filter: String,
     /// The filter's input: a variable as `page`, or `Expression::Literal(Value::Nil)`.
     pub input: Expression,
+    /// How what stands after the tag's name is read.
+    pub style: Style,
 }
 
 /// Drops the fields. Written by hand, so that each early return drops the value by one call to
@@ -27,53 +31,121 @@ impl Drop for HostCall {
         let HostCall {
             filter: _,
             input: _,
+            style: _,
         } = self;
     }
 }
 
-/// Tags of a host by the names that they are registered under.
+/// What a block of a host writes: what a filter makes of the text of the block's body and of the
+/// values in the tag that begins it.
+#[derive(Drop)]
+pub struct HostBlock {
+    /// The name that the filter is registered under.
+    pub filter: String,
+    /// How what stands after the block's name is read.
+    pub style: Style,
+}
+
+/// What a name of a host stands for, by its number among the tags or among the blocks.
+#[derive(Clone, Copy, Debug, PartialEq, Eq, Drop)]
+pub enum HostKind {
+    Tag(usize),
+    Block(usize),
+}
+
+/// A block, and the name of the tag that ends it.
+#[derive(Drop)]
+struct EndedBlock {
+    block: HostBlock,
+    end: String,
+}
+
+/// Tags and blocks of a host by the names that they are registered under.
 #[derive(Drop)]
 pub struct HostTags {
-    numbers: Registry<usize>,
+    numbers: Registry<HostKind>,
     calls: Vec<HostCall>,
+    blocks: Vec<EndedBlock>,
 }
 
 impl HostTags {
-    /// No tags.
+    /// No tags and no blocks.
     pub(crate) fn new(alloc: Global) -> HostTags
         ensures numbers { numbers_of result ≡ [] }
         ensures calls { calls_of result ≡ [] }
+        ensures blocks { blocks_of result ≡ [] }
+        ensures ends { end_names result ≡ [] }
     {
         HostTags {
             numbers: Registry::new(alloc),
             calls: Vec::new(alloc),
+            blocks: Vec::new(alloc),
         }
     }
 
-    /// Registers a call under a name, at the next number. Where there is no memory nothing changes.
-    fn register(&mut self, name: String, call: HostCall) -> Result<()>
+    /// Registers a tag's call under a name, at the next number. Where there is no memory nothing
+    /// changes.
+    pub(crate) fn register_tag(&mut self, name: String, call: HostCall) -> Result<()>
         ensures number { IsValueOrMemory (λ _. listed (numbers_of self.new)) result
             (insert (listed (numbers_of self.old)) (string_bytes name)
-            (length (calls_of self.old))) }
+            (kinds.Tag (length (calls_of self.old)))) }
         ensures call { OnOk result (calls_of self.new ≡ calls_of self.old ++ tag_call call ∷ []) }
         ensures same_numbers { OnErr result (numbers_of self.new ≡ numbers_of self.old) }
         ensures same_calls { OnErr result (calls_of self.new ≡ calls_of self.old) }
+        ensures blocks { blocks_of self.new ≡ blocks_of self.old }
+        ensures ends { end_names self.new ≡ end_names self.old }
     {
         self.calls.try_reserve(1)?;
-        self.numbers.register(name, self.calls.len())?;
+        self.numbers
+            .register(name, HostKind::Tag(self.calls.len()))?;
         self.calls.push(call)?;
         Ok(())
     }
 
+    /// Registers a block under a name, at the next number. Where there is no memory nothing
+    /// changes.
+    pub(crate) fn register_block(
+        &mut self,
+        alloc: Global,
+        name: String,
+        block: HostBlock,
+    ) -> Result<()>
+        ensures number { IsValueOrMemory (λ _. listed (numbers_of self.new)) result
+            (insert (listed (numbers_of self.old)) (string_bytes name)
+            (kinds.Block (length (blocks_of self.old)))) }
+        ensures block { OnOk result
+            (blocks_of self.new ≡ blocks_of self.old ++ block_call block ∷ []) }
+        ensures end { OnOk result
+            (end_names self.new ≡ end_names self.old ++ (codes "end" ++ string_bytes name) ∷ []) }
+        ensures same_numbers { OnErr result (numbers_of self.new ≡ numbers_of self.old) }
+        ensures same_blocks { OnErr result (blocks_of self.new ≡ blocks_of self.old) }
+        ensures same_ends { OnErr result (end_names self.new ≡ end_names self.old) }
+        ensures calls { calls_of self.new ≡ calls_of self.old }
+    {
+        self.blocks.try_reserve(1)?;
+        let end = end_of(alloc, name.as_str())?;
+        self.numbers
+            .register(name, HostKind::Block(self.blocks.len()))?;
+        self.blocks.push(EndedBlock { block, end })?;
+        Ok(())
+    }
+
+    /// Whether no tag and no block is registered.
+    pub fn is_empty(&self) -> bool
+        ensures { IsTrue result ↔ (numbers_of self.now ≡ []) }
+    {
+        self.numbers.is_empty()
+    }
+
     /// The registered names, in order.
-    pub fn names(&self) -> Keys<'_, String, usize>
+    pub fn names(&self) -> Keys<'_, String, HostKind>
         ensures { map string_bytes result ≡ map (λ e. e.0) (numbers_of self.now) }
     {
         self.numbers.names()
     }
 
-    /// The number of the tag that is registered under the name.
-    pub fn number(&self, name: &str) -> Option<usize>
+    /// What is registered under the name.
+    pub fn get(&self, name: &str) -> Option<HostKind>
         ensures { result ≡ listed (numbers_of self.now) name.now }
     {
         self.numbers.get(name)
@@ -86,99 +158,50 @@ impl HostTags {
     {
         self.calls.get(number)
     }
-}
 
-/// Why a host can't register a tag under a name.
-#[derive(Clone, Copy, Debug, PartialEq, Eq)]
-pub enum NameRefusal {
-    /// It is no word: a letter or `_`, then letters, digits, `_` and `-`.
-    NotAWord,
-    /// It begins with `end`, or is `else`, `elsif` or `when`.
-    Reserved,
-    /// The language has a tag or a block of its own of this name.
-    Taken,
-}
-
-/// Why a tag of a host wasn't registered.
-#[derive(Clone, Copy, Debug, PartialEq, Eq)]
-pub enum TagError {
-    /// A growth was refused.
-    Memory,
-    /// The name can't be a host's tag.
-    Refused(NameRefusal),
-}
-
-impl Language {
-    /// Registers a tag of the host under a name; what the host had registered there is forgotten.
-    /// `Refused` where the name can't be a host's tag, and `Memory` where a growth was refused;
-    /// then nothing changes.
-    pub fn register_tag(
-        &mut self,
-        name: String,
-        call: HostCall,
-    ) -> std::result::Result<(), TagError>
-        ensures number { OnOk result (listed (numbers_of self.new.host_tags) ≡
-            insert (listed (numbers_of self.old.host_tags)) (string_bytes name)
-            (length (calls_of self.old.host_tags))) }
-        ensures call { OnOk result (calls_of self.new.host_tags ≡
-            calls_of self.old.host_tags ++ tag_call call ∷ []) }
-        ensures refused { RefusesName (name_refusal self.old (string_bytes name)) result }
-        ensures same_numbers { OnErr result
-            (numbers_of self.new.host_tags ≡ numbers_of self.old.host_tags) }
-        ensures same_calls { OnErr result
-            (calls_of self.new.host_tags ≡ calls_of self.old.host_tags) }
-        ensures tags { self.new.tags ≡ self.old.tags }
-        ensures blocks { self.new.blocks ≡ self.old.blocks }
-        ensures filters { self.new.filters ≡ self.old.filters }
-        ensures include_paths { self.new.include_paths ≡ self.old.include_paths }
-        ensures drops_blanks { self.new.drops_blanks ≡ self.old.drops_blanks }
+    /// The block with the number.
+    pub fn block(&self, number: usize) -> Option<&HostBlock>
+        ensures { option_map (λ block. block_call block.now) result ≡
+            slice_get (blocks_of self.now) number }
     {
-        if let Some(refusal) = self.name_refusal(name.as_str()) {
-            return Err(TagError::Refused(refusal));
-        }
-        match self.host_tags.register(name, call) {
-            Ok(()) => Ok(()),
-            Err(_) => Err(TagError::Memory),
+        match self.blocks.get(number) {
+            Some(ended) => Some(&ended.block),
+            None => None,
         }
     }
 
-    /// Why the host can't register a tag under the name, if it can't.
-    pub fn name_refusal(&self, name: &str) -> Option<NameRefusal>
-        ensures { result ≡ name_refusal self.now name.now }
+    /// The name of the tag that ends the block with the number; nothing where there is none.
+    pub fn end(&self, number: usize) -> &str
+        ensures { result.now ≡ end_in self.now number }
     {
-        if !is_tag_name(name) {
-            return Some(NameRefusal::NotAWord);
+        match self.blocks.get(number) {
+            Some(ended) => ended.end.as_str(),
+            None => "",
         }
-        if is_reserved(name) {
-            return Some(NameRefusal::Reserved);
-        }
-        match (self.tags.get(name), self.blocks.get(name)) {
-            (None, None) => None,
-            _ => Some(NameRefusal::Taken),
+    }
+
+    /// The style of the tag or block; items where there is none.
+    pub fn style(&self, kind: HostKind) -> Style
+        ensures { result ≡ style_in self.now kind }
+    {
+        match kind {
+            HostKind::Tag(number) => match self.call(number) {
+                Some(call) => call.style,
+                None => Style::Items,
+            },
+            HostKind::Block(number) => match self.block(number) {
+                Some(block) => block.style,
+                None => Style::Items,
+            },
         }
     }
 }
 
-/// Whether the text is a word.
-fn is_tag_name(text: &str) -> bool
-    ensures { result ≡ is_tag_name text.now }
+/// The name of the tag that ends a block of the name.
+fn end_of(alloc: Global, name: &str) -> Result<String>
+    ensures { IsValueOrMemory string_bytes result (codes "end" ++ name.now) }
 {
-    match word(text) {
-        Some((_, rest)) => rest.is_empty(),
-        None => false,
-    }
-}
-
-/// Whether a block has a use of the word.
-fn is_reserved(word: &str) -> bool
-    ensures { result ≡ is_reserved word.now }
-{
-    begins_as_end(word.as_bytes()) || matches!(word, "else" | "elsif" | "when")
-}
-
-/// Whether the bytes begin as the end of a block does.
-fn begins_as_end(bytes: &[u8]) -> bool
-    ensures { result ≡ begins_as_end bytes.now }
-{
-    matches!(bytes, [b'e', b'n', b'd', ..])
+    let mut end = String::from_str(alloc, "end")?;
+    end.push_str(name)?;
+    Ok(end)
 }

@@ -3,6 +3,7 @@
 #![tactic(auto)]
 
 mod block;
+mod host_names;
 mod host_tags;
 pub mod jekyll;
 mod reflection;
@@ -12,8 +13,13 @@ mod standard;
 pub mod stdlib;
 mod style;
 
-pub use block::{Block, BlockContext, Control, Role, body_after, end_tag, role_of, verbatim_body};
-pub use host_tags::{HostCall, HostTags, NameRefusal, TagError};
+pub use block::{
+    Block, BlockContext, Control, Role, body_after, end_tag, is_end, role_of, standard_end,
+    verbatim_body,
+};
+pub use host_names::{NameRefusal, TagError};
+pub use host_tags::{HostBlock, HostCall, HostKind, HostTags};
+pub use liquid_lexer::Style;
 pub use reflection::{BlockReflection, TagReflection};
 pub use registered_filter::{FilterRegistry, RegisteredFilter};
 pub use registry::{BlockKind, Language, Registry, TagKind};

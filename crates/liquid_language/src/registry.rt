@@ -1,8 +1,8 @@
 //! What tags, blocks and filters are called.
-ghost use Rattle.std.specs.Prelude.{◌≡◌, [], false, map, OnErr, string_bytes};
+ghost use Rattle.std.specs.Prelude.{◌≡◌, ◌↔◌, [], false, IsTrue, map, OnErr, string_bytes};
 ghost use Rattle.liquid_model.specs.Answer.{IsValueOrMemory};
 ghost use Rattle.liquid_model.specs.Maps.{listed, insert};
-ghost use Rattle.liquid_language.specs.HostTags.{calls_of, numbers_of};
+ghost use Rattle.liquid_language.specs.HostTags.{blocks_of, calls_of, end_names, numbers_of};
 ghost use Rattle.liquid_language.specs.Languages.{kinds_of};
 ghost use Rattle.liquid_language.specs.Registered.{registered_in};
 
@@ -86,6 +86,13 @@ impl<K: Copy + Drop> Registry<K> {
         Ok(())
     }
 
+    /// Whether no kind is registered.
+    pub(crate) fn is_empty(&self) -> bool
+        ensures { IsTrue result ↔ (kinds_of self.now ≡ []) }
+    {
+        self.kinds.is_empty()
+    }
+
     /// The registered names, in order.
     pub fn names(&self) -> Keys<'_, String, K>
         ensures { map string_bytes result ≡ map (λ e. e.0) (kinds_of self.now) }
@@ -106,7 +113,8 @@ pub struct Language {
     pub tags: Registry<TagKind>,
     pub blocks: Registry<BlockKind>,
     pub filters: FilterRegistry,
-    /// The tags of the host; see [Language::register_tag].
+    /// The tags and blocks of the host; see [Language::register_tag] and
+    /// [Language::register_block].
     pub host_tags: HostTags,
     /// Whether Jekyll's `include` takes a path without quotes, as in `{% include nav/top.html %}`.
     pub include_paths: bool,
@@ -138,6 +146,8 @@ impl Language {
         ensures filters { registered_in result.filters ≡ [] }
         ensures host_tags { numbers_of result.host_tags ≡ [] }
         ensures host_calls { calls_of result.host_tags ≡ [] }
+        ensures host_blocks { blocks_of result.host_tags ≡ [] }
+        ensures host_ends { end_names result.host_tags ≡ [] }
         ensures include_paths { result.include_paths ≡ false }
         ensures drops_blanks { result.drops_blanks ≡ false }
     {

@@ -1,6 +1,6 @@
 //! In which style a language reads a tag.
 ghost use Rattle.std.specs.Prelude.{◌≡◌};
-ghost use Rattle.liquid_language.specs.Styles.{style_of};
+ghost use Rattle.liquid_language.specs.Styles.{style_of, style_of_kind};
 ghost use Rattle.liquid_lexer.specs.PieceView.{markup_view};
 ghost use Rattle.liquid_lexer.specs.Readers.{Parses};
 ghost use Rattle.liquid_lexer.specs.SourceReading.{markup_at, name_at, style_by};
@@ -13,8 +13,8 @@ use std::alloc::Global;
 pub fn style_after(language: &Language, text: &str) -> Style
     ensures { result ≡ style_by (style_of language.now) (name_at text.now) }
 {
-    // most languages have no paths, and need not look for the name
-    if language.include_paths {
+    // most languages have items alone, and need not look for the name
+    if language.include_paths || !language.host_tags.is_empty() {
         named_style(language, text)
     } else {
         Style::Items
@@ -35,11 +35,20 @@ fn named_style(language: &Language, text: &str) -> Style
 pub fn style_of(language: &Language, name: &str) -> Style
     ensures { result ≡ style_of language.now name.now }
 {
-    if !language.include_paths {
-        return Style::Items;
+    if let Some(kind) = language.tags.get(name) {
+        return style_of_kind(language.include_paths, kind);
     }
-    match language.tags.get(name) {
-        Some(TagKind::JekyllInclude) => Style::PathFirst,
+    match language.host_tags.get(name) {
+        Some(kind) if language.blocks.get(name).is_none() => language.host_tags.style(kind),
+        _ => Style::Items,
+    }
+}
+
+fn style_of_kind(include_paths: bool, kind: TagKind) -> Style
+    ensures { result ≡ style_of_kind include_paths kind }
+{
+    match kind {
+        TagKind::JekyllInclude if include_paths => Style::PathFirst,
         _ => Style::Items,
     }
 }

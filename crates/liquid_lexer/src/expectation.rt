@@ -35,6 +35,8 @@ pub enum Expectation {
     ClosingParenthesis,
     /// The end of a block, by the name of its tag.
     End(&'static str),
+    /// The end of a block of the host, by the block's number.
+    HostEnd(usize),
     /// The start of a block.
     BlockStart,
     /// No more than 200 nested blocks.

@@ -104,7 +104,7 @@ pub fn closer(text: &str, kind: Delimiter) -> Option<(bool, &str)>
 }
 
 /// The fault of a source that ends where an item or the closer is wanted.
-fn unclosed() -> Fault
+pub(crate) fn unclosed() -> Fault
     ensures kind { result.kind ≡ FaultKind.Unclosed }
     ensures place { result.remaining ≡ 0 }
 {

@@ -3,7 +3,7 @@ use crate::fault::ParseError;
 use crate::item::{Delimiter, Item, closer, read_item};
 use crate::mark::skip_dash;
 use crate::piece::opener;
-use crate::style::{Style, placed_path, text_item};
+use crate::style::{Style, placed_front, text_item};
 use liquid_model::{past_byte, past_white, word};
 use std::alloc::{AllocError, Global};
 
@@ -45,7 +45,7 @@ pub fn placed_piece<'s>(
     };
     let (items, inside) = match kind {
         Delimiter::Output => (Vec::new(alloc), inside),
-        Delimiter::Tag => placed_front(alloc, inside, style)?,
+        Delimiter::Tag => first_item(alloc, inside, style)?,
     };
     let (items, rest) = placed_items(alloc, items, inside, kind)?;
     Ok(PlacedPiece {
@@ -56,21 +56,21 @@ pub fn placed_piece<'s>(
     })
 }
 
-/// The path with which a tag's items begin in the style, where one stands there, and what follows
-/// it.
-fn placed_front<'s>(
+/// The path or the text with which a tag's items begin in the style, where one stands there, and
+/// what follows it.
+fn first_item<'s>(
     alloc: Global,
     text: &'s str,
     style: Style,
 ) -> Result<(Vec<PlacedItem<'s>>, &'s str), AllocError> {
     let mut items = Vec::new(alloc);
-    let Some((path, after)) = placed_path(text, style) else {
+    let Some((front, after)) = placed_front(text, style) else {
         return Ok((items, text));
     };
-    let item = text_item(alloc, path)?;
+    let item = text_item(alloc, front)?;
     items.push(PlacedItem {
         item,
-        spelling: path,
+        spelling: front,
         from: past_white(text),
     })?;
     Ok((items, after))

@@ -22,8 +22,8 @@ pub use liquid_engine::{
 };
 pub use liquid_filters::FilterKind;
 pub use liquid_language::{
-    BlockReflection, HostCall, Language, NameRefusal, STANDARD_FILTERS, TagError, TagReflection,
-    language,
+    BlockReflection, HostBlock, HostCall, HostKind, Language, NameRefusal, STANDARD_FILTERS, Style,
+    TagError, TagReflection, language,
 };
 pub use liquid_meaning::{
     isolation_laws, loop_laws, missing_laws, partial_laws, reading_laws, run_laws, worked_names,

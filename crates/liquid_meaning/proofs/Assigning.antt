@@ -14,8 +14,8 @@ use Rattle.liquid_meaning.specs.Runs.{Nothing, Run, done, fault, read_environmen
 use Rattle.liquid_meaning.specs.Effects.{assigned_to, is_break, if_none, unless_interrupted}
 use Rattle.liquid_meaning.specs.Loops.{until_break, for_all, needs_columns, loop, rows, columns_of}
 use Rattle.liquid_meaning.specs.Meaning.{Setting, node_meaning, nodes_meaning, deeper_meaning, meaning}
-use Rattle.liquid_meaning.specs.Assigning.{RanAmong, RanIn, RanAtItem, RanInCell, at_first, after, the_assign, in_if, in_unless, in_capture, in_ifchanged, in_for, in_tablerow, at_item, at_later, in_cell, in_later, loop_turn, cell, for_scope, row_scope, AssignedAnywhere}
-use Rattle.liquid_meaning.proofs.Stays.{Stays, stays_bind, stays_done, stays_cond, stays_with_scope, stays_until_break, stays_take_interrupt, stays_unless, stays_read, stays_change, stays_write, stays_assign, stays_for_all, nodes_stay, deeper_stays}
+use Rattle.liquid_meaning.specs.Assigning.{RanAmong, RanIn, RanAtItem, RanInCell, at_first, after, the_assign, in_if, in_unless, in_capture, in_ifchanged, in_filtered, in_for, in_tablerow, at_item, at_later, in_cell, in_later, loop_turn, cell, for_scope, row_scope, AssignedAnywhere}
+use Rattle.liquid_meaning.proofs.Stays.{Stays, stays_bind, stays_done, stays_cond, stays_with_scope, stays_until_break, stays_take_interrupt, stays_unless, stays_read, stays_evaluate, stays_change, stays_write, stays_assign, stays_for_all, nodes_stay, deeper_stays}
 
 -- under the name something stands after m
 abbrev pub Held : {A : Type 0} → Text → Run A → Environment → Type 0
@@ -110,6 +110,8 @@ module _ (name : Text) (setting : Setting) (deeper : Nodes → Run Nothing) (kep
     inside (in_ifchanged {body = body} {e = e} r) =
         held_then name (buffered (nodes_meaning setting deeper body)) _ e (λ t. stays_bind (stays_read _) (λ last. stays_bind (stays_cond _ (stays_done tt) (stays_write t)) (λ a. stays_change _ (λ e. refl))))
         (held_buffered name (nodes_meaning setting deeper body) e (among r))
+    inside (in_filtered {body = body} {e = e} r) =
+        held_then name (buffered (nodes_meaning setting deeper body)) _ e (λ t. stays_bind (stays_evaluate _) (λ d. stays_write _)) (held_buffered name (nodes_meaning setting deeper body) e (among r))
     inside (in_for {all = all} {items = items} {d = d} {e = e} in_source in_window r) =
         given name _ _ e all in_source (given name _ _ e (d ∷ items) in_window (known name _ _ e (turns r)))
     inside (in_tablerow {variable = variable} {body = body} {all = all} {items = items} {asked = asked} {d = d} {e = e} in_source in_columns in_window some r) =

@@ -46,6 +46,9 @@ worked_stores = record {
   nested_changes = ((refl, refl), refl);
   stored_before_evaluated = ((refl, refl), refl);
   faulted_change = ((refl, refl), refl);
+  body_before_arguments = (refl, refl);
+  faulted_block = ((refl, refl), refl);
+  interrupted_block = ((refl, refl), refl);
 }
 
 pub worked_loops : WorkedLoops
@@ -153,6 +156,7 @@ worked_names = record {
   of_tablerow = (search, search);
   of_capture = (search, search);
   of_ifchanged = (search, search);
+  of_filtered = λ filter. (search, search);
   of_stdlib_include = (search, search);
   of_render = (search, search);
   of_render_for = (search, search);

@@ -6,7 +6,7 @@ use Rattle.liquid_model.specs.Texts.{Text}
 use Rattle.liquid_model.specs.Data.{nil}
 use Rattle.liquid_core.specs.Expression.{Expression, literal, variable, Steps, no_steps, step}
 use Rattle.liquid_core.specs.Environment.{Names}
-use Rattle.liquid_evaluation.specs.Tree.{FilterCall, Chain, Atom, bare, compared, Condition, Source, each_of, counted, Window, Bindings, Node, plain, raw, comment, output, assign, increment, decrement, break_loop, continue_loop, cycle, if_true, unless, case_of, for_each, tablerow, capture, ifchanged, include, jekyll_include, render, Nodes, no_nodes, node, Whens, no_whens, when}
+use Rattle.liquid_evaluation.specs.Tree.{FilterCall, Chain, Atom, bare, compared, Condition, Source, each_of, counted, Window, Bindings, Node, plain, raw, comment, output, assign, increment, decrement, break_loop, continue_loop, cycle, if_true, unless, case_of, for_each, tablerow, capture, ifchanged, filtered, include, jekyll_include, render, Nodes, no_nodes, node, Whens, no_whens, when}
 use Rattle.liquid_evaluation.specs.declared.comparison.ComparisonOperator.{ComparisonOperator}
 use Rattle.liquid_evaluation.specs.declared.comparison.ComparisonOperator.TheVariants.{Equals}
 use Rattle.liquid_evaluation.specs.Names.{expression_names, steps_names, all_names, optional_names, filters_names, chain_names, atom_names, atoms_names, condition_names, source_names, window_names, bound_names, target_names, include_name, node_names, nodes_names, whens_names, partials_names, run_names, mentioned}
@@ -182,6 +182,8 @@ module _ (N : Names) where
           (both (grants_window W window) _ (covers_window window (left N (window_names window) _ s)) (covers_nodes body (right N (window_names window) _ s))))
       covers_node (capture name body) h = covers_nodes body h.1
       covers_node (ifchanged body) h = covers_nodes body h
+      covers_node (filtered filters body) h =
+          both (grants_filters W filters) _ (covers_filters filters (left N (filters_names filters) _ h)) (covers_nodes body (right N (filters_names filters) _ h))
       covers_node (include x bindings) h =
           both (grants W x everything) _ (covers_expression x everything (left N (expression_names x) _ h)) (covers_bindings _ bindings (right N (target_names bindings) _ (right N (expression_names x) _ h)))
       covers_node (jekyll_include name bindings) h = covers_bindings _ bindings (right N (include_name bindings) _ h)

@@ -12,7 +12,7 @@ use Rattle.liquid_evaluation.specs.Tree.{FilterCall, Chain, Atom, bare, compared
 use Rattle.liquid_core.specs.Environment.{Environment, lookup}
 use Rattle.liquid_model.specs.Fallible.{◌>>=◌}
 use Rattle.liquid_core.specs.Expressions.{value_of, path_of, nil_if_missing, none_if_missing, required, sought, all_required, sought_whole, needed_whole}
-use Rattle.liquid_evaluation.specs.Evaluation.{FilterAnswers, answers_in, entry_value, calls_by, chain_value, bare_truth, atom_truth, all_true, truth_of, source_items, amount, selected_items, bound_values}
+use Rattle.liquid_evaluation.specs.Evaluation.{FilterAnswers, answers_in, entry_value, calls_by, through, chain_value, bare_truth, atom_truth, all_true, truth_of, source_items, amount, selected_items, bound_values}
 use Rattle.liquid_evaluation.specs.Names.{expression_names, steps_names, all_names, optional_names, filters_names, chain_names, atom_names, atoms_names, condition_names, source_names, window_names, bound_names}
 use Rattle.liquid_model.specs.Maps.{Map}
 use Rattle.liquid_model.proofs.Maps.{same_key}
@@ -100,9 +100,12 @@ module _ (other : Map Datum) (e : Environment) where
   calls_same answers [] h d = refl
   calls_same answers (call ∷ calls) h d = bind_same (all_required_same call.arguments (left P (all_names call.arguments) _ h)) (λ arguments. bind_same refl (λ answer. calls_same answers calls (right P (all_names call.arguments) _ h) answer))
 
+  pub through_same : (answers : FilterAnswers) (calls : List FilterCall) → All P (filters_names calls) → (d : Datum) → through answers calls d e ≡ through answers calls d f
+  through_same answers calls h d = calls_same (answers_in e.missing answers) calls h d
+
   pub chain_same : (answers : FilterAnswers) (chain : Chain) → All P (chain_names chain) → chain_value answers chain e ≡ chain_value answers chain f
   unfolding chain_value chain_names
-  chain_same answers chain h = bind_same (ap (λ o. entry_value e.missing o chain.filters) (value_same chain.entry (left P (expression_names chain.entry) _ h))) (λ entry. calls_same (answers_in e.missing answers) chain.filters (right P (expression_names chain.entry) _ h) entry)
+  chain_same answers chain h = bind_same (ap (λ o. entry_value e.missing o chain.filters) (value_same chain.entry (left P (expression_names chain.entry) _ h))) (through_same answers chain.filters (right P (expression_names chain.entry) _ h))
 
   atom_same : (atom : Atom) → All P (atom_names atom) → atom_truth atom e ≡ atom_truth atom f
   unfolding atom_truth atom_names

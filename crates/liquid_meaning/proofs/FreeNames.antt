@@ -15,9 +15,9 @@ use Rattle.liquid_core.specs.Expression.{Expression, literal, variable}
 use Rattle.liquid_core.specs.Expressions.{required, value_of}
 use Rattle.liquid_core.specs.Environment.{Names, Environment, bind_each}
 use Rattle.liquid_core.specs.Loops.{loop_scope}
-use Rattle.liquid_evaluation.specs.Tree.{Bindings, Node, plain, raw, comment, output, assign, increment, decrement, break_loop, continue_loop, cycle, if_true, unless, case_of, for_each, tablerow, capture, ifchanged, include, jekyll_include, render, Nodes, no_nodes, node, Whens, no_whens, when}
+use Rattle.liquid_evaluation.specs.Tree.{Bindings, Node, plain, raw, comment, output, assign, increment, decrement, break_loop, continue_loop, cycle, if_true, unless, case_of, for_each, tablerow, capture, ifchanged, filtered, include, jekyll_include, render, Nodes, no_nodes, node, Whens, no_whens, when}
 use Rattle.liquid_evaluation.specs.Evaluation.{bound_values}
-use Rattle.liquid_evaluation.specs.Names.{expression_names, all_names, optional_names, condition_names, source_names, window_names, bound_names, target_names, include_name, mentioned}
+use Rattle.liquid_evaluation.specs.Names.{expression_names, all_names, optional_names, filters_names, condition_names, source_names, window_names, bound_names, target_names, include_name, mentioned}
 use Rattle.liquid_meaning.specs.Runs.{Nothing, Run, read_environment, evaluate, change, ◌>>=◌, with_scope}
 use Rattle.liquid_meaning.specs.Effects.{counted_to, counter_number, is_last_text}
 use Rattle.liquid_meaning.specs.Loops.{columns_of, cell_start, cell_end, loop, rows}
@@ -26,7 +26,7 @@ use Rattle.liquid_meaning.specs.ProjectedRuns.{over_data}
 use Rattle.liquid_meaning.specs.FreeNames.{PartialsRead, literal_name, unbound, binds, node_reads, nodes_reads, whens_read, CoversPartials, over, FreeNamesAlone, FreeUsesAlone, FreeDataAlone}
 use Rattle.liquid_model.proofs.Alike.{alike_same}
 use Rattle.liquid_meaning.proofs.AlikeMaps.{alike_empty}
-use Rattle.liquid_meaning.proofs.FoundValues.{All, left, right, or_left, or_right, all_of_mentioned, Found, required_same, chain_same, truth_same, source_same, amount_same, asked_same, bound_same}
+use Rattle.liquid_meaning.proofs.FoundValues.{All, left, right, or_left, or_right, all_of_mentioned, Found, required_same, through_same, chain_same, truth_same, source_same, amount_same, asked_same, bound_same}
 use Rattle.liquid_meaning.proofs.FreeRuns.{Holds, above, inserted, still_inserted, Sees, Free, none, free_more, free_done, free_fault, free_write, free_read, free_evaluate, free_change, free_bind, free_after, free_given, free_cond, free_with_scope, free_buffered, free_apart, free_for_all, free_until_break, free_if_empty, free_unless, free_assign, free_registers, free_interrupt, free_take_interrupt, free_columns}
 use Rattle.liquid_meaning.proofs.Reading.{reads_alone}
 
@@ -271,6 +271,10 @@ module _ (other : Map Datum) (R : PartialsRead) (setting : Setting) (closed : Co
     node_free (capture name body) = free_bind other (free_buffered other (nodes_free body)) (λ t. free_assign other name (text t))
     node_free (ifchanged body) = free_bind other (free_buffered other (nodes_free body))
         (λ t. free_bind other (free_read other _ (λ e sees. refl)) (λ last. free_bind other (free_cond other (is_last_text last t) (free_done other tt) (free_write other t)) (λ a. free_registers other _ (λ r. record r { changed = Some t }) (λ e. refl))))
+    node_free (filtered filters body) =
+        let names = filters_names filters in
+        free_bind other (free_buffered other (free_more other (nodes_reads R body) _ (none other) (λ q h. or_right (mentioned names q) _ h) (nodes_free body)))
+        (λ t. free_bind other (free_evaluate other _ (λ e sees. through_same other e setting.answers filters (all_of_mentioned (Found other e) names (λ q h. sees.found q (or_left (mentioned names q) _ h))) (text t))) (λ d. free_write other _))
     node_free (include x bindings) =
         let names = expression_names x ++ bound_names bindings in
         free_given other (λ name. (nodes : Nodes) → listed setting.partials name ≡ Some nodes → (q : Text) → T (nodes_reads R nodes q) → T (R (literal_name x) q)) _ _

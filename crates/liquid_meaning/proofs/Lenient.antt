@@ -20,7 +20,7 @@ use Rattle.liquid_core.specs.Environment.{Environment, own_environment, lookup}
 use Rattle.liquid_evaluation.specs.declared.comparison.ComparisonOperator.{ComparisonOperator}
 use Rattle.liquid_evaluation.specs.declared.comparison.ComparisonOperator.TheVariants.{Equals, NotEquals, LessThan, GreaterThan, LessThanEquals, GreaterThanEquals, Contains}
 use Rattle.liquid_evaluation.specs.Calls.{applied}
-use Rattle.liquid_evaluation.specs.Tree.{Filter, existing, hosted, FilterCall, Chain, Atom, bare, compared, Condition, Source, each_of, counted, Window, Bindings, Node, plain, raw, comment, output, assign, increment, decrement, break_loop, continue_loop, cycle, if_true, unless, case_of, for_each, tablerow, capture, ifchanged, include, jekyll_include, render, Nodes, no_nodes, node, Whens, no_whens, when}
+use Rattle.liquid_evaluation.specs.Tree.{Filter, existing, hosted, FilterCall, Chain, Atom, bare, compared, Condition, Source, each_of, counted, Window, Bindings, Node, plain, raw, comment, output, assign, increment, decrement, break_loop, continue_loop, cycle, if_true, unless, case_of, for_each, tablerow, capture, ifchanged, filtered, include, jekyll_include, render, Nodes, no_nodes, node, Whens, no_whens, when}
 use Rattle.liquid_evaluation.specs.Evaluation.{FilterAnswers, refuses_input, accepted, answers_in, entry_value, calls_by, chain_value, contains, comparison_truth, truth_of_found, bare_truth, atom_truth, all_true, truth_of, value_items, not_too_long, source_items, amount, selected_items, bound_values}
 use Rattle.liquid_evaluation.proofs.Forgiveness.{refused_is}
 use Rattle.liquid_meaning.specs.Runs.{Nothing, Outcome, Run, done, read_environment, evaluate, fault, change, write, after_text, go_on, ◌>>=◌, with_scope, ended_with, buffered, apart}
@@ -504,6 +504,7 @@ module _ (P : Type 0) where
           (λ items. goes_rows name _ items (nodes_go body))))
       node_goes (capture name body) = goes_bind (goes_buffered (nodes_go body)) (λ t. goes_change _ (λ e. refl) (λ e. refl) (λ e. refl))
       node_goes (ifchanged body) = goes_bind (goes_buffered (nodes_go body)) (λ t. goes_bind (goes_read _ (λ e. refl)) (λ last. goes_bind (goes_cond _ (goes_done tt) (goes_write t)) (λ a. goes_change _ (λ e. refl) (λ e. refl) (λ e. refl))))
+      node_goes (filtered filters body) = goes_bind (goes_buffered (nodes_go body)) (λ t. goes_bind (goes_evaluate _ (found_calls setting.answers know filters (text t))) (λ d. goes_write _))
       node_goes (include x bindings) = goes_bind (goes_name x) (λ name. goes_bind (goes_pairs bindings) (λ pairs. goes_bind (goes_found _) (λ partial. goes_with_scope _ (deeper_goes partial))))
       node_goes (jekyll_include name bindings) = goes_bind (goes_pairs bindings) (λ pairs. goes_bind (goes_found _) (λ partial. goes_with_scope _ (deeper_goes partial)))
       node_goes (render x None bindings) = goes_bind (goes_name x) (λ name. goes_bind (goes_render_apart name bindings _) (λ left. goes_done tt))

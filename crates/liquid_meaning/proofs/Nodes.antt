@@ -6,10 +6,10 @@ use Rattle.std.specs.Fmt.{signed_decimal}
 use Rattle.std.specs.Option.{unwrap_or, option_and_then}
 use Rattle.liquid_model.specs.Maps.{Map, insert, listed}
 use Rattle.liquid_model.specs.Texts.{Text}
-use Rattle.liquid_model.specs.Data.{Datum, nil}
+use Rattle.liquid_model.specs.Data.{Datum, nil, text}
 use Rattle.liquid_model.specs.Whole.{whole}
 use Rattle.liquid_core.specs.Expression.{Expression}
-use Rattle.liquid_evaluation.specs.Tree.{Bindings, Node, plain, raw, comment, output, assign, increment, decrement, break_loop, continue_loop, cycle, if_true, unless, case_of, for_each, tablerow, capture, ifchanged, include, jekyll_include, render, Nodes, no_nodes, node, Whens, no_whens, when}
+use Rattle.liquid_evaluation.specs.Tree.{Bindings, Node, plain, raw, comment, output, assign, increment, decrement, break_loop, continue_loop, cycle, if_true, unless, case_of, for_each, tablerow, capture, ifchanged, filtered, include, jekyll_include, render, Nodes, no_nodes, node, Whens, no_whens, when}
 use Rattle.liquid_core.specs.Environment.{Names, Environment, Registers}
 use Rattle.liquid_core.specs.declared.interrupt.Interrupt.{Interrupt}
 use Rattle.liquid_core.specs.Expressions.{required}
@@ -18,13 +18,13 @@ use Rattle.liquid_meaning.specs.Runs.{Nothing, Run, read_environment, evaluate, 
 use Rattle.liquid_meaning.specs.Effects.{assigned_to, counted_to, interrupted_by, counter_number, take_interrupt, if_none, unless_interrupted}
 use Rattle.liquid_meaning.specs.Loops.{if_empty, columns_of, needs_columns, loop, rows}
 use Rattle.liquid_meaning.specs.Meaning.{Setting, write_item, cycle_meaning, has_equal, within_i64, named, partial_name_text, found_partial, render_apart, node_meaning, nodes_meaning, whens_meaning}
-use Rattle.liquid_evaluation.specs.Names.{expression_names, all_names, optional_names, condition_names, source_names, window_names, bound_names, target_names, include_name, node_names, nodes_names, whens_names}
+use Rattle.liquid_evaluation.specs.Names.{expression_names, all_names, optional_names, filters_names, condition_names, source_names, window_names, bound_names, target_names, include_name, node_names, nodes_names, whens_names}
 use Rattle.liquid_meaning.specs.Isolation.{KeepsOthers}
 use Rattle.liquid_meaning.proofs.Maps.{agree_insert, outside_insert}
 use Rattle.liquid_meaning.proofs.Runs.{AgreeOn, Alike, Isolated, kept_here, isolated_done, isolated_fault, isolated_write, isolated_read, isolated_evaluate, isolated_change, isolated_bind, isolated_cond, isolated_with_scope, isolated_buffered, isolated_apart, isolated_for_all, isolated_until_break}
 use Rattle.liquid_meaning.specs.Within.{Within}
 use Rattle.liquid_meaning.proofs.Within.{left, right}
-use Rattle.liquid_meaning.proofs.Values.{lookup_same, required_same, chain_same, truth_same, source_same, amount_same, asked_same, bound_same}
+use Rattle.liquid_meaning.proofs.Values.{lookup_same, required_same, through_same, chain_same, truth_same, source_same, amount_same, asked_same, bound_same}
 
 module _ (N : Names) where
   -- ---- the changes
@@ -166,6 +166,8 @@ module _ (N : Names) (setting : Setting) (deeper : Nodes → Run Nothing)
     node_isolated (capture name body) h = isolated_bind (isolated_buffered (nodes_isolated body h.1)) (λ t. isolated_assign N name _ h.0)
     node_isolated (ifchanged body) h = isolated_bind (isolated_buffered (nodes_isolated body h))
         (λ t. isolated_bind (isolated_read _ (λ e f a i. (a.registers i).changed)) (λ last. isolated_bind (isolated_cond _ (isolated_done tt) (isolated_write t)) (λ a. isolated_registers N _ (λ r. record r { changed = Some t }) (λ e. refl))))
+    node_isolated (filtered filters body) h = isolated_bind (isolated_buffered (nodes_isolated body (right N (filters_names filters) _ h)))
+        (λ t. isolated_bind (isolated_evaluate _ (λ e f a. through_same N e f a setting.answers filters (left N (filters_names filters) _ h) (text t))) (λ d. isolated_write _))
     node_isolated (include x bindings) h = isolated_bind (isolated_name N x (left N (expression_names x) _ h))
         (λ name. isolated_bind (isolated_pairs N bindings (right N (target_names bindings) _ (right N (expression_names x) _ h)))
         (λ pairs. isolated_found N _ _ (λ nodes is. isolated_with_scope _ (deeper_isolated nodes (partials_within name nodes is)))))

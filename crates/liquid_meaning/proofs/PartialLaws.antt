@@ -4,15 +4,15 @@ use mathlib.Core.Path.{refl, sym, ap, subst, ◌∙◌}
 use Rattle.std.specs.List.{list_any}
 use Rattle.std.specs.Option.{ok_or}
 use Rattle.liquid_model.specs.Texts.{Text, same_text, ◌else◌}
-use Rattle.liquid_model.specs.Data.{Datum, nil, truth, number, text, array, object}
+use Rattle.liquid_model.specs.Data.{Datum, nil, truth, number, text, array, object, text_of}
 use Rattle.liquid_model.specs.Maps.{Map, empty, merged, listed}
 use Rattle.liquid_core.specs.Environment.{Names, Environment}
 use Rattle.liquid_core.specs.Expression.{Expression, literal, variable}
 use Rattle.liquid_core.specs.Expressions.{required, value_of}
 use Rattle.liquid_core.specs.Loops.{loop_scope, forloop_object}
 use Rattle.liquid_core.specs.declared.interrupt.Interrupt.{Interrupt}
-use Rattle.liquid_evaluation.specs.Tree.{Bindings, Node, plain, raw, comment, output, assign, increment, decrement, break_loop, continue_loop, cycle, if_true, unless, case_of, for_each, tablerow, capture, ifchanged, include, jekyll_include, render, Nodes, no_nodes, node, Whens, no_whens, when}
-use Rattle.liquid_evaluation.specs.Evaluation.{FilterAnswers, truth_of, source_items, amount, selected_items, bound_values}
+use Rattle.liquid_evaluation.specs.Tree.{Bindings, Node, plain, raw, comment, output, assign, increment, decrement, break_loop, continue_loop, cycle, if_true, unless, case_of, for_each, tablerow, capture, ifchanged, filtered, include, jekyll_include, render, Nodes, no_nodes, node, Whens, no_whens, when}
+use Rattle.liquid_evaluation.specs.Evaluation.{FilterAnswers, through, truth_of, source_items, amount, selected_items, bound_values}
 use Rattle.liquid_evaluation.specs.PartialCalls.{PartialCall, of_any_name, of_name, of_name_or_liquid, call_of_expression, node_calls, nodes_calls, whens_calls, looks_up, IsClosed}
 use Rattle.liquid_meaning.specs.Runs.{Nothing, Run, done, evaluate, read_environment, change, write, go_on, after_text, ◌>>=◌, with_scope, buffered, apart}
 use Rattle.liquid_meaning.specs.Effects.{assigned_to, changed_to, is_last_text, variable_or_nil, unless_interrupted}
@@ -148,6 +148,7 @@ module _ (N : Names) (ps qs : List (Text × Nodes)) (answers : FilterAnswers) (a
       node_same (tablerow name source window columns body) h = then_same _ (λ all. then_same _ (λ asked. then_same _ (λ items. λ i. rows name (columns_of (length items) asked) items (nodes_same body h i))))
       node_same (capture name body) h = λ i. buffered (nodes_same body h i) >>= (λ t. change (assigned_to name (text t)))
       node_same (ifchanged body) h = λ i. buffered (nodes_same body h i) >>= (λ t. read_environment (λ e. e.registers.changed) >>= (λ last. cond (is_last_text last t) (done tt) (write t) >>= (λ a. change (changed_to t))))
+      node_same (filtered filters body) h = λ i. buffered (nodes_same body h i) >>= (λ t. evaluate (through answers filters (text t)) >>= (λ d. write (text_of d)))
       node_same (include x bindings) h = named_same Included of_name included (λ all name. all name) _ _ (λ name good. then_same _ (λ pairs. partial_same name (λ m. with_scope (pairs_scope pairs) m) good)) x h
       node_same (jekyll_include name bindings) h = then_same _ (λ pairs. partial_same name (λ m. with_scope (include_scope pairs) m) (included name h))
       node_same (render x None bindings) h = named_same Rendered of_name_or_liquid rendered (λ all name. (all name, λ none. all (name ++ codes ".liquid"))) _ _

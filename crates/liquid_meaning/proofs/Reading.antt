@@ -12,23 +12,23 @@ use Rattle.liquid_model.specs.Whole.{whole}
 use Rattle.liquid_model.specs.declared.error.ErrorKind.{ErrorKind}
 use Rattle.liquid_core.specs.Expression.{Expression}
 use Rattle.liquid_core.specs.Loops.{loop_scope, forloop_object, tablerow_object}
-use Rattle.liquid_evaluation.specs.Tree.{Chain, Bindings, Node, plain, raw, comment, output, assign, increment, decrement, break_loop, continue_loop, cycle, if_true, unless, case_of, for_each, tablerow, capture, ifchanged, include, jekyll_include, render, Nodes, no_nodes, node, Whens, no_whens, when}
+use Rattle.liquid_evaluation.specs.Tree.{FilterCall, Chain, Bindings, Node, plain, raw, comment, output, assign, increment, decrement, break_loop, continue_loop, cycle, if_true, unless, case_of, for_each, tablerow, capture, ifchanged, filtered, include, jekyll_include, render, Nodes, no_nodes, node, Whens, no_whens, when}
 use Rattle.liquid_core.specs.Environment.{Environment, Registers, bind_each, lookup}
 use Rattle.liquid_core.specs.declared.interrupt.Interrupt.{Interrupt}
 use Rattle.liquid_core.specs.Expressions.{required}
-use Rattle.liquid_evaluation.specs.Evaluation.{chain_value, bound_values}
+use Rattle.liquid_evaluation.specs.Evaluation.{chain_value, through, bound_values}
 use Rattle.liquid_evaluation.specs.declared.comparison.ComparisonOperator.TheVariants.{Equals}
 use Rattle.liquid_meaning.specs.Runs.{Nothing, Run, done, read_environment, evaluate, change, write, ◌>>=◌}
 use Rattle.liquid_meaning.specs.Effects.{assigned_to, counted_to, interrupted_by, counter_number, variable_or_nil, take_interrupt, if_none, unless_interrupted, is_last_text}
 use Rattle.liquid_meaning.specs.Loops.{if_empty, columns_of, needs_columns, cell_start, cell_end, loop, rows}
 use Rattle.liquid_meaning.specs.Meaning.{Setting, write_item, cycle_meaning, has_equal, within_i64, named, partial_name_text, found_partial, pairs_scope, include_scope, render_apart, node_meaning, nodes_meaning, whens_meaning, deeper_meaning, meaning}
 use Rattle.liquid_model.specs.Uses.{Use, nothing, everything, parts, there, shape_of, Pairwise, Alike, asks_whether, present}
-use Rattle.liquid_meaning.specs.Reading.{Uses, Needs, grants, grants_all, grants_optional, use_beside, grants_compared, grants_values, grants_condition, seen_limit, grants_source, grants_window, grants_bindings, grants_chain, bound_use, all_of, is_flat, grants_node, grants_nodes, grants_whens, grants_partials}
+use Rattle.liquid_meaning.specs.Reading.{Uses, Needs, grants, grants_all, grants_optional, use_beside, grants_compared, grants_values, grants_condition, seen_limit, grants_source, grants_window, grants_bindings, grants_filters, use_before, grants_chain, bound_use, all_of, is_flat, grants_node, grants_nodes, grants_whens, grants_partials}
 use Rattle.liquid_meaning.specs.Reads.{AlikeMaps, AlikeIn, Both, Respects, ReadsAlone}
 use Rattle.liquid_model.proofs.Alike.{both_left, both_right, alike_same, alike_shape, alike_present, present_asks, AlikeLists, pairwise_length}
 use Rattle.liquid_meaning.proofs.AlikeMaps.{alike_empty, alike_insert, alike_merged}
 use Rattle.liquid_meaning.proofs.Comparisons.{beside_asks, Sides, sides_equal}
-use Rattle.liquid_meaning.proofs.Seen.{Same, equal_both, lookup_alike, required_equal, sides_alike, chain_alike, truth_equal, amount_equal, bound_alike}
+use Rattle.liquid_meaning.proofs.Seen.{Same, equal_both, lookup_alike, required_equal, sides_alike, through_alike, chain_alike, truth_equal, amount_equal, bound_alike}
 use Rattle.liquid_meaning.proofs.SeenItems.{AlikeUpTo, source_alike, asked_alike}
 use Rattle.liquid_meaning.proofs.Tied.{TiedOutcomes, Tied, tied_done, tied_fault, tied_write, tied_read, tied_evaluate, tied_value, tied_change, tied_bind, tied_then, tied_cond, tied_with_scope, tied_buffered, tied_apart, tied_for_all, tied_until_break}
 
@@ -211,14 +211,18 @@ module _ (needs : Needs) (U : Uses) (setting : Setting) (respects : Respects set
       tied_apart _ _ (alike_merged U s t (pairs_scope ps) (pairs_scope qs) a (alike_bound U ps qs empty empty b (alike_empty U))) (deeper_tied nodes (either_granted name (name ++ codes ".liquid") nodes is))))
 
   -- an equal value where everything is granted
+  equal_values : (x y : Result Datum ErrorKind) → Both (λ c d. Some c ≡ Some d) x y → Both Same x y
+  equal_values (Ok c) (Ok d) k = ap (λ o. unwrap_or o nil) k
+  equal_values (Ok c) (Err l) k = absurd k
+  equal_values (Err j) (Ok d) k = absurd k
+  equal_values (Err j) (Err l) k = k
+
   chain_same : (e f : Environment) → AlikeIn U e f → (chain : Chain) → T (grants_chain needs U everything chain) → Both Same (chain_value setting.answers chain e) (chain_value setting.answers chain f)
-  chain_same e f a chain h = at (chain_value setting.answers chain e) (chain_value setting.answers chain f) (chain_alike U e f a setting.answers needs respects chain everything tt h)
-    where
-      at : (x y : Result Datum ErrorKind) → Both (λ c d. Some c ≡ Some d) x y → Both Same x y
-      at (Ok c) (Ok d) k = ap (λ o. unwrap_or o nil) k
-      at (Ok c) (Err l) k = absurd k
-      at (Err j) (Ok d) k = absurd k
-      at (Err j) (Err l) k = k
+  chain_same e f a chain h = equal_values (chain_value setting.answers chain e) (chain_value setting.answers chain f) (chain_alike U e f a setting.answers needs respects chain everything tt h)
+
+  through_same : (e f : Environment) → AlikeIn U e f → (calls : List FilterCall) → T (grants_filters U calls) → (d : Datum) → Both Same (through setting.answers calls d e) (through setting.answers calls d f)
+  through_same e f a calls h d = equal_values (through setting.answers calls d e) (through setting.answers calls d f)
+      (through_alike U e f a setting.answers needs respects calls everything h d d (alike_same (use_before needs calls everything) (Some d)))
 
   included : (ps qs : List (Text × Datum)) → ps ≡ qs → AlikeMaps U (include_scope ps) (include_scope qs)
   included ps qs is = subst (λ rs. AlikeMaps U (include_scope ps) (include_scope rs)) is (λ name. alike_same (U name) (include_scope ps name))
@@ -273,6 +277,8 @@ module _ (needs : Needs) (U : Uses) (setting : Setting) (respects : Respects set
     node_tied (capture name body) h = tied_then (tied_buffered (nodes_tied body h)) (λ t. tied_assign U name (text t) (text t) (alike_same (U name) _))
     node_tied (ifchanged body) h = tied_then (tied_buffered (nodes_tied body h))
         (λ t. tied_then (tied_read Same _ _ (λ e f a i. (a.registers i).changed)) (λ last. tied_then (tied_cond (is_last_text last t) (tied_done Same tt tt refl) (tied_write t)) (λ a. tied_registers U _ (λ r. record r { changed = Some t }) (λ e. refl))))
+    node_tied (filtered filters body) h = tied_then (tied_buffered (nodes_tied body (both_right (grants_filters U filters) _ h)))
+        (λ t. tied_then (tied_evaluate Same _ _ (λ e f a. through_same e f a filters (both_left (grants_filters U filters) _ h) (text t))) (λ d. tied_write _))
     node_tied (include x bindings) h = tied_then (tied_name U x (both_left (grants U x everything) _ h))
         (λ name. tied_bind (tied_pairs U bindings (both_right (grants U x everything) _ h))
         (λ ps qs b. tied_found U (listed setting.partials name) _ _ (λ nodes is. tied_with_scope (pairs_scope ps) (pairs_scope qs) (alike_bound U ps qs empty empty b (alike_empty U)) (deeper_tied nodes (partials_granted name nodes is)))))

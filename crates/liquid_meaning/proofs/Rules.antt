@@ -13,8 +13,8 @@ use Rattle.liquid_core.specs.Expressions.{required}
 use Rattle.liquid_core.specs.Loops.{loop_scope, forloop_object}
 use Rattle.liquid_core.specs.declared.interrupt.Interrupt.{Interrupt}
 use Rattle.liquid_core.specs.declared.interrupt.Interrupt.TheVariants.{Break, Continue}
-use Rattle.liquid_evaluation.specs.Tree.{Bindings, Chain, Condition, Nodes, Source, Whens, Window, no_whens, when, plain, raw, comment, output, assign, increment, decrement, break_loop, continue_loop, cycle, if_true, unless, case_of, for_each, tablerow, capture, ifchanged, include, jekyll_include, render}
-use Rattle.liquid_evaluation.specs.Evaluation.{chain_value, truth_of, source_items, amount, selected_items, bound_values}
+use Rattle.liquid_evaluation.specs.Tree.{Bindings, FilterCall, Chain, Condition, Nodes, Source, Whens, Window, no_whens, when, plain, raw, comment, output, assign, increment, decrement, break_loop, continue_loop, cycle, if_true, unless, case_of, for_each, tablerow, capture, ifchanged, filtered, include, jekyll_include, render}
+use Rattle.liquid_evaluation.specs.Evaluation.{chain_value, through, truth_of, source_items, amount, selected_items, bound_values}
 use Rattle.liquid_meaning.specs.Runs.{Nothing, Run, done, read_environment, evaluate, change, write, go_on, ◌>>=◌, with_scope, buffered, apart}
 use Rattle.liquid_meaning.specs.Effects.{assigned_to, counted_to, interrupted_by, changed_to, counter_number, is_break, is_last_text, variable_or_nil}
 use Rattle.liquid_meaning.specs.Loops.{columns_of, for_all, if_empty, loop, rows, until_break}
@@ -110,6 +110,11 @@ module _ (setting : Setting) (deeper : Nodes → Run Nothing) where
       ≡ (buffered (nodes_meaning setting deeper body) >>= (λ t. read_environment (λ e. e.registers.changed) >>= (λ last. cond (is_last_text last t) (done tt) (write t) >>= (λ a. change (changed_to t)))))
   unfolding node_meaning
   ifchanged_rule body = refl
+
+  pub filtered_rule : (filters : List FilterCall) (body : Nodes) → node_meaning setting deeper (filtered filters body)
+      ≡ (buffered (nodes_meaning setting deeper body) >>= (λ t. evaluate (through setting.answers filters (text t)) >>= (λ d. write (text_of d))))
+  unfolding node_meaning
+  filtered_rule filters body = refl
 
   pub for_rule : (name : Text) (source : Source) (window : Window) (body otherwise : Nodes) → node_meaning setting deeper (for_each name source window body otherwise)
       ≡ (evaluate (source_items source) >>= (λ all. evaluate (selected_items window all) >>= (λ items. read_environment (variable_or_nil (codes "forloop")) >>= (λ parent.

@@ -16,8 +16,8 @@ use Rattle.liquid_core.specs.Environment.{Environment}
 use Rattle.liquid_evaluation.specs.declared.comparison.ComparisonOperator.{ComparisonOperator}
 use Rattle.liquid_evaluation.specs.declared.comparison.ComparisonOperator.TheVariants.{Equals, NotEquals, LessThan, GreaterThan, LessThanEquals, GreaterThanEquals, Contains}
 use Rattle.liquid_evaluation.specs.Calls.{applied}
-use Rattle.liquid_evaluation.specs.Tree.{Filter, existing, hosted, FilterCall, Chain, Atom, bare, compared, Condition, Source, each_of, counted, Window, Bindings, Node, plain, raw, comment, output, assign, increment, decrement, break_loop, continue_loop, cycle, if_true, unless, case_of, for_each, tablerow, capture, ifchanged, include, jekyll_include, render, Nodes, no_nodes, node, Whens, no_whens, when}
-use Rattle.liquid_evaluation.specs.Evaluation.{FilterAnswers, answers_in, entry_value, calls_by, chain_value, contains, comparison_truth, truth_of_found, atom_truth, all_true, truth_of, value_items, not_too_long, source_items, amount, selected_items, bound_values}
+use Rattle.liquid_evaluation.specs.Tree.{Filter, existing, hosted, FilterCall, Chain, Atom, bare, compared, Condition, Source, each_of, counted, Window, Bindings, Node, plain, raw, comment, output, assign, increment, decrement, break_loop, continue_loop, cycle, if_true, unless, case_of, for_each, tablerow, capture, ifchanged, filtered, include, jekyll_include, render, Nodes, no_nodes, node, Whens, no_whens, when}
+use Rattle.liquid_evaluation.specs.Evaluation.{FilterAnswers, answers_in, entry_value, calls_by, through, chain_value, contains, comparison_truth, truth_of_found, atom_truth, all_true, truth_of, value_items, not_too_long, source_items, amount, selected_items, bound_values}
 use Rattle.liquid_meaning.specs.Runs.{Nothing, Run, done, read_environment, evaluate, fault, change, write, go_on, ◌>>=◌, with_scope, ended_with, buffered, apart}
 use Rattle.liquid_meaning.specs.Effects.{take_interrupt, if_none, unless_interrupted}
 use Rattle.liquid_meaning.specs.Loops.{until_break, for_all, if_empty, needs_columns, loop, rows}
@@ -130,9 +130,12 @@ module _ (limit : ℕ) (least : (kind : ErrorKind) → T (is_run_kind kind) → 
   ended_entry missing None [] = ended_missing nil missing
   ended_entry missing None (call ∷ calls) = ended_ok nil
 
+  ended_through : (answers : FilterAnswers) → ((filter : Filter) (d : Datum) (ds : List Datum) → Ended (answers filter d ds)) → (calls : List FilterCall) (d : Datum) (e : Environment) → Ended (through answers calls d e)
+  ended_through answers i calls d e = ended_calls (answers_in e.missing answers) (ended_answers e.missing answers i) calls d e
+
   ended_chain : (answers : FilterAnswers) → ((filter : Filter) (d : Datum) (ds : List Datum) → Ended (answers filter d ds)) → (chain : Chain) (e : Environment) → Ended (chain_value answers chain e)
   unfolding chain_value
-  ended_chain answers i chain e = ended_then (ended_entry e.missing (value_of chain.entry e) chain.filters) (λ d. ended_calls (answers_in e.missing answers) (ended_answers e.missing answers i) chain.filters d e)
+  ended_chain answers i chain e = ended_then (ended_entry e.missing (value_of chain.entry e) chain.filters) (λ d. ended_through answers i chain.filters d e)
 
   ended_contains : (missing : Missing) (c d : Datum) → Ended (contains missing c d)
   ended_contains missing nil d = ended_forgiven UnexpectedValue false missing tt
@@ -364,6 +367,7 @@ module _ (limit : ℕ) (least : (kind : ErrorKind) → T (is_run_kind kind) → 
           (λ items. ends_rows name _ items (nodes_end body))))
       node_ends (capture name body) = ends_bind (ends_buffered (nodes_end body)) (λ t. ends_change _)
       node_ends (ifchanged body) = ends_bind (ends_buffered (nodes_end body)) (λ t. ends_bind (ends_read _) (λ last. ends_bind (ends_cond _ (ends_done tt) (ends_write t)) (λ a. ends_change _)))
+      node_ends (filtered filters body) = ends_bind (ends_buffered (nodes_end body)) (λ t. ends_bind (ends_evaluate (ended_through setting.answers answers_end filters (text t))) (λ d. ends_write _))
       node_ends (include x bindings) = ends_bind (ends_name x) (λ name. ends_bind (ends_pairs bindings) (λ pairs. ends_bind (ends_found _) (λ partial. ends_with_scope _ (deeper_ends partial))))
       node_ends (jekyll_include name bindings) = ends_bind (ends_pairs bindings) (λ pairs. ends_bind (ends_found _) (λ partial. ends_with_scope _ (deeper_ends partial)))
       node_ends (render x None bindings) = ends_bind (ends_name x) (λ name. ends_bind (ends_render_apart name bindings _) (λ left. ends_done tt))

@@ -20,7 +20,7 @@ use Rattle.liquid_model.specs.Fallible.{◌>>=◌}
 use Rattle.liquid_evaluation.specs.Calls.{applied}
 use Rattle.liquid_model.specs.FilterAnswers.{FilterAnswer}
 use Rattle.liquid_evaluation.specs.Tree.{Filter, existing, hosted, FilterCall, Chain, Atom, bare, compared, Condition, Bindings}
-use Rattle.liquid_evaluation.specs.Evaluation.{FilterAnswers, accepting_nil, answers_in, entry_value, calls_by, chain_value, truth_of_found, bare_truth, atom_truth, all_true, truth_of, amount, bound_values}
+use Rattle.liquid_evaluation.specs.Evaluation.{FilterAnswers, accepting_nil, answers_in, entry_value, calls_by, through, chain_value, truth_of_found, bare_truth, atom_truth, all_true, truth_of, amount, bound_values}
 use Rattle.liquid_model.specs.Uses.{Use, everything, there, shape, shape_of, member, Pairwise, Alike, use_at, is_everything, asks_whether, present}
 use Rattle.liquid_meaning.specs.Reading.{Uses, known_key, key, for_known_key, grants, grants_along, grants_all, grants_optional, grants_filters, Needs, use_before, grants_chain, use_beside, grants_compared, grants_atom, grants_atoms, grants_condition, grants_bindings}
 use Rattle.liquid_meaning.specs.Reads.{AlikeIn, Both, Respects}
@@ -304,14 +304,18 @@ module _ (U : Uses) (e f : Environment) (agree : AlikeIn U e f) where
     use_before_asks (call ∷ calls) v asks = present_asks (needs call (use_before needs calls v))
 
   module _ (answers : FilterAnswers) (needs : Needs) (respects : Respects answers needs) where
+    pub through_alike : (calls : List FilterCall) (v : Use) → T (grants_filters U calls) → (c d : Datum) → Alike (use_before needs calls v) (Some c) (Some d)
+        → Both (λ a b. Alike v (Some a) (Some b)) (through answers calls c e) (through answers calls d f)
+    through_alike calls v h c d a = subst (λ m. Both (λ a b. Alike v (Some a) (Some b)) (through answers calls c e) (applied (calls_by (answers_in m answers) calls) d f)) agree.missing
+        (calls_alike answers needs respects e.missing calls v h c d a)
+
     pub chain_alike : (chain : Chain) (v : Use) → T (asks_whether v) → T (grants_chain needs U v chain) → Both (λ c d. Alike v (Some c) (Some d)) (chain_value answers chain e) (chain_value answers chain f)
     unfolding chain_value grants_chain
     chain_alike chain v asks h =
         let u = use_before needs chain.filters v in
         both_then (λ c d. Alike (use_before needs chain.filters v) (Some c) (Some d)) _ _ _ _ _
         (entries_alike u (use_before_asks answers needs respects e.missing chain.filters v asks) chain.filters (value_of chain.entry e) (value_of chain.entry f) (value_alike chain.entry u (both_left (grants U chain.entry u) _ h)))
-        (λ c d a. subst (λ m. Both (λ a b. Alike v (Some a) (Some b)) (applied (calls_by (answers_in e.missing answers) chain.filters) c e) (applied (calls_by (answers_in m answers) chain.filters) d f)) agree.missing
-        (calls_alike answers needs respects e.missing chain.filters v (both_right (grants U chain.entry u) _ h) c d a))
+        (through_alike chain.filters v (both_right (grants U chain.entry u) _ h))
 
   atom_equal : (atom : Atom) → T (grants_atom U atom) → atom_truth atom e ≡ atom_truth atom f
   unfolding atom_truth grants_atom grants_compared

@@ -8,7 +8,7 @@ use Rattle.liquid_core.specs.declared.interrupt.Interrupt.{Interrupt}
 use Rattle.liquid_core.specs.Expression.{Expression}
 use Rattle.liquid_model.specs.Maps.{Map, insert, merged}
 use Rattle.liquid_core.specs.Environment.{Environment}
-use Rattle.liquid_evaluation.specs.Tree.{Bindings, Node, plain, raw, comment, output, assign, increment, decrement, break_loop, continue_loop, cycle, if_true, unless, case_of, for_each, tablerow, capture, ifchanged, include, jekyll_include, render, Nodes, no_nodes, node, Whens, no_whens, when}
+use Rattle.liquid_evaluation.specs.Tree.{Bindings, Node, plain, raw, comment, output, assign, increment, decrement, break_loop, continue_loop, cycle, if_true, unless, case_of, for_each, tablerow, capture, ifchanged, filtered, include, jekyll_include, render, Nodes, no_nodes, node, Whens, no_whens, when}
 use Rattle.liquid_meaning.specs.Runs.{Nothing, Run, done, read_environment, evaluate, fault, change, write, go_on, ◌>>=◌, with_scope, buffered, apart}
 use Rattle.liquid_meaning.specs.Effects.{assigned_to, counted_to, take_interrupt, if_none, unless_interrupted}
 use Rattle.liquid_meaning.specs.Loops.{until_break, for_all, if_empty, needs_columns, loop, rows}
@@ -47,7 +47,7 @@ module _ {name : Text} where
   unfolding read_environment
   stays_read x = record { stays = λ e h. h }
 
-  stays_evaluate : {A : Type 0} (x : Environment → Result A ErrorKind) → Stays name (evaluate x)
+  pub stays_evaluate : {A : Type 0} (x : Environment → Result A ErrorKind) → Stays name (evaluate x)
   unfolding evaluate
   stays_evaluate x = record { stays = λ e h. h }
 
@@ -166,6 +166,7 @@ module _ {name : Text} (setting : Setting) (deeper : Nodes → Run Nothing) (dee
         (λ items. stays_rows variable _ items (nodes_stay body))))
     node_stays (capture target body) = stays_bind (stays_buffered (nodes_stay body)) (λ t. stays_assign target _)
     node_stays (ifchanged body) = stays_bind (stays_buffered (nodes_stay body)) (λ t. stays_bind (stays_read _) (λ last. stays_bind (stays_cond _ (stays_done tt) (stays_write t)) (λ a. stays_change _ (λ e. refl))))
+    node_stays (filtered filters body) = stays_bind (stays_buffered (nodes_stay body)) (λ t. stays_bind (stays_evaluate _) (λ d. stays_write _))
     node_stays (include x bindings) = stays_bind (stays_evaluate _) (λ partial. stays_bind (stays_evaluate _) (λ pairs. stays_bind (stays_evaluate _) (λ nodes. stays_with_scope _ (deeper_stays nodes))))
     node_stays (jekyll_include partial bindings) = stays_bind (stays_evaluate _) (λ pairs. stays_bind (stays_evaluate _) (λ nodes. stays_with_scope _ (deeper_stays nodes)))
     node_stays (render x None bindings) = stays_bind (stays_evaluate _) (λ partial. stays_bind (stays_render_apart partial bindings _) (λ left. stays_done tt))

@@ -10,9 +10,9 @@ use Rattle.liquid_model.specs.Maps.{Map, merged}
 use Rattle.liquid_core.specs.Expression.{Expression}
 use Rattle.liquid_core.specs.Environment.{Environment}
 use Rattle.liquid_core.specs.declared.interrupt.Interrupt.{Interrupt}
-use Rattle.liquid_evaluation.specs.Tree.{Chain, Condition, Source, Window, Node, assign, if_true}
-use Rattle.liquid_evaluation.specs.Tree.{unless, for_each, tablerow, capture, ifchanged, Nodes}
-use Rattle.liquid_evaluation.specs.Tree.{node}
+use Rattle.liquid_evaluation.specs.Tree.{FilterCall, Chain, Condition, Source, Window, Node}
+use Rattle.liquid_evaluation.specs.Tree.{assign, if_true, unless, for_each, tablerow, capture}
+use Rattle.liquid_evaluation.specs.Tree.{ifchanged, filtered, Nodes, node}
 use Rattle.liquid_evaluation.specs.Evaluation.{chain_value, truth_of, source_items, amount}
 use Rattle.liquid_evaluation.specs.Evaluation.{selected_items}
 use Rattle.liquid_meaning.specs.Runs.{Nothing, Run, write, ◌>>◌, with_scope}
@@ -69,6 +69,8 @@ module _ (setting : Setting) (deeper : Nodes → Run Nothing) (name : Text) wher
       in_capture : {target : Text} {body : Nodes} {e : Environment} → RanAmong body e →
           RanIn (capture target body) e
       in_ifchanged : {body : Nodes} {e : Environment} → RanAmong body e → RanIn (ifchanged body) e
+      in_filtered : {filters : List FilterCall} {body : Nodes} {e : Environment} →
+          RanAmong body e → RanIn (filtered filters body) e
       in_for : {variable : Text} {source : Source} {window : Window} {body otherwise : Nodes}
           {all items : List Datum} {d : Datum} {e : Environment}
           → source_items source e ≡ Ok all → selected_items window all e ≡ Ok (d ∷ items)

@@ -18,12 +18,12 @@ use Rattle.liquid_core.specs.Environment.{Names, Environment}
 use Rattle.liquid_core.specs.declared.missing_value.Missing.{Missing}
 use Rattle.liquid_evaluation.specs.Names.{expression_names, all_names, optional_names, chain_names}
 use Rattle.liquid_evaluation.specs.Names.{condition_names, source_names, window_names, bound_names}
-use Rattle.liquid_evaluation.specs.Names.{target_names, include_name, mentioned}
+use Rattle.liquid_evaluation.specs.Names.{filters_names, target_names, include_name, mentioned}
 use Rattle.liquid_evaluation.specs.Tree.{Node, plain, raw, comment, output, assign, increment}
 use Rattle.liquid_evaluation.specs.Tree.{decrement, break_loop, continue_loop, cycle, if_true}
 use Rattle.liquid_evaluation.specs.Tree.{unless, case_of, for_each, tablerow, capture, ifchanged}
-use Rattle.liquid_evaluation.specs.Tree.{include, jekyll_include, render, Nodes, no_nodes, node}
-use Rattle.liquid_evaluation.specs.Tree.{Whens, no_whens, when}
+use Rattle.liquid_evaluation.specs.Tree.{filtered, include, jekyll_include, render, Nodes}
+use Rattle.liquid_evaluation.specs.Tree.{no_nodes, node, Whens, no_whens, when}
 use Rattle.liquid_meaning.specs.Runs.{Outcome}
 use Rattle.liquid_meaning.specs.Meaning.{Setting, meaning}
 use Rattle.liquid_meaning.specs.Reading.{Uses, Needs, covers}
@@ -80,6 +80,9 @@ module _ (R : PartialsRead) where
         unbound (codes "tablerow" ∷ name ∷ []) (nodes_reads body) q
     node_reads (capture name body) q = nodes_reads body q
     node_reads (ifchanged body) q = nodes_reads body q
+    -- a name that the body binds counts as read where an argument has it
+    node_reads (filtered filters body) q =
+        mentioned (filters_names filters) q || nodes_reads body q
     node_reads (include x bindings) q = mentioned (expression_names x ++ bound_names bindings) q ||
         unbound (target_names bindings) (R (literal_name x)) q
     node_reads (jekyll_include name bindings) q = mentioned (bound_names bindings) q ||

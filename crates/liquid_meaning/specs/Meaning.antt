@@ -28,10 +28,10 @@ use Rattle.liquid_core.specs.declared.interrupt.Interrupt.TheVariants.{Break, Co
 use Rattle.liquid_evaluation.specs.Tree.{Bindings, Node, plain, raw, comment, output, assign}
 use Rattle.liquid_evaluation.specs.Tree.{increment, decrement, break_loop, continue_loop, cycle}
 use Rattle.liquid_evaluation.specs.Tree.{if_true, unless, case_of, for_each, tablerow, capture}
-use Rattle.liquid_evaluation.specs.Tree.{ifchanged, include, jekyll_include, render, Nodes}
-use Rattle.liquid_evaluation.specs.Tree.{no_nodes, node, Whens, no_whens, when}
-use Rattle.liquid_evaluation.specs.Evaluation.{FilterAnswers, chain_value, truth_of, source_items}
-use Rattle.liquid_evaluation.specs.Evaluation.{amount, selected_items, bound_values}
+use Rattle.liquid_evaluation.specs.Tree.{ifchanged, filtered, include, jekyll_include, render}
+use Rattle.liquid_evaluation.specs.Tree.{Nodes, no_nodes, node, Whens, no_whens, when}
+use Rattle.liquid_evaluation.specs.Evaluation.{FilterAnswers, chain_value, through, truth_of}
+use Rattle.liquid_evaluation.specs.Evaluation.{source_items, amount, selected_items, bound_values}
 use Rattle.liquid_meaning.specs.Runs.{Nothing, Run, done, read_environment, evaluate, fault, change}
 use Rattle.liquid_meaning.specs.Runs.{write}
 use Rattle.liquid_meaning.specs.Runs.{◌>>=◌, ◌>>◌, with_scope, buffered, apart}
@@ -166,6 +166,11 @@ module _ (setting : Setting) (deeper : Nodes → Run Nothing) where
       last ← read_environment (λ e. e.registers.changed)
       cond (is_last_text last t) (done tt) (write t)
       change (changed_to t)
+    -- the body's text goes through the filters, as the body left the names of their arguments
+    node_meaning (filtered filters body) = do
+      t ← buffered (nodes_meaning body)
+      d ← evaluate (through setting.answers filters (text t))
+      write (text_of d)
     -- the partial runs in the caller's environment, with the pairs as a scope
     node_meaning (include x bindings) = do
       name ← evaluate (partial_name_text x)

@@ -20,8 +20,9 @@ use Rattle.liquid_evaluation.specs.Tree.{FilterCall, Chain, Atom, bare, compared
 use Rattle.liquid_evaluation.specs.Tree.{each_of, counted, Window, Bindings, Node, plain, raw}
 use Rattle.liquid_evaluation.specs.Tree.{comment, output, assign, increment, decrement, break_loop}
 use Rattle.liquid_evaluation.specs.Tree.{continue_loop, cycle, if_true, unless, case_of, for_each}
-use Rattle.liquid_evaluation.specs.Tree.{tablerow, capture, ifchanged, include, jekyll_include}
-use Rattle.liquid_evaluation.specs.Tree.{render, Nodes, no_nodes, node, Whens, no_whens, when}
+use Rattle.liquid_evaluation.specs.Tree.{tablerow, capture, ifchanged, filtered, include}
+use Rattle.liquid_evaluation.specs.Tree.{jekyll_include, render, Nodes, no_nodes, node, Whens}
+use Rattle.liquid_evaluation.specs.Tree.{no_whens, when}
 use Rattle.liquid_meaning.specs.Meaning.{Setting}
 use Rattle.liquid_model.specs.Uses.{Use, everything, parts, no_fields, up_to, there, is_everything}
 use Rattle.liquid_model.specs.Uses.{asks_whether, present, use_at, includes}
@@ -210,6 +211,8 @@ module _ (needs : Needs) where
         (grants_optional U columns && (grants_window U window && grants_nodes U body))
     grants_node U (capture name body) = grants_nodes U body
     grants_node U (ifchanged body) = grants_nodes U body
+    -- what goes through the filters is the body's text, and nothing of the environment
+    grants_node U (filtered filters body) = grants_filters U filters && grants_nodes U body
     grants_node U (include x bindings) = grants U x everything &&
         grants_bindings U (bound_use U) bindings
     grants_node U (jekyll_include name bindings) = grants_bindings U all_of bindings

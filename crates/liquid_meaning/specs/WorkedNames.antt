@@ -8,6 +8,7 @@ use Rattle.liquid_evaluation.specs.Tree.{increment, cycle, case_of, tablerow, in
 use Rattle.liquid_evaluation.specs.Tree.{jekyll_include, render, Nodes, no_nodes, no_whens, when}
 use Rattle.liquid_evaluation.specs.Tree.{bare, compared, Condition, Window, Chain, output}
 use Rattle.liquid_evaluation.specs.Tree.{decrement, if_true, unless, for_each, capture, ifchanged}
+use Rattle.liquid_evaluation.specs.Tree.{filtered}
 use Rattle.liquid_evaluation.specs.Groups.{group_of}
 use Rattle.liquid_evaluation.specs.Names.{run_names, mentioned}
 use Rattle.liquid_meaning.specs.Within.{Within}
@@ -30,6 +31,10 @@ filtered_by filter = record {
     arguments = name "b" ∷ [];
   } ∷ [];
 }
+
+-- {% filter b %}{{ a }}{% endfilter %}, of a host
+abbrev pub block_through : Filter → Node
+block_through filter = filtered ((filtered_by filter).filters) (tree (show (name "a") ∷ []))
 
 -- `a == b and c or d`
 abbrev pub two_conjunctions : Condition
@@ -111,6 +116,9 @@ pub record WorkedNames : Type 0 where
   pub of_capture : NamesAre [] (capture (codes "c") (tree (show (name "a") ∷ [])) ∷ [])
       (codes "a" ∷ codes "c" ∷ [])
   pub of_ifchanged : NamesAre [] (ifchanged (tree (show (name "a") ∷ [])) ∷ []) (codes "a" ∷ [])
+  -- of a host: {% filter b %}{{ a }}{% endfilter %}
+  pub of_filtered : (filter : Filter) → NamesAre [] (block_through filter ∷ [])
+      (codes "a" ∷ codes "b" ∷ [])
   -- {% include a b: c %}, {% render a, b: c %} and {% render a for d as x, b: c %}
   pub of_stdlib_include : NamesAre [] (include (name "a") ((codes "b", name "c") ∷ []) ∷ [])
       (codes "a" ∷ codes "b" ∷ codes "c" ∷ [])

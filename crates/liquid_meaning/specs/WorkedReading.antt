@@ -8,9 +8,9 @@ use Rattle.liquid_model.specs.Data.{no_pairs, pair}
 use Rattle.liquid_core.specs.Expression.{literal, variable, no_steps, step}
 use Rattle.liquid_evaluation.specs.declared.comparison.ComparisonOperator.TheVariants.{Contains}
 use Rattle.liquid_evaluation.specs.declared.comparison.ComparisonOperator.TheVariants.{Equals}
-use Rattle.liquid_evaluation.specs.Tree.{each_of, existing, Chain, Node, assign, bare, if_true}
-use Rattle.liquid_evaluation.specs.Tree.{case_of, for_each, increment, Nodes, no_nodes, output}
-use Rattle.liquid_evaluation.specs.Tree.{render, Whens, no_whens, when}
+use Rattle.liquid_evaluation.specs.Tree.{each_of, existing, hosted, Chain, Node, assign, bare}
+use Rattle.liquid_evaluation.specs.Tree.{if_true, case_of, for_each, increment, Nodes, no_nodes}
+use Rattle.liquid_evaluation.specs.Tree.{output, render, Whens, no_whens, when}
 use Rattle.liquid_core.specs.Expression.{Expression}
 use Rattle.liquid_filters.specs.declared.kind.FilterKind.{FilterKind}
 use Rattle.liquid_filters.specs.declared.kind.FilterKind.TheVariants.{Compact, Default, Map, Size}
@@ -24,6 +24,7 @@ use Rattle.liquid_model.specs.Projected.{projected}
 use Rattle.liquid_meaning.specs.Worked.{name, variable_property, text_literal, integer}
 use Rattle.liquid_meaning.specs.Worked.{without_filters, show, tree}
 use Rattle.liquid_meaning.specs.Worked.{if_compared, for_in, no_filters}
+use Rattle.liquid_meaning.specs.WorkedNames.{block_through}
 
 -- of these names these uses
 abbrev pub fields : List (String × Use) → Fields
@@ -58,8 +59,8 @@ abbrev pub covered_by_filters : List (String × Use) → List Node → Bool
 covered_by_filters fs nodes = covered_by known_needs fs [] nodes
 
 -- s | filter: arguments
-abbrev pub through : String → FilterKind → List Expression → Chain
-through s kind arguments = record {
+abbrev pub one_filter : String → FilterKind → List Expression → Chain
+one_filter s kind arguments = record {
   entry = name s;
   filters = record { filter = existing kind; arguments = arguments } ∷ [];
 }
@@ -166,14 +167,21 @@ pub record WorkedReading : Type 0 where
   pub a_partial_is_looked_at : covered [] ((codes "p", tree (show (name "v") ∷ [])) ∷ []) [] ≡ false
   -- {% increment n %}
   pub a_counter : covered (("n", there) ∷ []) [] (increment (codes "n") ∷ []) ≡ true
+  -- of a host: {% f b %}{{ a }}{% endf %}
+  pub a_block : covered (("a", everything) ∷ ("b", everything) ∷ []) []
+      (block_through (hosted (codes "f")) ∷ []) ≡ true
+  pub a_block_asks_its_arguments : covered (("a", everything) ∷ ("b", there) ∷ []) []
+      (block_through (hosted (codes "f")) ∷ []) ≡ false
+  pub a_block_asks_its_body : covered (("a", there) ∷ ("b", everything) ∷ []) []
+      (block_through (hosted (codes "f")) ∷ []) ≡ false
   -- {{ a | map: 't' }} and {{ a | size }}
   pub a_map : covered_by_filters (("a", of_each (with_members (("t", everything) ∷ []))) ∷
       [])
-      (output (through "a" Map (text_literal "t" ∷ [])) ∷ []) ≡ true
+      (output (one_filter "a" Map (text_literal "t" ∷ [])) ∷ []) ≡ true
   pub a_map_asks_its_property : covered_by_filters (("a", of_each there) ∷ [])
-      (output (through "a" Map (text_literal "t" ∷ [])) ∷ []) ≡ false
+      (output (one_filter "a" Map (text_literal "t" ∷ [])) ∷ []) ≡ false
   pub a_number_of_items : covered_by_filters (("a", of_each nothing) ∷ [])
-      (output (through "a" Size []) ∷ []) ≡ true
+      (output (one_filter "a" Size []) ∷ []) ≡ true
   -- {% assign x = a | where: 't' %}{{ x.size }}
   pub a_choice : covered_by_filters ((
     "a",
@@ -181,12 +189,12 @@ pub record WorkedReading : Type 0 where
         (every (with_members (("t", everything) ∷ []))),
   ) ∷
       ("x", with_members (("size", everything) ∷ [])) ∷ [])
-      (assign (codes "x") (through "a" Where (text_literal "t" ∷ [])) ∷
+      (assign (codes "x") (one_filter "a" Where (text_literal "t" ∷ [])) ∷
       show (variable_property "x" "size") ∷ []) ≡ true
   -- {% assign x = a | compact %}{{ x.size }}
   pub a_nil_is_a_kind : covered_by_filters (("a", of_each there) ∷
       ("x", with_members (("size", everything) ∷ [])) ∷ [])
-      (assign (codes "x") (through "a" Compact []) ∷ show (variable_property "x" "size") ∷ []) ≡
+      (assign (codes "x") (one_filter "a" Compact []) ∷ show (variable_property "x" "size") ∷ []) ≡
       true
   -- {% assign x = a | default: 'n' %}{{ x.t }}
   pub a_default : covered_by_filters ((
@@ -194,12 +202,12 @@ pub record WorkedReading : Type 0 where
     parts (fields (("t", everything) ∷ []))
         (every nothing),
   ) ∷ ("x", with_members (("t", everything) ∷ [])) ∷ [])
-      (assign (codes "x") (through "a" Default (text_literal "n" ∷ [])) ∷
+      (assign (codes "x") (one_filter "a" Default (text_literal "n" ∷ [])) ∷
       show (variable_property "x" "t") ∷ []) ≡ true
   pub a_default_asks_how_many : covered_by_filters
       (("a", with_members (("t", everything) ∷ [])) ∷
       ("x", with_members (("t", everything) ∷ [])) ∷ [])
-      (assign (codes "x") (through "a" Default (text_literal "n" ∷ [])) ∷
+      (assign (codes "x") (one_filter "a" Default (text_literal "n" ∷ [])) ∷
       show (variable_property "x" "t") ∷ []) ≡ false
   -- what is left
   pub items_with_one_member : projected (of_each title) two_products ≡

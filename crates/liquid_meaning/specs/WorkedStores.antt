@@ -1,8 +1,9 @@
 -- Worked runs of what stores: variables, counters, groups of `cycle`, and buffers.
-use Rattle.std.specs.Prelude.{◌≡◌, pos, negsuc, List, [], ◌∷◌, Some, None, codes}
+use Prim.Native.String.{String}
+use Rattle.std.specs.Prelude.{◌≡◌, pos, negsuc, List, [], ◌∷◌, ◌++◌, Some, None, Ok, codes}
 use Rattle.liquid_model.specs.Texts.{Text}
 use Rattle.liquid_model.specs.Data.{Datum, number, text, object, pair, no_pairs, array, item}
-use Rattle.liquid_model.specs.Data.{no_items}
+use Rattle.liquid_model.specs.Data.{no_items, text_of}
 use Rattle.liquid_model.specs.declared.error.ErrorKind.TheVariants.{UnknownVariable, CycleBounds}
 use Rattle.liquid_model.specs.declared.error.ErrorKind.TheVariants.{NumberRange}
 use Rattle.liquid_core.specs.declared.interrupt.Interrupt.TheVariants.{Break}
@@ -11,9 +12,11 @@ use Rattle.liquid_model.specs.Maps.{empty, listed}
 use Rattle.liquid_core.specs.Environment.{Environment, new_environment}
 use Rattle.liquid_evaluation.specs.declared.comparison.ComparisonOperator.TheVariants.{GreaterThan}
 use Rattle.liquid_evaluation.specs.Tree.{Node, plain, assign, increment, decrement, break_loop}
-use Rattle.liquid_evaluation.specs.Tree.{cycle, capture, ifchanged}
+use Rattle.liquid_evaluation.specs.Tree.{hosted, cycle, capture, ifchanged, filtered}
+use Rattle.liquid_evaluation.specs.Evaluation.{FilterAnswers}
 use Rattle.liquid_evaluation.specs.Groups.{group_of}
 use Rattle.liquid_meaning.specs.Runs.{Nothing, Outcome}
+use Rattle.liquid_meaning.specs.Meaning.{meaning}
 use Rattle.liquid_meaning.specs.Worked.{name, variable_property, text_literal, integer}
 use Rattle.liquid_meaning.specs.Worked.{without_filters, show, tree}
 use Rattle.liquid_meaning.specs.Worked.{if_compared, from_to, for_in, with_data, ran, page, Writes}
@@ -36,6 +39,22 @@ with_counters pairs = record (new_environment empty) { counters = listed pairs }
 
 abbrev pub from : Environment → List Node → Outcome Nothing
 from e nodes = ran [] 32 e nodes
+
+-- a filter of a host that adds its first argument to its input, and a run with it
+abbrev pub adds_argument : FilterAnswers
+adds_argument filter input [] = Ok input
+adds_argument filter input (d ∷ ds) = Ok (text (text_of input ++ text_of d))
+
+abbrev pub page_adding : List Node → Outcome Nothing
+page_adding nodes = meaning (record { answers = adds_argument; partials = [] }) 32 (tree nodes)
+    (with_data [])
+
+-- {% add s %}body{% endadd %}, of a host
+abbrev pub adding : String → List Node → Node
+adding s body = filtered ((record {
+  filter = hosted (codes "add");
+  arguments = name s ∷ [];
+}) ∷ []) (tree body)
 
 pub record WorkedStores : Type 0 where
   -- {% assign val = 9 %}{% increment val %}{% increment val %}{{ val }}
@@ -123,3 +142,16 @@ pub record WorkedStores : Type 0 where
   pub faulted_change :
       let o = page (ifchanged (tree (plain (codes "a") ∷ [])) ∷ ifchanged (tree (plain (codes "b") ∷ show (name "nope") ∷ [])) ∷ []) in
       WritesThen o "a" UnknownVariable × (o.environment.registers.changed ≡ Some (codes "a"))
+  -- {% add a %}x{% assign a = 1 %}{% endadd %}
+  pub body_before_arguments : Writes (page_adding (adding "a" (plain (codes "x") ∷
+      assign (codes "a") (without_filters (integer 1)) ∷ []) ∷ [])) "x1"
+  -- {% add nope %}x{% increment n %}{% endadd %}
+  pub faulted_block :
+      let o = page_adding (adding "nope" (plain (codes "x") ∷ increment (codes "n") ∷ []) ∷ []) in
+      WritesThen o "" UnknownVariable × (counter_after o "n" ≡ Some (number (pos 1)))
+  -- {% assign a = 1 %}{% add a %}x{% break %}y{% endadd %}z
+  pub interrupted_block :
+      let body = plain (codes "x") ∷ break_loop ∷ plain (codes "y") ∷ [] in
+      let o = page_adding (assign (codes "a") (without_filters (integer 1)) ∷
+      adding "a" body ∷ plain (codes "z") ∷ []) in
+      Writes o "x1" × (interrupt_after o ≡ Some Break)

@@ -1,8 +1,10 @@
 -- The use that stands at a name.
-use Rattle.std.proofs.Common.{◌≡◌, List, [], ◌∷◌, String, Global, BTreeMap, Option, Some, None, option_map, Bor, Bool, true, false, cond, ◌&&◌, is_eq, bytes_eq, nat_cmp, string_bytes, refl, sym, ap, ◌∙◌, rules}
+use Rattle.std.proofs.Common.{◌≡◌, List, [], ◌∷◌, String, Global, BTreeMap, Option, Some, None, option_map, Bor, Bool, true, false, cond, ◌&&◌, Ordering, Less, Equal, Greater, is_eq, bytes_eq, nat_cmp, string_bytes, string_cmp, refl, sym, ap, ◌∙◌, rules}
+use mathlib.Core.Path.{subst}
 use Rattle.std.specs.Cmp.Lexicographic.{slice_cmp, bytes_decides}
 use Rattle.std.specs.Map.{lookup}
-use Rattle.std.specs.BTreeMap.{is_at}
+use Rattle.std.specs.BTreeMap.{insert_entry, is_at}
+use Rattle.std.specs.Ordering.{match_ordering}
 use Rattle.std.specs.Prelude.{MatchOption}
 use Rattle.std.proofs.lemmas.Map.Text.{is_eq-slice_cmp}
 use Rattle.liquid_model.specs.Texts.{Text, same_text}
@@ -83,3 +85,32 @@ turns_of_parts held other t (seen.up_to n v) = refl
 pub parts_include : (held members : seen.Fields) (t turns : seen.ItemUse) (a b : Bool) → a ≡ includes_fields (seen.parts held seen.uncounted) members → b ≡ includes_items (seen.parts seen.no_fields t) turns
     → a && b ≡ includes (seen.parts held t) (seen.parts members turns)
 parts_include held members t turns a b e f = ap (λ x. x && b) (e ∙ fields_of_parts held seen.uncounted t members) ∙ ap (λ y. includes_fields (seen.parts held t) members && y) (f ∙ turns_of_parts seen.no_fields held t turns)
+
+-- ---- one more name
+
+-- a name that isn't above or below another is that
+inserted_at : (o : Ordering) (q : Text) (k : String Global) (u : Use) (e : String Global × Use) (es : List (String Global × Use)) → slice_cmp nat_cmp (string_bytes k) (string_bytes e.0) ≡ o
+    → use_in q (members_view (insert_entry string_cmp es k u)) ≡ cond (same_text (string_bytes k) q) (use_view u) (use_in q (members_view es))
+    → use_in q (members_view (match_ordering o ((k, u) ∷ e ∷ es) ((e.0, u) ∷ es) (e ∷ insert_entry string_cmp es k u))) ≡ cond (same_text (string_bytes k) q) (use_view u) (use_in q (members_view (e ∷ es)))
+inserted_at Less q k u e es is later = refl
+inserted_at Equal q k u e es is later =
+    let same : string_bytes k ≡ string_bytes e.0 = (bytes_decides (string_bytes k) (string_bytes e.0)).0 (sym (is_eq-slice_cmp (string_bytes k) (string_bytes e.0)) ∙ ap is_eq is) in
+    subst (λ t. cond (same_text t q) (use_view u) (use_in q (members_view es)) ≡ cond (same_text (string_bytes k) q) (use_view u) (cond (same_text t q) (use_view e.1) (use_in q (members_view es)))) same (at (same_text (string_bytes k) q))
+  where
+    at : (b : Bool) → cond b (use_view u) (use_in q (members_view es)) ≡ cond b (use_view u) (cond b (use_view e.1) (use_in q (members_view es)))
+    at true = refl
+    at false = refl
+inserted_at Greater q k u e es is later = at (same_text (string_bytes e.0) q) (same_text (string_bytes k) q) refl refl
+  where
+    at : (b c : Bool) → same_text (string_bytes e.0) q ≡ b → same_text (string_bytes k) q ≡ c
+        → cond (same_text (string_bytes e.0) q) (use_view e.1) (use_in q (members_view (insert_entry string_cmp es k u))) ≡ cond (same_text (string_bytes k) q) (use_view u) (cond (same_text (string_bytes e.0) q) (use_view e.1) (use_in q (members_view es)))
+    at true true m n =
+        let same : string_bytes k ≡ string_bytes e.0 = (bytes_decides (string_bytes k) q).0 n ∙ sym ((bytes_decides (string_bytes e.0) q).0 m) in
+        let clash : is_eq Greater ≡ true = sym (ap is_eq is) ∙ is_eq-slice_cmp (string_bytes k) (string_bytes e.0) ∙ (bytes_decides (string_bytes k) (string_bytes e.0)).1 same in
+        absurd cc
+    at true false m n = rw (m, n) refl
+    at false c m n = rw m later
+
+pub use_inserted : (q : Text) (es : List (String Global × Use)) (k : String Global) (u : Use) → use_in q (members_view (insert_entry string_cmp es k u)) ≡ cond (same_text (string_bytes k) q) (use_view u) (use_in q (members_view es))
+use_inserted q [] k u = refl
+use_inserted q (e ∷ es) k u = inserted_at _ q k u e es refl (use_inserted q es k u)

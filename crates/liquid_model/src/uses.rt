@@ -64,6 +64,15 @@ impl ItemUse {
     }
 }
 
+/// Whether of each name all is asked that the other uses ask for. It takes no memory.
+pub fn includes_all(uses: &Uses, others: &Uses) -> bool
+    ensures { result
+        ≡ includes_fields (parts (members_view uses.now.entries) uncounted)
+        (members_view others.now.entries) }
+{
+    included_members(others, uses)
+}
+
 #[cycle(included)]
 fn included(asked: &Use, held: &Use) -> bool
     ensures { result ≡ includes (use_view held.now) (use_view asked.now) }

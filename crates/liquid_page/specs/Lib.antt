@@ -1,4 +1,3 @@
-pub mod Buffering
 pub mod Files
 pub mod Outcomes
 pub mod Read

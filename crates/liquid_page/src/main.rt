@@ -1,7 +1,6 @@
 //! Renders a page: `liquid_page TEMPLATE DATA [NAME=FILE ..]`.
 #![tactic(auto)]
 
-mod buffered;
 mod outcome;
 mod page_from_files;
 mod words;

@@ -9,10 +9,10 @@ ghost use Rattle.liquid_page.specs.Words.{call_view, borrowed_pair};
 ghost use Rattle.liquid_page.specs.Written.{IsBegun, IsPageWritten};
 ghost use Rattle.liquid_page_texts.specs.Page.{sources_of};
 
-use crate::buffered::Buffered;
 use crate::outcome::Outcome;
 use crate::words::{CommandLine, call_of};
 use liquid_engine::Counted;
+use liquid_files::Buffered;
 use liquid_model::{Error, ErrorKind, Origin, Result};
 use liquid_page_texts::run_without_cleanup;
 use std::alloc::{AllocError, Global};

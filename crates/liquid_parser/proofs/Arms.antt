@@ -11,7 +11,7 @@ use Rattle.liquid_evaluation.specs.Tree as tree
 use Rattle.liquid_evaluation.specs.Tree.{Nodes, no_nodes, Whens, no_whens, when, case_of}
 use Rattle.liquid_syntax.specs.declared.node.Arm.{Arm}
 use Rattle.liquid_syntax.specs.declared.node.Node.{Node}
-use Rattle.liquid_syntax.specs.declared.node.Node.TheVariants.{Text as Plain, Output, Assign, Raw, Comment, If, Unless, Capture, Case, For, TableRow, Break, Continue, Increment, Decrement, Cycle, IfChanged, Include, JekyllInclude, Render, RenderEach}
+use Rattle.liquid_syntax.specs.declared.node.Node.TheVariants.{Text as Plain, Output, Assign, Raw, Comment, If, Unless, Capture, Case, For, TableRow, Break, Continue, Increment, Decrement, Cycle, IfChanged, Filtered, Include, JekyllInclude, Render, RenderEach}
 use Rattle.liquid_parser.proofs.Grow.{set_before_seam, set_last_seam}
 
 pub case_last : (t : Expression) (vss : List (List Expression)) (es : List ℕ) (e z : ℕ) → case_flat t vss es e ≡ last_ended e (case_flat t vss es z)
@@ -141,6 +141,7 @@ no_case (Increment name) other t vss es z h = let e = some_case (flat_of (Increm
 no_case (Decrement name) other t vss es z h = let e = some_case (flat_of (Decrement name)) t vss es z h in absurd cc
 no_case (Cycle group values) other t vss es z h = let e = some_case (flat_of (Cycle group values)) t vss es z h in absurd cc
 no_case (IfChanged end) other t vss es z h = one_is_none _ (length vss) t (whens_of vss) no_nodes (λ e. absurd cc) (some_case (flat_of (IfChanged end)) t vss es z h)
+no_case (Filtered filters end) other t vss es z h = one_is_none _ (length vss) t (whens_of vss) no_nodes (λ e. absurd cc) (some_case (flat_of (Filtered filters end)) t vss es z h)
 no_case (Include name bindings) other t vss es z h = let e = some_case (flat_of (Include name bindings)) t vss es z h in absurd cc
 no_case (JekyllInclude name bindings) other t vss es z h = let e = some_case (flat_of (JekyllInclude name bindings)) t vss es z h in absurd cc
 no_case (Render name bindings) other t vss es z h = let e = some_case (flat_of (Render name bindings)) t vss es z h in absurd cc

@@ -11,11 +11,12 @@ use Rattle.liquid_language.specs.Roles.{role_of, verbatim_body}
 use Rattle.liquid_lexer.specs.Items.{Item}
 use Rattle.liquid_lexer.specs.Tokens.{Token, tokens_of}
 use Rattle.liquid_language.specs.declared.block.Block.{Block}
-use Rattle.liquid_language.specs.declared.block.Block.TheVariants.{If, Unless, Capture, Case, For, TableRow}
+use Rattle.liquid_language.specs.declared.block.Block.TheVariants.{If, Unless, Capture, Case, For, TableRow, Host}
 use Rattle.liquid_language.specs.declared.block.BlockContext.{BlockContext}
 use Rattle.liquid_language.specs.declared.block.Role.{Role}
-use Rattle.liquid_language.specs.declared.block.Role.TheVariants.{End, Control as Word, Tag, Block as Start, HostTag}
+use Rattle.liquid_language.specs.declared.block.Role.TheVariants.{End, Control as Word, Tag, Block as Start, HostBlock, HostTag}
 use Rattle.liquid_language.specs.declared.registry.BlockKind.TheVariants as blocks
+use Rattle.liquid_parser.specs.HostTags.{host_block_of}
 use Rattle.liquid_parser.specs.Nesting.{Opening, Statement, leaf, closed, begins, elsif, arm, otherwise, ends, refused}
 use Rattle.liquid_parser.specs.OpenBlocks.{Level, level, State, begun, block_depth, context_of, statement_step, at_end, with_node}
 use Rattle.liquid_parser.specs.Parsing.{ReadsTo}
@@ -122,22 +123,23 @@ unfolding start_statement
 bare_starts o [] = tt
 bare_starts o (t ∷ ts) = tt
 
-tag_starts : (l : Language) (is : List Item) (ts : List Token) (role : Option Role) → is_start role ≡ true → start_statement (tag_statement l is ts role)
+tag_starts : (l : Language) (x : BlockContext) (is : List Item) (ts : List Token) (role : Option Role) → is_start role ≡ true → start_statement (tag_statement l x is ts role)
 unfolding start_statement
-tag_starts l is ts None h = absurd cc
-tag_starts l is ts (Some End) h = absurd cc
-tag_starts l is ts (Some (Word word)) h = absurd cc
-tag_starts l is ts (Some (Tag kind)) h = absurd cc
-tag_starts l is ts (Some (HostTag n)) h = absurd cc
-tag_starts l is ts (Some (Start blocks.If)) h = two_starts If (if_of ts)
-tag_starts l is ts (Some (Start blocks.Unless)) h = two_starts Unless (unless_of ts)
-tag_starts l is ts (Some (Start blocks.Capture)) h = one_starts Capture (capture_of ts)
-tag_starts l is ts (Some (Start blocks.Case)) h = many_starts Case (case_for ts)
-tag_starts l is ts (Some (Start blocks.IfChanged)) h = bare_starts _ ts
-tag_starts l is ts (Some (Start blocks.For)) h = two_starts For (for_of ts)
-tag_starts l is ts (Some (Start blocks.TableRow)) h = one_starts TableRow (rows_of ts)
-tag_starts l is ts (Some (Start blocks.Raw)) h = tt
-tag_starts l is ts (Some (Start blocks.Comment)) h = tt
+tag_starts l x is ts None h = absurd cc
+tag_starts l x is ts (Some End) h = absurd cc
+tag_starts l x is ts (Some (Word word)) h = absurd cc
+tag_starts l x is ts (Some (Tag kind)) h = absurd cc
+tag_starts l x is ts (Some (HostTag n)) h = absurd cc
+tag_starts l x is ts (Some (HostBlock n)) h = one_starts (Host n) (host_block_of l n ts)
+tag_starts l x is ts (Some (Start blocks.If)) h = two_starts If (if_of ts)
+tag_starts l x is ts (Some (Start blocks.Unless)) h = two_starts Unless (unless_of ts)
+tag_starts l x is ts (Some (Start blocks.Capture)) h = one_starts Capture (capture_of ts)
+tag_starts l x is ts (Some (Start blocks.Case)) h = many_starts Case (case_for ts)
+tag_starts l x is ts (Some (Start blocks.IfChanged)) h = bare_starts _ ts
+tag_starts l x is ts (Some (Start blocks.For)) h = two_starts For (for_of ts)
+tag_starts l x is ts (Some (Start blocks.TableRow)) h = one_starts TableRow (rows_of ts)
+tag_starts l x is ts (Some (Start blocks.Raw)) h = tt
+tag_starts l x is ts (Some (Start blocks.Comment)) h = tt
 
 raw_starts : (t : Text) (body : Option Body) → start_statement (raw_statement t body)
 unfolding start_statement
@@ -154,7 +156,7 @@ comment_starts (Some bodies.Comment) = tt
 piece_starts : (l : Language) (x : BlockContext) (p : Piece) → starts_block l x p ≡ true → start_statement (reads l x p)
 piece_starts l x (pieces.text t) h = absurd cc
 piece_starts l x (pieces.output is) h = absurd cc
-piece_starts l x (pieces.tag w is) h = tag_starts l is (tokens_of is) (role_of l x w) h
+piece_starts l x (pieces.tag w is) h = tag_starts l x is (tokens_of is) (role_of l x w) h
 piece_starts l x (pieces.raw w t) h = raw_starts t (verbatim_body (role_of l x w))
 piece_starts l x (pieces.comment w) h = comment_starts (verbatim_body (role_of l x w))
 

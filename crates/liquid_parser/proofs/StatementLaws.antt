@@ -1,5 +1,5 @@
 -- A piece is read as just what the written grammar says that it is.
-use Rattle.std.proofs.Common.{◌≡◌, ℕ, List, [], ◌∷◌, Option, Some, None, option_map, refl, sym, ap, subst, ◌∙◌}
+use Rattle.std.proofs.Common.{◌≡◌, ℕ, Bool, true, false, List, [], ◌∷◌, Option, Some, None, option_map, refl, sym, ap, subst, ◌∙◌}
 use Rattle.liquid_model.specs.Texts.{Text}
 use Rattle.liquid_lexer.specs.Pieces as pieces
 use Rattle.liquid_lexer.specs.Pieces.{Piece}
@@ -13,21 +13,21 @@ use Rattle.std.specs.Option.{option_and_then}
 use Rattle.liquid_parser.specs.ChainReading.{chain_of}
 use Rattle.liquid_parser.specs.ConditionReading.{condition_of}
 use Rattle.liquid_parser.specs.Classification.{leaf_or, assign_of, if_node, unless_node, bare, word_alone, value_alone, one_or, many_or, arm_or, capture_of, case_for, two_or, elsif_or, ends_or, tag_statement, raw_statement, comment_statement, reads}
-use Rattle.liquid_parser.specs.Statements.{IsStatement, is_text, is_output, is_end, is_elsif, is_else, is_assign, is_if, is_unless, is_bare_else, is_capture, is_case, is_when, is_break, is_continue, is_increment, is_decrement, is_include, is_jekyll_include, is_render, is_cycle, is_ifchanged, is_for, is_tablerow, is_host_tag, is_raw, is_comment}
-use Rattle.liquid_parser.specs.HostTags.{host_chain_of, host_tag_of}
+use Rattle.liquid_parser.specs.Statements.{IsStatement, is_text, is_output, is_end, is_host_end, is_elsif, is_else, is_assign, is_if, is_unless, is_bare_else, is_capture, is_case, is_when, is_break, is_continue, is_increment, is_decrement, is_include, is_jekyll_include, is_render, is_cycle, is_ifchanged, is_for, is_tablerow, is_host_tag, is_host_block, is_raw, is_comment}
+use Rattle.liquid_parser.specs.HostTags.{host_block_of, host_call_of, host_chain_of, host_tag_of, in_host, through_call}
 use Rattle.liquid_parser.specs.Loops.{Head, for_node, loop_of, row_node}
 use Rattle.liquid_parser.specs.PartialItems.{Rendered, include_node, include_of, jekyll_node, jekyll_of, render_node, render_of}
-use Rattle.liquid_language.specs.HostTags.{TagCall, call_at}
+use Rattle.liquid_language.specs.HostTags.{BlockCall, TagCall, block_at, call_at}
 use Rattle.liquid_language.specs.Registered.{registered_in}
 use Rattle.liquid_parser.specs.Cycles.{Cycle, cycle_node, cycle_of, with_group}
 use Rattle.liquid_parser.specs.Nesting.{of_one, Statement, leaf, closed, begins, elsif, arm, otherwise, ends, refused}
 use Rattle.liquid_language.specs.Roles.{role_of, verbatim_body}
-use Rattle.liquid_evaluation.specs.Tree.{Bindings, Node, Chain, Condition, output, assign, capture, case_of, ifchanged, break_loop, continue_loop, increment, decrement}
-use Rattle.liquid_language.specs.declared.block.Block.TheVariants.{If, Unless, Capture, Case, IfChanged, For, TableRow}
+use Rattle.liquid_evaluation.specs.Tree.{Bindings, FilterCall, Node, Nodes, Chain, Condition, output, assign, capture, case_of, ifchanged, break_loop, continue_loop, increment, decrement}
+use Rattle.liquid_language.specs.declared.block.Block.TheVariants.{If, Unless, Capture, Case, IfChanged, For, TableRow, Host}
 use Rattle.liquid_language.specs.declared.block.Control.TheVariants.{Elsif, Else, BareElse, When}
 use Rattle.liquid_language.specs.declared.block.BlockContext.{BlockContext}
 use Rattle.liquid_language.specs.declared.block.Role.{Role}
-use Rattle.liquid_language.specs.declared.block.Role.TheVariants.{End, Control as Word, Tag, Block as Start, HostTag}
+use Rattle.liquid_language.specs.declared.block.Role.TheVariants.{End, Control as Word, Tag, Block as Start, HostBlock, HostTag}
 use Rattle.liquid_language.specs.declared.registry.BlockKind.TheVariants as blocks
 use Rattle.liquid_language.specs.declared.registry.Language.{Language}
 use Rattle.liquid_language.specs.declared.registry.TagKind.TheVariants as tags
@@ -38,41 +38,50 @@ use Rattle.liquid_parser.specs.declared.loop_items.LoopTag.TheVariants.{Each, Ro
 use Rattle.liquid_parser.specs.declared.value_items.Separators.TheVariants.{CommasOr}
 use Rattle.liquid_parser.proofs.Alone.{one_word, one_value}
 use Rattle.liquid_parser.proofs.CycleLaws.{cycle_takes, cycle_again}
-use Rattle.liquid_parser.proofs.HostTagLaws.{host_takes, host_again}
+use Rattle.liquid_parser.proofs.HostTagLaws.{host_call_takes, host_call_again, host_takes, host_again}
 use Rattle.liquid_parser.proofs.ItemLaws.{loop_takes, loop_again, values_takes, values_again}
 use Rattle.liquid_parser.proofs.NestingLaws.{Stands}
 use Rattle.liquid_parser.proofs.PartialLaws.{include_takes, include_again, jekyll_takes, jekyll_again}
 use Rattle.liquid_parser.proofs.Printed.{chain_takes, chain_again, assign_takes, assign_again}
 use Rattle.liquid_parser.proofs.RenderLaws.{render_takes, render_again}
 
+no_items : (b : Bool) → ends_or b [] ≡ ends
+no_items true = refl
+no_items false = refl
+
 pub statement_says : (l : Language) (x : BlockContext) (p : Piece) (statement : Statement) → IsStatement l x p statement → reads l x p ≡ statement
 statement_says l x p statement is_text = refl
 statement_says l x p statement (is_output {c = c} {is = is} h) = ap (λ (o : Option Chain). leaf_or (option_map output o)) (chain_again (registered_in l.filters) c (tokens_of is) h)
-statement_says l x p statement (is_end r) = ap (tag_statement l [] []) r
-statement_says l x p statement (is_elsif {is = is} r h) = ap (tag_statement l is (tokens_of is)) r ∙ ap (λ (o : Option Condition). elsif_or (option_map if_node o)) (condition_again h)
-statement_says l x p statement (is_else {is = is} r) = ap (tag_statement l is (tokens_of is)) r
-statement_says l x p statement (is_assign {name = name} {c = c} {is = is} r h) = ap (tag_statement l is (tokens_of is)) r ∙ ap leaf_or (assign_again l name c (tokens_of is) h)
-statement_says l x p statement (is_if {is = is} r h) = ap (tag_statement l is (tokens_of is)) r ∙ ap (λ (o : Option Condition). two_or If (option_map if_node o)) (condition_again h)
-statement_says l x p statement (is_unless {is = is} r h) = ap (tag_statement l is (tokens_of is)) r ∙ ap (λ (o : Option Condition). two_or Unless (option_map unless_node o)) (condition_again h)
-statement_says l x p statement (is_bare_else r) = ap (tag_statement l [] []) r
-statement_says l x p statement (is_capture {is = is} r g) = ap (tag_statement l is (tokens_of is)) r ∙ ap (λ (ts : List Token). one_or Capture (capture_of ts)) g
-statement_says l x p statement (is_case {is = is} r g) = ap (tag_statement l is (tokens_of is)) r ∙ ap (λ (ts : List Token). many_or Case (case_for ts)) g
-statement_says l x p statement (is_when {vs = vs} {is = is} r g) = ap (tag_statement l is (tokens_of is)) r ∙ ap arm_or (values_again CommasOr vs (tokens_of is) g)
-statement_says l x p statement (is_break r) = ap (tag_statement l [] []) r
-statement_says l x p statement (is_continue r) = ap (tag_statement l [] []) r
-statement_says l x p statement (is_increment {is = is} r g) = ap (tag_statement l is (tokens_of is)) r ∙ ap (λ (ts : List Token). leaf_or (option_map (λ w. increment w) (word_alone ts))) g
-statement_says l x p statement (is_decrement {is = is} r g) = ap (tag_statement l is (tokens_of is)) r ∙ ap (λ (ts : List Token). leaf_or (option_map (λ w. decrement w) (word_alone ts))) g
-statement_says l x p statement (is_cycle {name = name} {vs = vs} {is = is} r g) = ap (tag_statement l is (tokens_of is)) r ∙ ap (λ (o : Option Cycle). leaf_or (option_map cycle_node (option_map with_group o))) (cycle_again name vs (tokens_of is) g)
-statement_says l x p statement (is_ifchanged r) = ap (tag_statement l [] []) r
-statement_says l x p statement (is_for {h = h} {is = is} r g) = ap (tag_statement l is (tokens_of is)) r ∙ ap (λ (o : Option Head). two_or For (option_map for_node o)) (loop_again Each h (tokens_of is) g)
-statement_says l x p statement (is_tablerow {h = h} {is = is} r g) = ap (tag_statement l is (tokens_of is)) r ∙ ap (λ (o : Option Head). one_or TableRow (option_map row_node o)) (loop_again Rows h (tokens_of is) g)
-statement_says l x p statement (is_include {name = name} {ps = ps} {is = is} r g) = ap (tag_statement l is (tokens_of is)) r ∙ ap (λ (o : Option (Expression × Bindings)). leaf_or (option_map include_node o)) (include_again name ps (tokens_of is) g)
-statement_says l x p statement (is_jekyll_include {name = name} {ps = ps} {is = is} r g) = ap (tag_statement l is (tokens_of is)) r ∙ ap (λ (o : Option (Text × Bindings)). leaf_or (option_map jekyll_node o)) (jekyll_again name ps is g)
-statement_says l x p statement (is_render {name = name} {each = each} {ps = ps} {is = is} r g) = ap (tag_statement l is (tokens_of is)) r ∙ ap (λ (o : Option (Expression × Rendered)). leaf_or (option_map render_node o)) (render_again name each ps (tokens_of is) g)
+statement_says l x p statement (is_end r) = ap (tag_statement l x [] []) r ∙ no_items (in_host x)
+statement_says l x p statement (is_host_end {is = is} r e) = ap (tag_statement l x is (tokens_of is)) r ∙ ap (λ (b : Bool). ends_or b (tokens_of is)) e
+statement_says l x p statement (is_elsif {is = is} r h) = ap (tag_statement l x is (tokens_of is)) r ∙ ap (λ (o : Option Condition). elsif_or (option_map if_node o)) (condition_again h)
+statement_says l x p statement (is_else {is = is} r) = ap (tag_statement l x is (tokens_of is)) r
+statement_says l x p statement (is_assign {name = name} {c = c} {is = is} r h) = ap (tag_statement l x is (tokens_of is)) r ∙ ap leaf_or (assign_again l name c (tokens_of is) h)
+statement_says l x p statement (is_if {is = is} r h) = ap (tag_statement l x is (tokens_of is)) r ∙ ap (λ (o : Option Condition). two_or If (option_map if_node o)) (condition_again h)
+statement_says l x p statement (is_unless {is = is} r h) = ap (tag_statement l x is (tokens_of is)) r ∙ ap (λ (o : Option Condition). two_or Unless (option_map unless_node o)) (condition_again h)
+statement_says l x p statement (is_bare_else r) = ap (tag_statement l x [] []) r
+statement_says l x p statement (is_capture {is = is} r g) = ap (tag_statement l x is (tokens_of is)) r ∙ ap (λ (ts : List Token). one_or Capture (capture_of ts)) g
+statement_says l x p statement (is_case {is = is} r g) = ap (tag_statement l x is (tokens_of is)) r ∙ ap (λ (ts : List Token). many_or Case (case_for ts)) g
+statement_says l x p statement (is_when {vs = vs} {is = is} r g) = ap (tag_statement l x is (tokens_of is)) r ∙ ap arm_or (values_again CommasOr vs (tokens_of is) g)
+statement_says l x p statement (is_break r) = ap (tag_statement l x [] []) r
+statement_says l x p statement (is_continue r) = ap (tag_statement l x [] []) r
+statement_says l x p statement (is_increment {is = is} r g) = ap (tag_statement l x is (tokens_of is)) r ∙ ap (λ (ts : List Token). leaf_or (option_map (λ w. increment w) (word_alone ts))) g
+statement_says l x p statement (is_decrement {is = is} r g) = ap (tag_statement l x is (tokens_of is)) r ∙ ap (λ (ts : List Token). leaf_or (option_map (λ w. decrement w) (word_alone ts))) g
+statement_says l x p statement (is_cycle {name = name} {vs = vs} {is = is} r g) = ap (tag_statement l x is (tokens_of is)) r ∙ ap (λ (o : Option Cycle). leaf_or (option_map cycle_node (option_map with_group o))) (cycle_again name vs (tokens_of is) g)
+statement_says l x p statement (is_ifchanged r) = ap (tag_statement l x [] []) r
+statement_says l x p statement (is_for {h = h} {is = is} r g) = ap (tag_statement l x is (tokens_of is)) r ∙ ap (λ (o : Option Head). two_or For (option_map for_node o)) (loop_again Each h (tokens_of is) g)
+statement_says l x p statement (is_tablerow {h = h} {is = is} r g) = ap (tag_statement l x is (tokens_of is)) r ∙ ap (λ (o : Option Head). one_or TableRow (option_map row_node o)) (loop_again Rows h (tokens_of is) g)
+statement_says l x p statement (is_include {name = name} {ps = ps} {is = is} r g) = ap (tag_statement l x is (tokens_of is)) r ∙ ap (λ (o : Option (Expression × Bindings)). leaf_or (option_map include_node o)) (include_again name ps (tokens_of is) g)
+statement_says l x p statement (is_jekyll_include {name = name} {ps = ps} {is = is} r g) = ap (tag_statement l x is (tokens_of is)) r ∙ ap (λ (o : Option (Text × Bindings)). leaf_or (option_map jekyll_node o)) (jekyll_again name ps is g)
+statement_says l x p statement (is_render {name = name} {each = each} {ps = ps} {is = is} r g) = ap (tag_statement l x is (tokens_of is)) r ∙ ap (λ (o : Option (Expression × Rendered)). leaf_or (option_map render_node o)) (render_again name each ps (tokens_of is) g)
 statement_says l x p statement (is_host_tag {called = called} {c = c} {is = is} r at h) =
-    ap (tag_statement l is (tokens_of is)) r
+    ap (tag_statement l x is (tokens_of is)) r
     ∙ ap (λ (o : Option TagCall). leaf_or (option_and_then (λ called. option_map output (host_chain_of (registered_in l.filters) called (tokens_of is))) o)) at
     ∙ ap (λ (o : Option Chain). leaf_or (option_map output o)) (host_again (registered_in l.filters) called c (tokens_of is) h)
+statement_says l x p statement (is_host_block {n = n} {called = called} {call = call} {is = is} r at h) =
+    ap (tag_statement l x is (tokens_of is)) r
+    ∙ ap (λ (o : Option BlockCall). one_or (Host n) (option_and_then (λ called. option_map through_call (host_call_of (registered_in l.filters) called.filter (tokens_of is))) o)) at
+    ∙ ap (λ (o : Option FilterCall). one_or (Host n) (option_map through_call o)) (host_call_again (registered_in l.filters) called.filter call (tokens_of is) h)
 statement_says l x p statement (is_raw {t = t} h) = ap (raw_statement t) h
 statement_says l x p statement (is_comment h) = ap comment_statement h
 
@@ -91,9 +100,10 @@ module _ (l : Language) (x : BlockContext) (statement : Statement) (stands : Sta
   output_stands is None e h = never statement h stands
   output_stands is (Some c) e h = subst (IsStatement l x (pieces.output is)) h (is_output (chain_takes (registered_in l.filters) c (tokens_of is) e))
 
-  end_stands : (w : Text) (is : List Item) → role_of l x w ≡ Some End → ends_or (tokens_of is) ≡ statement → IsStatement l x (pieces.tag w is) statement
-  end_stands w [] r h = subst (IsStatement l x (pieces.tag w [])) h (is_end r)
-  end_stands w (i ∷ is) r h = never statement h stands
+  end_stands : (w : Text) (is : List Item) (b : Bool) → role_of l x w ≡ Some End → in_host x ≡ b → ends_or b (tokens_of is) ≡ statement → IsStatement l x (pieces.tag w is) statement
+  end_stands w is true r e h = subst (IsStatement l x (pieces.tag w is)) h (is_host_end r e)
+  end_stands w [] false r e h = subst (IsStatement l x (pieces.tag w [])) h (is_end r)
+  end_stands w (i ∷ is) false r e h = never statement h stands
 
   elsif_stands : (w : Text) (is : List Item) (o : Option Condition) → role_of l x w ≡ Some (Word Elsif) → condition_of (tokens_of is) ≡ o → elsif_or (option_map if_node o) ≡ statement → IsStatement l x (pieces.tag w is) statement
   elsif_stands w is None r e h = never statement h stands
@@ -125,15 +135,24 @@ module _ (l : Language) (x : BlockContext) (statement : Statement) (stands : Sta
       let (c, read, same) = map_some (host_chain_of known called (tokens_of is)) output node more in
       subst (IsStatement l x (pieces.tag w is)) (ap leaf same ∙ h) (is_host_tag r at (host_takes known called c (tokens_of is) read))
 
+  host_block_stands : (w : Text) (is : List Item) (n : ℕ) (o : Option (Nodes → Node)) → role_of l x w ≡ Some (HostBlock n) → host_block_of l n (tokens_of is) ≡ o → one_or (Host n) o ≡ statement → IsStatement l x (pieces.tag w is) statement
+  host_block_stands w is n None r e h = never statement h stands
+  host_block_stands w is n (Some make) r e h =
+      let known = registered_in l.filters in
+      let (called, at, more) = bind_some (block_at l n) _ make e in
+      let (call, read, same) = map_some (host_call_of known called.filter (tokens_of is)) through_call make more in
+      subst (IsStatement l x (pieces.tag w is)) (ap (λ make. begins (of_one (Host n) make)) same ∙ h) (is_host_block r at (host_call_takes known called.filter call (tokens_of is) read))
+
   -- of a tag whose items are one word, one value ..
   part_stands : {A : Type 0} (w : Text) (is : List Item) (o : Option A) (to : Option A → Statement) → to None ≡ refused → to o ≡ statement → ((a : A) → o ≡ Some a → IsStatement l x (pieces.tag w is) (to (Some a))) → IsStatement l x (pieces.tag w is) statement
   part_stands w is None to none h rule = never statement (sym none ∙ h) stands
   part_stands w is (Some a) to none h rule = subst (IsStatement l x (pieces.tag w is)) h (rule a refl)
 
-  tag_stands : (w : Text) (is : List Item) (role : Option Role) → role_of l x w ≡ role → tag_statement l is (tokens_of is) role ≡ statement → IsStatement l x (pieces.tag w is) statement
+  tag_stands : (w : Text) (is : List Item) (role : Option Role) → role_of l x w ≡ role → tag_statement l x is (tokens_of is) role ≡ statement → IsStatement l x (pieces.tag w is) statement
   tag_stands w is None r h = never statement h stands
-  tag_stands w is (Some End) r h = end_stands w is r h
+  tag_stands w is (Some End) r h = end_stands w is (in_host x) r refl h
   tag_stands w is (Some (HostTag n)) r h = host_stands w is n (host_tag_of l n (tokens_of is)) r refl h
+  tag_stands w is (Some (HostBlock n)) r h = host_block_stands w is n (host_block_of l n (tokens_of is)) r refl h
   tag_stands w is (Some (Word Elsif)) r h = elsif_stands w is (condition_of (tokens_of is)) r refl h
   tag_stands w is (Some (Word Else)) r h = subst (IsStatement l x (pieces.tag w is)) h (is_else r)
   tag_stands w is (Some (Tag tags.Assign)) r h = assign_stands w is (assign_of l (tokens_of is)) r refl h

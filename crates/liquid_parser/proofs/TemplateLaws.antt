@@ -5,7 +5,8 @@ use Rattle.liquid_model.specs.Texts.{Text}
 use Rattle.liquid_parser.specs.Classification.{tag_statement, raw_statement, comment_statement, reads}
 use Rattle.liquid_language.specs.Roles.{role_of, verbatim_body}
 use Rattle.liquid_language.specs.declared.block.Role.{Role}
-use Rattle.liquid_language.specs.declared.block.Role.TheVariants.{End, Control as Word, Tag, Block as Start, HostTag}
+use Rattle.liquid_language.specs.declared.block.BlockContext.{BlockContext}
+use Rattle.liquid_language.specs.declared.block.Role.TheVariants.{End, Control as Word, Tag, Block as Start, HostBlock, HostTag}
 use Rattle.liquid_language.specs.declared.registry.BlockKind.TheVariants as blocks
 use Rattle.liquid_lexer.specs.declared.piece.Body.{Body}
 use Rattle.liquid_lexer.specs.declared.piece.Body.TheVariants as bodies
@@ -24,21 +25,22 @@ use Rattle.liquid_lexer.proofs.SourceLaws.{source_takes, source_again}
 use Rattle.liquid_model.proofs.WordLaws.{bind_some, from_some}
 
 module _ (l : Language) where
-  bare_tag : (role : Option Role) (s next : State) → statement_step (tag_statement l [] [] role) s.0 s.1 ≡ Some next → verbatim_body role ≡ None
-  bare_tag None s next h = refl
-  bare_tag (Some End) s next h = refl
-  bare_tag (Some (Word word)) s next h = refl
-  bare_tag (Some (Tag kind)) s next h = refl
-  bare_tag (Some (HostTag n)) s next h = refl
-  bare_tag (Some (Start blocks.If)) s next h = refl
-  bare_tag (Some (Start blocks.Unless)) s next h = refl
-  bare_tag (Some (Start blocks.Capture)) s next h = refl
-  bare_tag (Some (Start blocks.Case)) s next h = refl
-  bare_tag (Some (Start blocks.IfChanged)) s next h = refl
-  bare_tag (Some (Start blocks.For)) s next h = refl
-  bare_tag (Some (Start blocks.TableRow)) s next h = refl
-  bare_tag (Some (Start blocks.Raw)) s next h = absurd cc
-  bare_tag (Some (Start blocks.Comment)) s next h = absurd cc
+  bare_tag : (x : BlockContext) (role : Option Role) (s next : State) → statement_step (tag_statement l x [] [] role) s.0 s.1 ≡ Some next → verbatim_body role ≡ None
+  bare_tag x None s next h = refl
+  bare_tag x (Some End) s next h = refl
+  bare_tag x (Some (Word word)) s next h = refl
+  bare_tag x (Some (Tag kind)) s next h = refl
+  bare_tag x (Some (HostTag n)) s next h = refl
+  bare_tag x (Some (HostBlock n)) s next h = refl
+  bare_tag x (Some (Start blocks.If)) s next h = refl
+  bare_tag x (Some (Start blocks.Unless)) s next h = refl
+  bare_tag x (Some (Start blocks.Capture)) s next h = refl
+  bare_tag x (Some (Start blocks.Case)) s next h = refl
+  bare_tag x (Some (Start blocks.IfChanged)) s next h = refl
+  bare_tag x (Some (Start blocks.For)) s next h = refl
+  bare_tag x (Some (Start blocks.TableRow)) s next h = refl
+  bare_tag x (Some (Start blocks.Raw)) s next h = absurd cc
+  bare_tag x (Some (Start blocks.Comment)) s next h = absurd cc
 
   raw_wanted : (t : Text) (body : Option Body) (s next : State) → statement_step (raw_statement t body) s.0 s.1 ≡ Some next → body ≡ Some bodies.Raw
   raw_wanted t None s next h = absurd cc
@@ -54,7 +56,7 @@ module _ (l : Language) where
   agrees : TakesWanted (body_of l) (piece_step l)
   agrees s next (text t) h = tt
   agrees s next (output is) h = tt
-  agrees s next (tag w []) h = bare_tag (role_of l (context_of s.0) w) s next h
+  agrees s next (tag w []) h = bare_tag (context_of s.0) (role_of l (context_of s.0) w) s next h
   agrees s next (tag w (i ∷ is)) h = tt
   agrees s next (raw w t) h = raw_wanted t (verbatim_body (role_of l (context_of s.0) w)) s next h
   agrees s next (comment w) h = comment_wanted (verbatim_body (role_of l (context_of s.0) w)) s next h

@@ -17,12 +17,10 @@ use Rattle.liquid_parser.specs.TemplateLaw.{HasNoOpener, text_alone, PlainSource
 use Rattle.liquid_parser.proofs.TemplateLaws.{written_again}
 use Rattle.liquid_syntax.specs.Blanks.{without_blanks}
 use Rattle.liquid_evaluation.specs.Tree.{Nodes}
-use Rattle.liquid_model.specs.Maps.{listed}
 use Rattle.liquid_model.specs.Texts.{Text}
 use Rattle.liquid_lexer.proofs.SourceLaws.{items_only, items_styled}
-use Rattle.liquid_lexer.specs.declared.style.Style.TheVariants.{Items}
-use Rattle.liquid_language.specs.Languages.{kinds_of}
-use Rattle.liquid_language.specs.Styles.{style_of, style_of_kind}
+use Rattle.liquid_language.specs.Styles.{style_of}
+use Rattle.liquid_language.proofs.ItemsAlone.{items_alone}
 use Rattle.liquid_language.specs.declared.registry.Language.{Language}
 
 -- no opener begins at the front
@@ -79,8 +77,5 @@ unfolding IsTemplate
 nothing_dropped l t source e =
     (λ (u, is, kept). subst (λ (v : Nodes). IsWrittenTree l v source) (sym (kept ∙ all_kept l e u)) is, λ is. (t, is, sym (all_kept l e t)))
 
-items_of_all : (l : Language) → l.include_paths ≡ false → (w : Text) → style_of l w ≡ Items
-items_of_all l e w = ap (λ (b : Bool). cond b (style_of_kind (listed (kinds_of l.tags) w)) Items) e
-
 pub items_without_paths : ItemsWithoutPaths
-items_without_paths l ps source e = (items_only (style_of l) (items_of_all l e) false ps source, items_styled (style_of l) (items_of_all l e) false ps source)
+items_without_paths l ps source e each = (items_only (style_of l) (items_alone l e each) false ps source, items_styled (style_of l) (items_alone l e each) false ps source)

@@ -10,7 +10,7 @@ use Rattle.liquid_lexer.specs.declared.piece.Body.TheVariants as bodies
 use Rattle.liquid_lexer.specs.declared.symbol.Symbol.TheVariants as symbols
 use Rattle.liquid_parser.specs.ChainReading.{chain_of}
 use Rattle.liquid_parser.specs.ConditionReading.{condition_of}
-use Rattle.liquid_parser.specs.HostTags.{host_tag_of}
+use Rattle.liquid_parser.specs.HostTags.{host_block_of, host_tag_of, in_host}
 use Rattle.liquid_parser.specs.Loops.{for_node, loop_of, row_node}
 use Rattle.liquid_parser.specs.PartialItems.{include_node, include_of, jekyll_node, jekyll_of}
 use Rattle.liquid_parser.specs.PartialItems.{render_node, render_of}
@@ -28,13 +28,14 @@ use Rattle.liquid_parser.specs.ValueLists.{values_of}
 use Rattle.liquid_parser.specs.declared.value_items.Separators.TheVariants.{CommasOr}
 use Rattle.liquid_language.specs.declared.block.Block.{Block}
 use Rattle.liquid_language.specs.declared.block.Block.TheVariants.{If, Unless, Capture, Case}
-use Rattle.liquid_language.specs.declared.block.Block.TheVariants.{IfChanged, For, TableRow}
+use Rattle.liquid_language.specs.declared.block.Block.TheVariants.{IfChanged, For, TableRow, Host}
 use Rattle.liquid_language.specs.declared.block.Control.{Control}
 use Rattle.liquid_language.specs.declared.block.Control.TheVariants as words
 use Rattle.liquid_language.specs.declared.block.BlockContext.{BlockContext}
 use Rattle.liquid_language.specs.declared.block.Role.{Role}
 use Rattle.liquid_language.specs.declared.block.Role.TheVariants.{End, Control as Word, Tag}
 use Rattle.liquid_language.specs.declared.block.Role.TheVariants.{Block as Start, HostTag}
+use Rattle.liquid_language.specs.declared.block.Role.TheVariants.{HostBlock}
 use Rattle.liquid_language.specs.declared.registry.BlockKind.{BlockKind}
 use Rattle.liquid_language.specs.declared.registry.BlockKind.TheVariants as blocks
 use Rattle.liquid_language.specs.declared.registry.Language.{Language}
@@ -54,10 +55,11 @@ assign_of l ts =
     (λ rest. option_map (assign w.0) (chain_of (registered_in l.filters) rest))
     (past symbols.Assign w.1)) (word_first ts)
 
--- an end takes no items
-abbrev pub ends_or : List Token → Statement
-ends_or [] = ends
-ends_or (t ∷ ts) = refused
+-- an end takes no items, but that of a host's block, whose items are ignored
+abbrev pub ends_or : Bool → List Token → Statement
+ends_or true ts = ends
+ends_or false [] = ends
+ends_or false (t ∷ ts) = refused
 
 -- the node that an `if` or an `elsif` with the items makes of its bodies
 abbrev pub if_node : Condition → Nodes → Nodes → Node
@@ -156,14 +158,16 @@ leaf_statement l is ts tags.Include = leaf_or (option_map include_node (include_
 leaf_statement l is ts tags.JekyllInclude = leaf_or (option_map jekyll_node (jekyll_of is))
 leaf_statement l is ts tags.Render = leaf_or (option_map render_node (render_of ts))
 
--- a tag, its items, and the tokens that they are
-abbrev pub tag_statement : Language → List Item → List Token → Option Role → Statement
-tag_statement l is ts None = refused
-tag_statement l is ts (Some End) = ends_or ts
-tag_statement l is ts (Some (Word word)) = control_statement ts word
-tag_statement l is ts (Some (Tag kind)) = leaf_statement l is ts kind
-tag_statement l is ts (Some (Start kind)) = block_statement ts kind
-tag_statement l is ts (Some (HostTag n)) = leaf_or (host_tag_of l n ts)
+-- a tag in a context, its items, and the tokens that they are
+abbrev pub tag_statement : Language → BlockContext → List Item → List Token → Option Role →
+    Statement
+tag_statement l x is ts None = refused
+tag_statement l x is ts (Some End) = ends_or (in_host x) ts
+tag_statement l x is ts (Some (Word word)) = control_statement ts word
+tag_statement l x is ts (Some (Tag kind)) = leaf_statement l is ts kind
+tag_statement l x is ts (Some (Start kind)) = block_statement ts kind
+tag_statement l x is ts (Some (HostTag n)) = leaf_or (host_tag_of l n ts)
+tag_statement l x is ts (Some (HostBlock n)) = one_or (Host n) (host_block_of l n ts)
 
 abbrev pub raw_statement : Text → Option Body → Statement
 raw_statement t (Some bodies.Raw) = closed (raw t)
@@ -179,7 +183,7 @@ abbrev pub reads : Language → BlockContext → pieces.Piece → Statement
 reads l x (pieces.text t) = leaf (plain t)
 reads l x (pieces.output is) =
     leaf_or (option_map output (chain_of (registered_in l.filters) (tokens_of is)))
-reads l x (pieces.tag w is) = tag_statement l is (tokens_of is) (role_of l x w)
+reads l x (pieces.tag w is) = tag_statement l x is (tokens_of is) (role_of l x w)
 reads l x (pieces.raw w t) = raw_statement t (verbatim_body (role_of l x w))
 reads l x (pieces.comment w) = comment_statement (verbatim_body (role_of l x w))
 
@@ -192,6 +196,7 @@ is_start (Some (Word word)) = false
 is_start (Some (Tag kind)) = false
 is_start (Some (Start kind)) = true
 is_start (Some (HostTag n)) = false
+is_start (Some (HostBlock n)) = true
 
 -- the piece is the start of a block, whatever its items are
 abbrev pub starts_block : Language → BlockContext → pieces.Piece → Bool

@@ -1,20 +1,23 @@
--- The laws of a host's tags.
+-- The laws of a host's tags and blocks.
 use Rattle.std.specs.Prelude.{◌≡◌, ◌↔◌, ℕ, List, [], ◌∷◌, Some}
 use Rattle.liquid_model.specs.Texts.{Text}
 use Rattle.liquid_core.specs.Expression.{Expression}
-use Rattle.liquid_evaluation.specs.Tree.{Node}
+use Rattle.liquid_evaluation.specs.Tree.{FilterCall, Node, output}
 use Rattle.liquid_lexer.specs.Items.{Item}
 use Rattle.liquid_lexer.specs.Pieces as pieces
 use Rattle.liquid_lexer.specs.Tokens.{symbol, tokens_of, value, word}
 use Rattle.liquid_lexer.specs.declared.symbol.Symbol.TheVariants.{Bar}
-use Rattle.liquid_language.specs.HostTags.{TagCall, call_at, numbers_of}
+use Rattle.liquid_language.specs.HostTags.{BlockCall, TagCall, block_at, call_at, end_in}
+use Rattle.liquid_language.specs.HostTags.{numbers_of}
 use Rattle.liquid_language.specs.Roles.{role_of}
+use Rattle.liquid_language.specs.declared.block.Block.TheVariants.{Host}
 use Rattle.liquid_language.specs.declared.block.BlockContext.{BlockContext}
-use Rattle.liquid_language.specs.declared.block.Role.TheVariants.{HostTag}
+use Rattle.liquid_language.specs.declared.block.BlockContext.TheVariants.{InLast}
+use Rattle.liquid_language.specs.declared.block.Role.TheVariants.{HostBlock, HostTag}
 use Rattle.liquid_language.specs.declared.registry.Language.{Language}
 use Rattle.liquid_parser.specs.Chains.{arguments}
-use Rattle.liquid_parser.specs.HostTags.{AreTagValues}
-use Rattle.liquid_parser.specs.Nesting.{leaf}
+use Rattle.liquid_parser.specs.HostTags.{AreTagValues, through_call}
+use Rattle.liquid_parser.specs.Nesting.{begins, ends, leaf, of_one}
 use Rattle.liquid_parser.specs.Statements.{IsStatement}
 
 -- `{% w a, b %}` is the node that `{{ input | filter: a, b }}` is, and no node where that is none
@@ -31,3 +34,25 @@ HostTagsAreOutputs =
 abbrev pub NoHostTags : Type 0
 NoHostTags = (l : Language) (x : BlockContext) (w : Text) (n : ℕ) → numbers_of l.host_tags ≡ [] →
     role_of l x w ≡ Some (HostTag n) → ⊥
+
+-- `{% w a, b %}` begins a block whose text goes through the call that `{{ v | filter: a, b }}` has,
+-- and no block where that is no output
+abbrev pub HostBlocksAreCalls : Type 0
+HostBlocksAreCalls =
+    (l : Language) (x : BlockContext) (w : Text) (n : ℕ) (called : BlockCall) (xs : List Expression)
+    (v : Expression) (is os : List Item) (call : FilterCall)
+    → role_of l x w ≡ Some (HostBlock n) → block_at l n ≡ Some called →
+    AreTagValues xs (tokens_of is)
+    → tokens_of os ≡ value v ∷ symbol Bar ∷ word called.filter ∷ arguments xs
+    → IsStatement l x (pieces.tag w is) (begins (of_one (Host n) (through_call call))) ↔
+    IsStatement l x (pieces.output os) (leaf (output (record { entry = v; filters = call ∷ [] })))
+
+-- in its body the tag of its end's name ends a host's block, whatever stands in that tag
+abbrev pub HostBlocksEnd : Type 0
+HostBlocksEnd = (l : Language) (n : ℕ) (is : List Item) →
+    IsStatement l (InLast (Host n)) (pieces.tag (end_in l.host_tags n) is) ends
+
+-- where no block of a host is registered, none is read
+abbrev pub NoHostBlocks : Type 0
+NoHostBlocks = (l : Language) (x : BlockContext) (w : Text) (n : ℕ) → numbers_of l.host_tags ≡ [] →
+    role_of l x w ≡ Some (HostBlock n) → ⊥

@@ -1,12 +1,17 @@
--- Tags of a host: the chain that one stands for, how it is written, and how it is read.
-use Rattle.std.specs.Prelude.{◌≡◌, ℕ, List, [], ◌∷◌, length, IsTrue, Option, Some}
+-- Tags and blocks of a host: the call that one stands for, how it is written, and how it is read.
+use Rattle.std.specs.Prelude.{◌≡◌, ℕ, Bool, true, false, List, [], ◌∷◌, length, IsTrue, Option}
+use Rattle.std.specs.Prelude.{Some}
 use Rattle.std.specs.Option.{option_and_then, option_map}
 use Rattle.liquid_model.specs.Maps.{listed}
+use Rattle.liquid_model.specs.Texts.{Text}
 use Rattle.liquid_core.specs.Expression.{Expression}
-use Rattle.liquid_evaluation.specs.Tree.{Chain, FilterCall, Node, output}
+use Rattle.liquid_evaluation.specs.Tree.{Chain, FilterCall, Node, Nodes, filtered, output}
 use Rattle.liquid_lexer.specs.Tokens.{Token}
-use Rattle.liquid_language.specs.HostTags.{TagCall, call_at}
+use Rattle.liquid_language.specs.HostTags.{BlockCall, TagCall, block_at, call_at}
 use Rattle.liquid_language.specs.Registered.{registered_counts, registered_in}
+use Rattle.liquid_language.specs.declared.block.Block.TheVariants.{Host}
+use Rattle.liquid_language.specs.declared.block.BlockContext.{BlockContext}
+use Rattle.liquid_language.specs.declared.block.BlockContext.TheVariants.{InBody, InLast}
 use Rattle.liquid_language.specs.declared.registered_filter.RegisteredFilter.{RegisteredFilter}
 use Rattle.liquid_language.specs.declared.registry.Language.{Language}
 use Rattle.liquid_parser.specs.ChainReading.{accepted_call}
@@ -22,32 +27,52 @@ pub data AreTagValues : List Expression → List Token → Type 0 where
   tag_values : {xs : List Expression} {ts : List Token} → AreValues OptionalCommas xs ts →
       AreTagValues xs ts
 
+-- the filter of the name is registered, and may be given that number of arguments
+pub data IsHostCall (known : Filters) (name : Text) : FilterCall → List Token → Type 0 where
+  host_call : {filter : RegisteredFilter} {xs : List Expression} {ts : List Token}
+      → listed known name ≡ Some filter → IsTrue (registered_counts filter (length xs)) →
+      AreTagValues xs ts
+      → IsHostCall known name (record { filter = called_as name filter; arguments = xs }) ts
+
 -- the input goes through one call of the filter, which is given the tag's values
 abbrev pub chain_of_call : TagCall → FilterCall → Chain
 chain_of_call called call = record { entry = called.input; filters = call ∷ [] }
 
--- the filter is registered, and may be given that number of arguments
 pub data IsHostChain (known : Filters) (called : TagCall) : Chain → List Token → Type 0 where
-  host_chain : {filter : RegisteredFilter} {xs : List Expression} {ts : List Token}
-      → listed known called.filter ≡ Some filter → IsTrue (registered_counts filter (length xs)) →
-      AreTagValues xs ts
-      → IsHostChain known called (chain_of_call called (record {
-        filter = called_as called.filter filter;
-        arguments = xs;
-      })) ts
+  host_chain : {call : FilterCall} {ts : List Token} → IsHostCall known called.filter call ts →
+      IsHostChain known called (chain_of_call called call) ts
+
+-- the innermost block is one of the host
+abbrev pub in_host : BlockContext → Bool
+in_host (InBody (Host n)) = true
+in_host (InLast (Host n)) = true
+in_host _ = false
 
 -- ---- reading
 
--- the chain where the tag has these values
-abbrev pub chain_given : Filters → TagCall → List Expression → Option Chain
-chain_given known called xs = option_map (chain_of_call called)
-    (accepted_call called.filter (listed known called.filter) xs)
+-- the call where there are these values
+abbrev pub call_given : Filters → Text → List Expression → Option FilterCall
+call_given known name xs = accepted_call name (listed known name) xs
+
+abbrev pub host_call_of : Filters → Text → List Token → Option FilterCall
+host_call_of known name ts =
+    option_and_then (call_given known name) (any_values_of OptionalCommas ts)
 
 abbrev pub host_chain_of : Filters → TagCall → List Token → Option Chain
 host_chain_of known called ts =
-    option_and_then (chain_given known called) (any_values_of OptionalCommas ts)
+    option_map (chain_of_call called) (host_call_of known called.filter ts)
 
 -- the tag with the number is an output
 abbrev pub host_tag_of : Language → ℕ → List Token → Option Node
 host_tag_of l n ts = option_and_then
     (λ called. option_map output (host_chain_of (registered_in l.filters) called ts)) (call_at l n)
+
+-- the node of a block whose text goes through one call
+abbrev pub through_call : FilterCall → Nodes → Node
+through_call call f = filtered (call ∷ []) f
+
+-- the node that the block with the number makes of its body
+abbrev pub host_block_of : Language → ℕ → List Token → Option (Nodes → Node)
+host_block_of l n ts = option_and_then
+    (λ (called : BlockCall). option_map through_call
+    (host_call_of (registered_in l.filters) called.filter ts)) (block_at l n)

@@ -1,5 +1,5 @@
 -- The written grammar of a single piece: what it is, where it stands.
-use Rattle.std.specs.Prelude.{◌≡◌, ℕ, List, [], ◌∷◌, Option, Some}
+use Rattle.std.specs.Prelude.{◌≡◌, ℕ, true, List, [], ◌∷◌, Option, Some}
 use Rattle.liquid_model.specs.Texts.{Text}
 use Rattle.liquid_lexer.specs.Items.{Item}
 use Rattle.liquid_lexer.specs.Pieces as pieces
@@ -8,16 +8,16 @@ use Rattle.liquid_lexer.specs.declared.piece.Body.TheVariants.{Raw, Comment}
 use Rattle.liquid_parser.specs.Chains.{IsChain, IsAssign}
 use Rattle.liquid_parser.specs.Conditions.{IsCondition}
 use Rattle.liquid_parser.specs.Cycles.{IsCycle}
-use Rattle.liquid_parser.specs.HostTags.{IsHostChain}
+use Rattle.liquid_parser.specs.HostTags.{IsHostCall, IsHostChain, in_host, through_call}
 use Rattle.liquid_parser.specs.Loops.{Head, IsLoop, for_node, row_node}
-use Rattle.liquid_language.specs.HostTags.{TagCall, call_at}
+use Rattle.liquid_language.specs.HostTags.{BlockCall, TagCall, block_at, call_at}
 use Rattle.liquid_language.specs.Registered.{registered_in}
 use Rattle.liquid_parser.specs.Nesting.{of_one, of_two, of_many, Statement, leaf, closed, begins}
 use Rattle.liquid_parser.specs.Nesting.{elsif, arm, otherwise, ends}
 use Rattle.liquid_parser.specs.PartialItems.{IsInclude, IsJekyllInclude, IsRender}
 use Rattle.liquid_language.specs.Roles.{role_of, verbatim_body}
-use Rattle.liquid_evaluation.specs.Tree.{Bindings, Chain, Condition, Source, plain, raw, comment}
-use Rattle.liquid_evaluation.specs.Tree.{output, assign, if_true, unless, capture, case_of}
+use Rattle.liquid_evaluation.specs.Tree.{Bindings, Chain, Condition, FilterCall, Source, plain, raw}
+use Rattle.liquid_evaluation.specs.Tree.{comment, output, assign, if_true, unless, capture, case_of}
 use Rattle.liquid_evaluation.specs.Tree.{ifchanged, break_loop, continue_loop, increment, decrement}
 use Rattle.liquid_evaluation.specs.Tree.{cycle, include, jekyll_include, render}
 use Rattle.liquid_evaluation.specs.Groups.{group_of}
@@ -25,11 +25,12 @@ use Rattle.liquid_core.specs.Expression.{Expression}
 use Rattle.liquid_parser.specs.ValueLists.{AreValues}
 use Rattle.liquid_parser.specs.declared.value_items.Separators.TheVariants.{CommasOr}
 use Rattle.liquid_language.specs.declared.block.Block.TheVariants.{If, Unless, Capture, Case}
-use Rattle.liquid_language.specs.declared.block.Block.TheVariants.{IfChanged, For, TableRow}
+use Rattle.liquid_language.specs.declared.block.Block.TheVariants.{IfChanged, For, TableRow, Host}
 use Rattle.liquid_language.specs.declared.block.Control.TheVariants.{Elsif, Else, BareElse, When}
 use Rattle.liquid_language.specs.declared.block.BlockContext.{BlockContext}
 use Rattle.liquid_language.specs.declared.block.Role.TheVariants.{End, Control as Word, Tag}
 use Rattle.liquid_language.specs.declared.block.Role.TheVariants.{Block as Start, HostTag}
+use Rattle.liquid_language.specs.declared.block.Role.TheVariants.{HostBlock}
 use Rattle.liquid_language.specs.declared.registry.BlockKind.TheVariants as blocks
 use Rattle.liquid_language.specs.declared.registry.Language.{Language}
 use Rattle.liquid_language.specs.declared.registry.TagKind.TheVariants as tags
@@ -41,6 +42,9 @@ pub data IsStatement (l : Language) (x : BlockContext) : pieces.Piece → Statem
       IsStatement l x (pieces.output is) (leaf (output c))
   -- an end takes no items
   is_end : {w : Text} → role_of l x w ≡ Some End → IsStatement l x (pieces.tag w []) ends
+  -- the items of the end of a host's block are ignored
+  is_host_end : {w : Text} {is : List Item} → role_of l x w ≡ Some End → in_host x ≡ true →
+      IsStatement l x (pieces.tag w is) ends
   is_elsif : {w : Text} {c : Condition} {is : List Item} → role_of l x w ≡ Some (Word Elsif) →
       IsCondition c (tokens_of is) →
       IsStatement l x (pieces.tag w is) (elsif (λ f g. if_true c f g))
@@ -101,6 +105,11 @@ pub data IsStatement (l : Language) (x : BlockContext) : pieces.Piece → Statem
       role_of l x w ≡ Some (HostTag n) → call_at l n ≡ Some called →
       IsHostChain (registered_in l.filters) called c (tokens_of is) →
       IsStatement l x (pieces.tag w is) (leaf (output c))
+  -- the text of a host's block goes through its call
+  is_host_block : {w : Text} {n : ℕ} {called : BlockCall} {call : FilterCall} {is : List Item} →
+      role_of l x w ≡ Some (HostBlock n) → block_at l n ≡ Some called →
+      IsHostCall (registered_in l.filters) called.filter call (tokens_of is) →
+      IsStatement l x (pieces.tag w is) (begins (of_one (Host n) (through_call call)))
   -- a block whose body isn't read has no items, and with its body it is a piece of its own
   is_raw : {w t : Text} → verbatim_body (role_of l x w) ≡ Some Raw →
       IsStatement l x (pieces.raw w t) (closed (raw t))

@@ -7,7 +7,10 @@ use Rattle.liquid_lexer.specs.Pieces.{Piece, IsSource}
 use Rattle.liquid_lexer.specs.Styles.{only_items, styled}
 use Rattle.liquid_lexer.specs.declared.item.Delimiter.{Delimiter}
 use Rattle.liquid_parser.specs.Parsing.{IsTemplate, IsWrittenTree}
+use Rattle.liquid_lexer.specs.declared.style.Style.TheVariants.{Items}
+use Rattle.liquid_language.specs.HostTags.{style_in}
 use Rattle.liquid_language.specs.Styles.{style_of}
+use Rattle.liquid_language.specs.declared.host_tags.HostKind.{HostKind}
 use Rattle.liquid_language.specs.declared.registry.Language.{Language}
 use Rattle.liquid_evaluation.specs.Tree.{Nodes, no_nodes, node, plain}
 
@@ -36,8 +39,10 @@ abbrev pub NothingDropped : Type 0
 NothingDropped = (l : Language) (t : Nodes) (source : Text) → l.drops_blanks ≡ false →
     IsTemplate l t source ↔ IsWrittenTree l t source
 
--- in a language without paths, items alone stand after the names of tags
+-- in a language without paths, in which each tag and block of the host has items, items alone
+-- stand after the names of tags
 abbrev pub ItemsWithoutPaths : Type 0
 ItemsWithoutPaths = (l : Language) (ps : List Piece) (source : Text) → l.include_paths ≡ false →
+    ((kind : HostKind) → style_in l.host_tags kind ≡ Items) →
     (IsSource (styled (style_of l)) false ps source → IsSource only_items false ps source) ×
     (IsSource only_items false ps source → IsSource (styled (style_of l)) false ps source)

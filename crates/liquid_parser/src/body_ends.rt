@@ -39,7 +39,7 @@ pub(crate) fn end_before_last(node: &mut Node, end: usize)
         Node::Unless(_, bodies) => bodies.first_end = end,
         Node::Case(_, arms, _) => end_last_arm(arms, end),
         Node::For(_, bodies) => bodies.first_end = end,
-        Node::Capture(..) | Node::IfChanged(_) | Node::TableRow(..) => {}
+        Node::Capture(..) | Node::IfChanged(_) | Node::Filtered(..) | Node::TableRow(..) => {}
         Node::Text(_) | Node::Output(_) | Node::Assign(..) | Node::Raw(_) | Node::Comment => {}
         Node::Break | Node::Continue | Node::Increment(_) | Node::Decrement(_) => {}
         Node::Cycle(..) => {}
@@ -71,6 +71,7 @@ pub(crate) fn end_last(node: &mut Node, end: usize)
         Node::TableRow(_, body_end) => *body_end = end,
         Node::Capture(_, body_end) => *body_end = end,
         Node::IfChanged(body_end) => *body_end = end,
+        Node::Filtered(_, body_end) => *body_end = end,
         Node::Text(_) | Node::Output(_) | Node::Assign(..) | Node::Raw(_) | Node::Comment => {}
         Node::Break | Node::Continue | Node::Increment(_) | Node::Decrement(_) => {}
         Node::Cycle(..) => {}

@@ -8,6 +8,7 @@ ghost use Rattle.liquid_parser.specs.Faults.{FaultsAs, FaultsAt};
 ghost use Rattle.liquid_parser.specs.inside.Classifies.{Classifies};
 ghost use Rattle.liquid_parser.specs.Classification.{comment_statement, ends_or, starts_block};
 ghost use Rattle.liquid_parser.specs.Classification.{raw_statement, reads, tag_statement};
+ghost use Rattle.liquid_parser.specs.HostTags.{in_host};
 ghost use Rattle.liquid_language.specs.Roles.{role_of};
 
 mod blocks;
@@ -18,9 +19,9 @@ mod tags;
 use crate::build::Statement;
 use crate::chain_items::{expected_before, read_chain};
 use blocks::{read_block, read_control};
-use host_tags::read_host_tag;
+use host_tags::{read_host_block, read_host_tag};
 use leaf_tags::read_leaf;
-use liquid_language::{BlockContext, Language, Role, role_of, verbatim_body};
+use liquid_language::{Block, BlockContext, Language, Role, role_of, verbatim_body};
 use liquid_lexer::{Body, Expectation, Fault, FaultKind, Item, ParseError, Piece};
 use liquid_syntax::Node;
 use std::alloc::Global;
@@ -33,7 +34,10 @@ pub fn opens(language: &Language, context: BlockContext, piece: &Piece<'_>) -> b
     match piece {
         Piece::Output(_) => false,
         Piece::Tag(name, _) | Piece::Raw(name, _) | Piece::Comment(name) => {
-            matches!(role_of(language, context, name), Some(Role::Block(_)))
+            matches!(
+                role_of(language, context, name),
+                Some(Role::Block(_) | Role::HostBlock(_))
+            )
         }
     }
 }
@@ -104,29 +108,49 @@ fn read_tag(
     items: VecDeque<Item<'_>>,
     at: &str,
 ) -> Result<Statement, ParseError>
-    ensures statement { Classifies (tag_statement language.now (lexed_items_view items.entry.items)
-        (tokens_view items.entry.items) (role_of language.now context name.now)) result }
+    ensures statement { Classifies (tag_statement language.now context
+        (lexed_items_view items.entry.items) (tokens_view items.entry.items)
+        (role_of language.now context name.now)) result }
     ensures place { FaultsAt (length at.now) result }
 {
     match role_of(language, context, name) {
         None => Err(unknown_tag(at)),
-        Some(Role::End) => read_end(items, at),
+        Some(Role::End) => read_end(context, items, at),
         Some(Role::Control(control)) => read_control(alloc, control, items, at),
         Some(Role::Tag(kind)) => read_leaf(alloc, language, kind, items, at),
         Some(Role::Block(kind)) => read_block(alloc, kind, items, at),
         Some(Role::HostTag(number)) => read_host_tag(alloc, language, number, items, at),
+        Some(Role::HostBlock(number)) => read_host_block(alloc, language, number, items, at),
     }
 }
 
-fn read_end(items: VecDeque<Item<'_>>, at: &str) -> Result<Statement, ParseError>
-    ensures statement { Classifies (ends_or (tokens_view items.entry.items)) result }
+/// An end, which takes no items; those of the end of a host's block are ignored.
+fn read_end(
+    context: BlockContext,
+    items: VecDeque<Item<'_>>,
+    at: &str,
+) -> Result<Statement, ParseError>
+    ensures statement { Classifies (ends_or (in_host context) (tokens_view items.entry.items))
+        result }
     ensures kind { FaultsAs FaultKind.Expected result }
     ensures place { FaultsAt (length at.now) result }
 {
-    if items.is_empty() {
+    if items.is_empty() || is_in_host(context) {
         Ok(Statement::End)
     } else {
         Err(expected_before(at, items, Expectation::Closer))
+    }
+}
+
+/// Whether the innermost block is one of the host.
+fn is_in_host(context: BlockContext) -> bool
+    ensures { result ≡ in_host context }
+{
+    match context {
+        BlockContext::Outside => false,
+        BlockContext::InBody(block) | BlockContext::InLast(block) => {
+            matches!(block, Block::Host(_))
+        }
     }
 }
 

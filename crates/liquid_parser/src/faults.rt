@@ -1,10 +1,12 @@
 //! The faults of blocks: of an end that isn't one, of one that is missing, and of blocks that nest
 //! too deep.
 ghost use Rattle.std.specs.Prelude.{◌≡◌};
-ghost use Rattle.liquid_lexer.specs.Readers.{IsAt, IsOfKind, end_of};
+ghost use Rattle.liquid_lexer.specs.Readers.{IsAt, IsOfKind};
 ghost use Rattle.liquid_language.specs.Controls.{end_word};
+ghost use Rattle.liquid_language.specs.declared.registry.Language.{Language};
+ghost use Rattle.liquid_parser.specs.Faults.{wanted_end};
 
-use liquid_language::{Block, end_tag};
+use liquid_language::{Block, standard_end};
 use liquid_lexer::{Expectation, Fault, FaultKind, ParseError};
 
 /// The fault of an end, an `else` or an `elsif` where no body can end. It begins `remaining` bytes
@@ -39,12 +41,22 @@ pub(crate) fn too_nested(remaining: usize) -> ParseError
 pub(crate) fn missing_end(block: Block) -> Fault
     ensures kind { result.kind ≡ FaultKind.MissingEnd }
     ensures place { result.remaining ≡ 0 }
-    ensures wanted { end_of result.expected ≡ end_word block }
+    ensures wanted { (l : Language) → wanted_end l result.expected ≡ end_word l block }
 {
     Fault {
         kind: FaultKind::MissingEnd,
         remaining: 0,
-        expected: Expectation::End(end_tag(block)),
+        expected: expected_end(block),
         items_remaining: 0,
+    }
+}
+
+/// The end of the block: the name of its tag, or the number of a host's block.
+fn expected_end(block: Block) -> Expectation
+    ensures { (l : Language) → wanted_end l result ≡ end_word l block }
+{
+    match block {
+        Block::Host(number) => Expectation::HostEnd(number),
+        _ => Expectation::End(standard_end(block)),
     }
 }

@@ -1,7 +1,8 @@
 //! Laws of the definitions that contracts speak of.
 ghost use Rattle.liquid_parser.specs.ChainLaw.{ReadsChains, ReadsAssigns};
 ghost use Rattle.liquid_parser.specs.ConditionLaw.{ReadsConditions};
-ghost use Rattle.liquid_parser.specs.HostTagLaw.{HostTagsAreOutputs, NoHostTags};
+ghost use Rattle.liquid_parser.specs.HostTagLaw.{HostBlocksAreCalls, HostBlocksEnd};
+ghost use Rattle.liquid_parser.specs.HostTagLaw.{HostTagsAreOutputs, NoHostBlocks, NoHostTags};
 ghost use Rattle.liquid_parser.specs.StatementLaw.{ReadsStatements};
 ghost use Rattle.liquid_parser.specs.RepeatedLaw.{ReadsLoops, ReadsPairs, ReadsValues};
 ghost use Rattle.liquid_parser.specs.NestingLaw.{ReadsTheGrammar, AtMostOneTree};
@@ -9,8 +10,9 @@ ghost use Rattle.liquid_parser.specs.TemplateLaw.{AtMostOneTemplate, ItemsWithou
 ghost use Rattle.liquid_parser.specs.TemplateLaw.{NothingDropped, PlainSources};
 
 /// A source without `{{` and `{%` is itself, one text, in every language; and a source has at most
-/// one tree in a language. Where a language has no `include_paths`, each tag has items alone; and
-/// where it has no `drops_blanks`, a template is what is written.
+/// one tree in a language. Where a language has no `include_paths`, and each tag and block of its
+/// host has items, each tag has items alone; and where it has no `drops_blanks`, a template is
+/// what is written.
 pub fn template_laws()
     ensures plain { PlainSources }
     ensures unique { AtMostOneTemplate }
@@ -36,6 +38,14 @@ pub fn statement_law()
 pub fn host_tag_laws()
     ensures outputs { HostTagsAreOutputs }
     ensures none { NoHostTags }
+{}
+
+/// A host's block has the call that an output of its values has, and in its body the tag of its
+/// end's name ends it; and where none is registered, no tag begins a host's block.
+pub fn host_block_laws()
+    ensures calls { HostBlocksAreCalls }
+    ensures end { HostBlocksEnd }
+    ensures none { NoHostBlocks }
 {}
 
 /// A chain of filters and an `assign` are read exactly where the written grammar says that the

@@ -63,9 +63,13 @@ record_page job =
 abbrev pub pattern_page : Job → Nodes → Shown
 pattern_page job pattern = page_in IsFault job.depth job.partials job.shared pattern
 
+-- the job with other shared data
+abbrev pub sharing : Map Datum → Job → Job
+sharing «data» job = record job { shared = «data» }
+
 -- the job with a record's data over the shared data
 abbrev pub with_record : Pairs → Job → Job
-with_record «data» job = record job { shared = merged (map_of «data») job.shared }
+with_record «data» job = sharing (merged (map_of «data») job.shared) job
 
 abbrev pub checked_name : Text → Result Text Reason
 checked_name name = cond (is_file_name name) (Ok name) (Err (bad_name name))

@@ -2,9 +2,10 @@
 ghost use Rattle.std.specs.Prelude.{◌≡◌, IfOk, IfSome, Ok, OnErr, Some, IfErr};
 ghost use Rattle.liquid_model.specs.Maps.{empty};
 ghost use Rattle.liquid_model.specs.View.{pairs_view};
+ghost use Rattle.liquid_core.specs.Held.{held};
 ghost use Rattle.liquid_json.specs.Json.{data_of};
 ghost use Rattle.liquid_syntax.specs.Templates.{tree_of};
-ghost use Rattle.liquid_records.specs.Records.{record_outcome};
+ghost use Rattle.liquid_records.specs.Records.{record_outcome, sharing};
 ghost use Rattle.liquid_records.specs.Steps.{IsRecordStep, IsStepWithin, Leaves};
 ghost use Rattle.liquid_records.specs.Views.{fate_view, job_of, job_view, made_view, merge_names};
 ghost use Rattle.liquid_records.specs.Views.{outcome_view, pattern_of};
@@ -52,6 +53,15 @@ impl<H: NamedFilters> Merge<H> {
             pattern,
             names: BTreeMap::new(alloc),
         }
+    }
+
+    /// Takes other data that all records share. It takes no memory.
+    pub fn share(&mut self, data: Object)
+        ensures job { job_of H.named self.new ≡ sharing (held «data») (job_of H.named self.old) }
+        ensures pattern { pattern_of self.new ≡ pattern_of self.old }
+        ensures names { merge_names self.new ≡ merge_names self.old }
+    {
+        self.job.shared = data;
     }
 
     /// Writes the page of a record with these members into its file. The answer is the file's name,

@@ -16,7 +16,7 @@ use Rattle.liquid_json.specs.JsonTexts.{json_text}
 use Rattle.liquid_json.specs.Asked.{IsAlikeData}
 use Rattle.liquid_json.specs.Json.{data_of, object_read}
 use Rattle.liquid_json.proofs.Plain.{of_object}
-use Rattle.liquid_filter_sets.specs.ReadBack.{read_back, value_read}
+use Rattle.liquid_filter_sets.specs.ReadBack.{json_read_back, value_read}
 use Rattle.liquid_meaning.specs.Meaning.{meaning}
 use Rattle.liquid_meaning.specs.ProjectedRuns.{over_data}
 use Rattle.liquid_meaning.specs.Reading.{Uses}
@@ -31,22 +31,22 @@ map_read : (o : Option json.Data) (ms : Pairs) → value_read o ≡ Ok (object m
 map_read None ms h = absurd cc
 map_read (Some d) ms h = of_object d ms h
 
-data_back : (ms : Pairs) → read_back (object ms) ≡ Ok (object ms) → data_of (json_text (object ms)) ≡ Ok ms
+data_back : (ms : Pairs) → json_read_back (object ms) ≡ Ok (object ms) → data_of (json_text (object ms)) ≡ Ok ms
 data_back ms h = map_read (read (json_text (object ms))) ms h
 
 memory : (source : Text) (k : ErrorKind) → k ≡ Memory → Faulted k (data_of source)
 memory source k is = subst (λ (x : ErrorKind). Faulted x (data_of source)) (sym is) tt
 
-written : (U : Uses) (source : Text) (ms : Pairs) (r : Result (String Global) Error) → IsAlikeData U (data_of source) ms → read_back (object ms) ≡ Ok (object ms)
+written : (U : Uses) (source : Text) (ms : Pairs) (r : Result (String Global) Error) → IsAlikeData U (data_of source) ms → json_read_back (object ms) ≡ Ok (object ms)
     → IsValueOrMemory (λ s. string_bytes s) r (json_text (object ms)) → AnswersKey U source r
 written U source ms (Ok t) a back h = record { whole = a.0; seen = ms; source_is = a.1; key_is = ap data_of h ∙ data_back ms back; alike = a.2 }
 written U source ms (Err e) a back h = memory source e.kind h
 
 -- the text of a map that is read back
-pub key_written : (U : Uses) (source : Text) (ms : Pairs) (d : Datum) (r : Result (String Global) Error) → IsAlikeData U (data_of source) ms → d ≡ object ms → read_back d ≡ Ok d
+pub key_written : (U : Uses) (source : Text) (ms : Pairs) (d : Datum) (r : Result (String Global) Error) → IsAlikeData U (data_of source) ms → d ≡ object ms → json_read_back d ≡ Ok d
     → IsValueOrMemory (λ s. string_bytes s) r (json_text d) → AnswersKey U source r
 key_written U source ms d r a is back h =
-    written U source ms r a (subst (λ x. read_back x ≡ Ok x) is back) (subst (λ x. IsValueOrMemory (λ s. string_bytes s) r (json_text x)) is h)
+    written U source ms r a (subst (λ x. json_read_back x ≡ Ok x) is back) (subst (λ x. IsValueOrMemory (λ s. string_bytes s) r (json_text x)) is h)
 
 -- no key, for want of memory
 pub refused_key : (U : Uses) (source : Text) (e : Error) → e.kind ≡ Memory → AnswersKey U source (Err e)

@@ -13,7 +13,7 @@ use Rattle.liquid_model.specs.Data.{Datum, text, text_of}
 use Rattle.liquid_model.specs.Texts.{Text}
 use Rattle.liquid_model.specs.declared.error.ErrorKind.TheVariants.{InvalidInput}
 use Rattle.liquid_model.specs.Arguments.{Answer, text_or}
-use Rattle.liquid_json.specs.JsonTexts.{json_text}
+use Rattle.liquid_json.specs.ScriptTexts.{script_json}
 
 -- `base64_encode`: RFC 4648 with padding
 abbrev pub encode_answer : Datum → Answer
@@ -33,7 +33,7 @@ decode_answer d = decoded (decode_of standard (text_of d))
 
 -- `json`
 abbrev pub json_answer : Datum → Answer
-json_answer d = Ok (text (json_text d))
+json_answer d = Ok (text (script_json d))
 
 -- `md5`, `sha1`, `sha256`: digests in hexadecimal, in lower case
 abbrev pub md5_answer : Datum → Answer

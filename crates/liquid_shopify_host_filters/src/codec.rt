@@ -10,7 +10,7 @@ ghost use Rattle.liquid_shopify_host_filters.specs.Codecs.{md5_answer, sha1_answ
 use crate::argument::text_or;
 use base64::DecodeAllocError;
 use base64::engine::general_purpose::STANDARD;
-use liquid_json::json_of;
+use liquid_json::json_for_scripts;
 use liquid_model::{Error, ErrorKind, Result, Value, text_of};
 use md5::Md5;
 use sha1::Sha1;
@@ -57,11 +57,11 @@ fn decoded_text(alloc: Global, bytes: Vec<u8>) -> Result<Value>
 }
 
 /// `json`: the input as JSON, with nothing between its tokens; the keys of a map stand in the order
-/// of their bytes.
+/// of their bytes. `\u003c`, `\u003e` and `\u0026` stand for `<`, `>` and `&`.
 pub(crate) fn json_answer(alloc: Global, input: &Value) -> Result<Value>
     ensures { Answers view result (json_answer (view input.now)) }
 {
-    Ok(Value::Text(json_of(alloc, input)?))
+    Ok(Value::Text(json_for_scripts(alloc, input)?))
 }
 
 /// `md5`: the digest of the input's text in hexadecimal.

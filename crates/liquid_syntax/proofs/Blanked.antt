@@ -1,5 +1,5 @@
 -- A template whose blanks are emptied.
-use Rattle.std.proofs.Common.{◌≡◌, ℕ, ◌+◌, ◌<◌, Bool, true, false, List, [], ◌∷◌, ◌++◌, length, map, Option, Some, None, option_map, get_or, refl, sym, ap, ◌∙◌, subst, arith, append_assoc}
+use Rattle.std.proofs.Common.{◌≡◌, ℕ, ◌+◌, false, List, [], ◌∷◌, ◌++◌, length, Option, Some, None, option_map, refl, sym, ap, ◌∙◌, subst, arith, append_assoc}
 use Rattle.std.proofs.lemmas.List.{append-nil, drop_more, length-map}
 use Rattle.std.proofs.lemmas.Option.{get_or_from_slice_get, slice_get-map, slice_get_within}
 use Rattle.std.specs.Prelude.{drop, slice_get}
@@ -12,11 +12,11 @@ use Rattle.liquid_syntax.specs.Nested.{AreNested, ends_in}
 use Rattle.liquid_syntax.specs.Templates.{template_nodes, tree_of}
 use Rattle.liquid_syntax.specs.declared.node.Node.{Node}
 use Rattle.liquid_syntax.specs.declared.template.Template.{Template}
-use Rattle.liquid_syntax.specs.inside.BlankNodes.{own_flat, own_flats, tidied}
+use Rattle.liquid_syntax.specs.inside.BlankNodes.{own_flat, own_flats, tidied_all}
 use Rattle.liquid_syntax.proofs.BlankTrees.{IsFit, AreFit, made, made_bodies, tidy_is}
 use Rattle.liquid_syntax.proofs.Dressed.{nested_laid, laid_nested}
 use Rattle.liquid_syntax.proofs.Round.{tree_of-laid, whole-stands}
-use Rattle.liquid_syntax.proofs.Tidied.{bodies_size, stands_size}
+use Rattle.liquid_syntax.proofs.Tidied.{all_plain, bodies_size, stands_size}
 use Rattle.liquid_syntax.proofs.Whole.{ends_seen, tree_is}
 
 -- ---- a list is that of the forest that stands in it
@@ -125,9 +125,9 @@ pub emptied_nests : (us : List Node) (f : Forest Maker) → IsLaidOut (flats us)
 emptied_nests us f s =
     subst AreNested (ap ends_in (whole_laid (flats us) f (subst (IsLaidOut (flats us) 0 f) (sym (length-map us flat_of)) s)) ∙ sym (ends_seen us)) (laid_nested f)
 
-pub emptied_tree : (t new : Template) (us : List Node) → template_nodes new ≡ us → IsLaidOut (flats us) 0 (tidied false (own_forest t)) (length us) → tree_of new ≡ without_blanks (tree_of t)
+pub emptied_tree : (t new : Template) (us : List Node) → template_nodes new ≡ us → IsLaidOut (flats us) 0 (tidied_all false false (own_forest t)) (length us) → tree_of new ≡ without_blanks (tree_of t)
 emptied_tree t new us is s =
     let ns = template_nodes t in
     let f = own_forest t in
-    tree_is new ∙ ap (λ l. nodes_of (places.tree_of (flats l))) is ∙ ap nodes_of (made_tree us (tidied false f) s) ∙ tidy_is false f (fits ns 0 f (length ns) (own_stands t))
+    tree_is new ∙ ap (λ l. nodes_of (places.tree_of (flats l))) is ∙ ap nodes_of (made_tree us (tidied_all false false f) s ∙ all_plain false f) ∙ tidy_is false false f (fits ns 0 f (length ns) (own_stands t))
     ∙ ap (λ g. without_blanks (nodes_of g)) (sym (made_tree ns (made f) (made_stands ns 0 f (length ns) (own_stands t)))) ∙ ap without_blanks (sym (tree_is t))

@@ -2,17 +2,16 @@
 use Rattle.std.proofs.lemmas.List.{length-set, get_or-set_same, get_or-set_other}
 use Rattle.std.proofs.lemmas.Option.{slice_get-get_or, slice_get-map, slice_get_past, slice_get_read}
 use Rattle.std.proofs.lemmas.Bool.{ltb-true, ltb-false}
-use Rattle.std.proofs.Common.{◌≡◌, ℕ, ◌+◌, ◌<◌, ◌≤◌, Bool, true, false, ◌&&◌, ◌⊎◌, List, length, map, get_or, nat_lt, Option, Some, option_map, inl, inr, refl, sym, ap, ◌∙◌, subst, arith}
+use Rattle.std.proofs.Common.{◌≡◌, ℕ, ◌+◌, ◌<◌, ◌≤◌, Bool, true, false, ◌&&◌, ◌⊎◌, List, length, map, get_or, nat_lt, Some, option_map, inl, inr, refl, sym, ap, ◌∙◌, subst, arith}
 use Rattle.std.specs.Prelude.{◌≢◌, slice_get, slice_set}
 use Rattle.liquid_syntax.specs.Flats.{Maker, flat_of, flats}
 use Rattle.liquid_syntax.specs.Forest.{Forest, Bodies, node}
 use Rattle.liquid_syntax.specs.Laid.{Flat, IsLaidOut, StandBodies, last_end}
 use Rattle.liquid_syntax.specs.declared.node.Node.{Node}
-use Rattle.liquid_syntax.specs.declared.node.Node.TheVariants.{Text as Plain, Output, Assign, Raw, Comment, If, Unless, Capture, Case, For, TableRow, Break, Continue, Increment, Decrement, Cycle, IfChanged, Include, JekyllInclude, Render, RenderEach}
-use Rattle.liquid_syntax.specs.inside.BlankNodes.{AreSameOutside, IsCleared, IsOwnRange, cleared, drops, own_flat, own_flats, quiet_bodies, tidied, tidied_bodies}
-use Rattle.liquid_syntax.proofs.Places.{Stands-le, StandBodies-le}
+use Rattle.liquid_syntax.specs.declared.node.Node.TheVariants.{Text as Plain, Output, Assign, Raw, Comment, If, Unless, Capture, Case, For, TableRow, Break, Continue, Increment, Decrement, Cycle, IfChanged, Filtered, Include, JekyllInclude, Render, RenderEach}
+use Rattle.liquid_syntax.specs.inside.BlankNodes.{AreSameOutside, IsCleared, IsOwnRange, cleared, ends_in_if, is_empty, is_if, is_silent, own_flat, own_flats, tidied_all, tidied_bodies}
 use Rattle.liquid_syntax.proofs.Round.{joined}
-use Rattle.liquid_syntax.proofs.Tidied.{Agree, Begins, own_first, own_within, bodies_stand, bodies_there, bodies_tidied, stands_there}
+use Rattle.liquid_syntax.proofs.Tidied.{Agree, Begins, own_first, bodies_stand, bodies_there, bodies_tidied, stands_there}
 
 -- ---- a node that is written into a list
 
@@ -39,7 +38,7 @@ pub record IsTurned (drop : Bool) (at : ℕ) (n : Node) (ns ms : List Node) : Ty
   pub long : length ms ≡ length ns
 
 -- what is read twice is the same
-read_twice : (ns : List Node) (at : ℕ) (n m : Node) → at < length ns → slice_get ns at ≡ Some n → m ≡ get_or ns at m → m ≡ n
+pub read_twice : (ns : List Node) (at : ℕ) (n m : Node) → at < length ns → slice_get ns at ≡ Some n → m ≡ get_or ns at m → m ≡ n
 read_twice ns at n m lt there is = let e : Some m ≡ Some n = sym (slice_get_read ns (length ns) at m refl lt is) ∙ there in cc
 
 pub turned : (at : ℕ) (n old m : Node) (ns ms : List Node) → slice_get ns at ≡ Some n → at < length ns → old ≡ get_or ns at old → ms ≡ slice_set ns at m → IsCleared old m → IsTurned true at n ns ms
@@ -74,6 +73,7 @@ uncleared (Increment name) = refl
 uncleared (Decrement name) = refl
 uncleared (Cycle group values) = refl
 uncleared (IfChanged end) = refl
+uncleared (Filtered filters end) = refl
 uncleared (Include name pairs) = refl
 uncleared (JekyllInclude name pairs) = refl
 uncleared (Render name pairs) = refl
@@ -104,10 +104,11 @@ bodies_left drop at n ns ms es bs turn there = bodies_there (own_flats ns) (own_
 pub range_left : (drop : Bool) (at : ℕ) (f : Forest Node) (to : ℕ) (n : Node) (ns ms : List Node) → IsTurned drop at n ns ms → Begins ns at f to n → IsOwnRange ms (at + 1) (last_end (at + 1) (flat_of n).ends)
 range_left drop at f to n ns ms turn (bs, rest, is, inner, after) = (joined bs, bodies_stand (own_flats ms) (at + 1) (flat_of n).ends bs (bodies_left drop at n ns ms (flat_of n).ends bs turn inner))
 
-module _ (old ns ms us : List Node) (from at past : ℕ) (drop silent : Bool) (n : Node) (begun : from ≤ at) (there : slice_get ns at ≡ Some n) (is_past : past ≡ last_end (at + 1) (flat_of n).ends)
-    (same : AreSameOutside from at old ns) (turn : IsTurned drop at n ns ms) (laid : (f : Forest Node) → IsLaidOut (own_flats ms) (at + 1) f past → IsLaidOut (flats us) (at + 1) (tidied silent f) past)
+module _ (old ns ms us : List Node) (from at past to : ℕ) (drop chained silent last : Bool) (n : Node) (begun : from ≤ at) (there : slice_get ns at ≡ Some n) (is_past : past ≡ last_end (at + 1) (flat_of n).ends)
+    (same : AreSameOutside from at old ns) (turn : IsTurned drop at n ns ms) (laid : (f : Forest Node) → IsLaidOut (own_flats ms) (at + 1) f past → IsLaidOut (flats us) (at + 1) (tidied_all silent last f) past)
     (inside : AreSameOutside (at + 1) past ms us) (at_past : at < past)
-    (silence : (bs : Bodies Node) → StandBodies (own_flats ns) (at + 1) (flat_of n).ends bs → silent ≡ (drops n && quiet_bodies bs)) where
+    (silence : (bs : Bodies Node) (rest : Forest Node) → StandBodies (own_flats ns) (at + 1) (flat_of n).ends bs → IsLaidOut (own_flats ns) past rest to → silent ≡ is_silent drop (chained && is_empty rest) n bs)
+    (is_last : (bs : Bodies Node) → StandBodies (own_flats ns) (at + 1) (flat_of n).ends bs → last ≡ (is_if n && ends_in_if bs)) where
   -- nothing has changed but up to the end of the node
   pub same_past : AreSameOutside from past old us
   same_past i (inl lt) = inside i (inl (omega (arith, lt, begun))) ∙ turn.others i (inl (omega (arith, lt, begun))) ∙ same i (inl lt)
@@ -119,25 +120,28 @@ module _ (old ns ms us : List Node) (from at past : ℕ) (drop silent : Bool) (n
       agree i le (omega (arith, lt, at_past)) ∙ seen flat_of ns us i (inside i (inl (omega (arith, lt))) ∙ turn.others i (inl lt))
 
   -- and the node that was turned, with its bodies, before what is left
-  pub node_done : (g : Forest Node) (to : ℕ) → at < to → IsLaidOut (own_flats old) at g to
-      → (rest : Forest Node) × IsLaidOut (own_flats old) past rest to × ((fs : List (Flat Maker)) → Agree (flats us) fs from past → IsLaidOut fs past (tidied drop rest) to → IsLaidOut fs at (tidied drop g) to)
-  node_done g to lt before =
+  pub node_done : (g : Forest Node) → at < to → IsLaidOut (own_flats old) at g to
+      → (rest : Forest Node) × IsLaidOut (own_flats old) past rest to × ((fs : List (Flat Maker)) → Agree (flats us) fs from past → IsLaidOut fs past (tidied_all drop chained rest) to → IsLaidOut fs at (tidied_all drop chained g) to)
+  node_done g lt before =
       let es = (flat_of n).ends in
       let (bs, rest, is, inner, after) = own_first ns at g to n there lt (still old ns from at g to same before) in
       let end = last_end (at + 1) es in
       let later : IsLaidOut (own_flats old) end rest to = stands_there (own_flats ns) (own_flats old) end rest to after (λ i le l. seen own_flat ns old i (sym (same i (inr (omega (arith, le, is_past, at_past)))))) in
       let bodies : StandBodies (own_flats ms) (at + 1) es bs = bodies_left drop at n ns ms es bs turn inner in
-      let done : IsLaidOut (flats us) (at + 1) (tidied silent (joined bs)) end =
-      subst (IsLaidOut (flats us) (at + 1) (tidied silent (joined bs))) is_past (laid (joined bs) (subst (IsLaidOut (own_flats ms) (at + 1) (joined bs)) (sym is_past) (bodies_stand (own_flats ms) (at + 1) es bs bodies))) in
-      let tidy : StandBodies (flats us) (at + 1) es (tidied_bodies (drops n && quiet_bodies bs) bs) =
-      subst (λ b. StandBodies (flats us) (at + 1) es (tidied_bodies b bs)) (silence bs inner) (bodies_tidied (own_flats ms) (flats us) silent (at + 1) es bs bodies done) in (
+      let done : IsLaidOut (flats us) (at + 1) (tidied_all silent last (joined bs)) end =
+      subst (IsLaidOut (flats us) (at + 1) (tidied_all silent last (joined bs))) is_past (laid (joined bs) (subst (IsLaidOut (own_flats ms) (at + 1) (joined bs)) (sym is_past) (bodies_stand (own_flats ms) (at + 1) es bs bodies))) in
+      let by_last : IsLaidOut (flats us) (at + 1) (tidied_all silent (is_if n && ends_in_if bs) (joined bs)) end = subst (λ b. IsLaidOut (flats us) (at + 1) (tidied_all silent b (joined bs)) end) (is_last bs inner) done in
+      let same_silence = silence bs rest inner (subst (λ k. IsLaidOut (own_flats ns) k rest to) (sym is_past) after) in
+      let silent_here = is_silent drop (chained && is_empty rest) n bs in
+      let tidy : StandBodies (flats us) (at + 1) es (tidied_bodies silent_here (is_if n) bs) =
+      subst (λ b. StandBodies (flats us) (at + 1) es (tidied_bodies b (is_if n) bs)) same_silence (bodies_tidied (own_flats ms) (flats us) silent (is_if n) (at + 1) es bs bodies by_last) in (
         rest,
         subst (λ k. IsLaidOut (own_flats old) k rest to) (sym is_past) later,
-        λ fs agree left. subst (λ f. IsLaidOut fs at (tidied drop f) to) (sym is) (
+        λ fs agree left. subst (λ f. IsLaidOut fs at (tidied_all drop chained f) to) (sym is) (
           record { head = cleared drop n; ends = es },
           agree at begun at_past ∙ slice_get-map flat_of us at ∙ ap (option_map flat_of) (inside at (inl (omega arith)) ∙ turn.there) ∙ ap Some turn.shape,
           refl,
-          bodies_there (flats us) fs (at + 1) es (tidied_bodies (drops n && quiet_bodies bs) bs) tidy (λ i le l. agree i (omega (arith, le, begun)) (omega (arith, l, is_past))),
-          subst (λ k. IsLaidOut fs k (tidied drop rest) to) is_past left,
+          bodies_there (flats us) fs (at + 1) es (tidied_bodies silent_here (is_if n) bs) tidy (λ i le l. agree i (omega (arith, le, begun)) (omega (arith, l, is_past))),
+          subst (λ k. IsLaidOut fs k (tidied_all drop chained rest) to) is_past left,
         ),
       )

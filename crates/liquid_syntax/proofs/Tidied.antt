@@ -1,16 +1,16 @@
 -- What stands in a list of nodes, when some of its texts are emptied.
-use Rattle.std.proofs.Common.{◌≡◌, ℕ, suc, ◌+◌, ◌<◌, ◌≤◌, Bool, true, false, ◌&&◌, ◌⊎◌, List, [], ◌∷◌, ◌++◌, length, get_or, Option, Some, None, option_map, inl, inr, refl, sym, ap, ◌∙◌, subst, arith}
+use Rattle.std.proofs.Common.{◌≡◌, ℕ, suc, ◌+◌, ◌<◌, ◌≤◌, Bool, true, false, ◌&&◌, List, [], ◌∷◌, ◌++◌, length, get_or, Some, option_map, refl, sym, ap, ◌∙◌, subst, arith}
 use Rattle.std.proofs.lemmas.List.{length-map}
 use Rattle.std.proofs.lemmas.Option.{slice_get-map, slice_get_read}
 use Rattle.std.specs.Prelude.{slice_get}
-use Rattle.liquid_syntax.specs.Flats.{Maker, flat_of, flats}
+use Rattle.liquid_syntax.specs.Flats.{Maker, flat_of}
 use Rattle.liquid_syntax.specs.Forest.{Forest, Bodies, empty, node, no_bodies, body, forest_size, sizes}
 use Rattle.liquid_syntax.specs.Laid.{Flat, IsLaidOut, StandBodies, last_end}
 use Rattle.liquid_syntax.specs.declared.node.Node.{Node}
 use Rattle.liquid_syntax.specs.declared.blanks.Sound.TheVariants.{Loud, Silent, OfBodies}
-use Rattle.liquid_syntax.specs.inside.BlankNodes.{IsOwnRange, drops, is_heard_as, own_flat, own_flats, quiet, quiet_bodies, sound_of, tidied, tidied_bodies, cleared}
+use Rattle.liquid_syntax.specs.inside.BlankNodes.{IsOwnRange, cleared, ends_in_if, is_empty, is_heard_as, is_if, is_lone_if, is_no_bodies, is_silent, own_flat, own_flats, quiet, quiet_bodies, sound_of, tidied, tidied_all, tidied_bodies}
 use Rattle.liquid_syntax.proofs.Places.{Stands-le, StandBodies-le, first, first-within}
-use Rattle.liquid_syntax.proofs.Round.{append, joined}
+use Rattle.liquid_syntax.proofs.Round.{append, append-empty, joined}
 
 pub last_of : (k : ℕ) (es : List ℕ) (z : ℕ) → last_end k (es ++ z ∷ []) ≡ z
 last_of k [] z = refl
@@ -87,13 +87,16 @@ mutual
       subst (λ l. last_end k l ≡ k + (forest_size f + sizes bs)) (sym eq) (omega (arith, stands_size ns k f e here, bodies_size ns e rest bs more))
 
 mutual
-  tidied_size : (drop : Bool) (f : Forest Node) → forest_size (tidied drop f) ≡ forest_size f
-  tidied_size drop empty = refl
-  tidied_size drop (node n bs rest) = ap suc (ap (λ m. m + forest_size (tidied drop rest)) (tidied_sizes (drops n && quiet_bodies bs) bs) ∙ ap (λ m. sizes bs + m) (tidied_size drop rest))
+  tidied_size : (drop chained : Bool) (f : Forest Node) → forest_size (tidied drop chained f) ≡ forest_size f
+  tidied_size drop chained empty = refl
+  tidied_size drop chained (node n bs rest) =
+      let silent = is_silent drop (chained && (is_if n && is_empty rest)) n bs in
+      ap suc (ap (λ m. m + forest_size (tidied drop false rest)) (tidied_sizes silent (is_if n) bs) ∙ ap (λ m. sizes bs + m) (tidied_size drop false rest))
 
-  tidied_sizes : (drop : Bool) (bs : Bodies Node) → sizes (tidied_bodies drop bs) ≡ sizes bs
-  tidied_sizes drop no_bodies = refl
-  tidied_sizes drop (body f bs) = ap (λ m. m + sizes (tidied_bodies drop bs)) (tidied_size drop f) ∙ ap (λ m. forest_size f + m) (tidied_sizes drop bs)
+  tidied_sizes : (drop chained : Bool) (bs : Bodies Node) → sizes (tidied_bodies drop chained bs) ≡ sizes bs
+  tidied_sizes drop chained no_bodies = refl
+  tidied_sizes drop chained (body f bs) =
+      ap (λ m. m + sizes (tidied_bodies drop chained bs)) (tidied_size drop (chained && is_no_bodies bs) f) ∙ ap (λ m. forest_size f + m) (tidied_sizes drop chained bs)
 
 -- ---- lists that agree in a range
 
@@ -140,26 +143,84 @@ pub quiet_joined : (bs : Bodies Node) → quiet (joined bs) ≡ quiet_bodies bs
 quiet_joined no_bodies = refl
 quiet_joined (body f bs) = quiet_append f (joined bs) ∙ ap (λ r. quiet f && r) (quiet_joined bs)
 
-tidied_append : (drop : Bool) (f g : Forest Node) → tidied drop (append f g) ≡ append (tidied drop f) (tidied drop g)
-tidied_append drop empty g = refl
-tidied_append drop (node n bs rest) g = ap (node (cleared drop n) (tidied_bodies (drops n && quiet_bodies bs) bs)) (tidied_append drop rest g)
+-- no root is an `elsif`
+pub all_plain : (drop : Bool) (f : Forest Node) → tidied_all drop false f ≡ tidied drop false f
+all_plain drop empty = refl
+all_plain drop (node n bs rest) = ap (node (cleared drop n) (tidied_bodies (is_silent drop false n bs) (is_if n) bs)) (all_plain drop rest)
 
-tidied_joined : (drop : Bool) (bs : Bodies Node) → tidied drop (joined bs) ≡ joined (tidied_bodies drop bs)
-tidied_joined drop no_bodies = refl
-tidied_joined drop (body f bs) = tidied_append drop f (joined bs) ∙ ap (append (tidied drop f)) (tidied_joined drop bs)
+and_true : (b : Bool) → (b && true) ≡ b
+and_true true = refl
+and_true false = refl
+
+and_false : (b : Bool) → (b && false) ≡ false
+and_false true = refl
+and_false false = refl
+
+-- the only body of a block that may have an `elsif`
+all_alone : (drop chained : Bool) (f : Forest Node) → tidied_all drop (chained && is_lone_if f) f ≡ tidied drop chained f
+all_alone drop chained empty = refl
+all_alone drop chained (node n bs empty) =
+    ap (λ b. node (cleared drop n) (tidied_bodies (is_silent drop b n bs) (is_if n) bs) empty) (and_true (chained && (is_if n && true)))
+all_alone drop chained (node n bs (node m cs rest)) =
+    let none : (chained && (is_if n && false)) ≡ false = ap (λ b. chained && b) (and_false (is_if n)) ∙ and_false chained in
+    let left = node m cs rest in
+    ap (λ b. node (cleared drop n) (tidied_bodies (is_silent drop (b && false) n bs) (is_if n) bs) (tidied_all drop b left)) none
+    ∙ ap (λ b. node (cleared drop n) (tidied_bodies (is_silent drop b n bs) (is_if n) bs) (tidied_all drop false left)) (sym none)
+    ∙ ap (node (cleared drop n) (tidied_bodies (is_silent drop (chained && (is_if n && false)) n bs) (is_if n) bs)) (all_plain drop left)
+
+more_after : (f g : Forest Node) → is_empty g ≡ false → is_empty (append f g) ≡ false
+more_after empty g more = more
+more_after (node n bs rest) g more = refl
+
+-- the last root is one of the second part, where that has any
+all_append : (drop chained : Bool) (f g : Forest Node) → is_empty g ≡ false → tidied_all drop chained (append f g) ≡ append (tidied_all drop false f) (tidied_all drop chained g)
+all_append drop chained empty g more = refl
+all_append drop chained (node n bs rest) g more =
+    let none : (chained && is_empty (append rest g)) ≡ false = ap (λ b. chained && b) (more_after rest g more) ∙ and_false chained in
+    ap (λ b. node (cleared drop n) (tidied_bodies (is_silent drop b n bs) (is_if n) bs) (tidied_all drop chained (append rest g))) none
+    ∙ ap (node (cleared drop n) (tidied_bodies (is_silent drop false n bs) (is_if n) bs)) (all_append drop chained rest g more)
+
+plain_append : (drop : Bool) (f g : Forest Node) → tidied_all drop false (append f g) ≡ append (tidied_all drop false f) (tidied_all drop false g)
+plain_append drop empty g = refl
+plain_append drop (node n bs rest) g = ap (node (cleared drop n) (tidied_bodies (is_silent drop false n bs) (is_if n) bs)) (plain_append drop rest g)
+
+lone_if_is_there : (f : Forest Node) → is_lone_if f ≡ true → is_empty f ≡ false
+lone_if_is_there empty is = absurd cc
+lone_if_is_there (node n bs rest) is = refl
+
+last_is_there : (bs : Bodies Node) → ends_in_if bs ≡ true → is_empty (joined bs) ≡ false
+last_is_there no_bodies is = absurd cc
+last_is_there (body f no_bodies) is = ap is_empty (append-empty f) ∙ lone_if_is_there f is
+last_is_there (body f (body g bs)) is = more_after f (joined (body g bs)) (last_is_there (body g bs) is)
+
+-- bodies one after another
+all_parts : (drop chained : Bool) (f : Forest Node) (bs : Bodies Node) (last : Bool) → ends_in_if bs ≡ last → tidied_all drop (chained && last) (append f (joined bs)) ≡ append (tidied_all drop false f) (tidied_all drop (chained && last) (joined bs))
+all_parts drop true f bs true is = all_append drop true f (joined bs) (last_is_there bs is)
+all_parts drop true f bs false is = plain_append drop f (joined bs)
+all_parts drop false f bs last is = plain_append drop f (joined bs)
+
+tidied_joined : (drop chained : Bool) (bs : Bodies Node) → tidied_all drop (chained && ends_in_if bs) (joined bs) ≡ joined (tidied_bodies drop chained bs)
+tidied_joined drop chained no_bodies = refl
+tidied_joined drop chained (body f no_bodies) =
+    ap (tidied_all drop (chained && is_lone_if f)) (append-empty f) ∙ all_alone drop chained f ∙ ap (λ b. tidied drop b f) (sym (and_true chained)) ∙ sym (append-empty (tidied drop (chained && true) f))
+tidied_joined drop chained (body f (body g bs)) =
+    all_parts drop chained f (body g bs) (ends_in_if (body g bs)) refl
+    ∙ ap (λ h. append h (tidied_all drop (chained && ends_in_if (body g bs)) (joined (body g bs)))) (all_plain drop f ∙ ap (λ b. tidied drop b f) (sym (and_false chained)))
+    ∙ ap (append (tidied drop (chained && false) f)) (tidied_joined drop chained (body g bs))
 
 -- what stands one after another, by the ends of the bodies that were there
-parted : (ns : List (Flat Node)) (ms : List (Flat Maker)) (drop : Bool) (k : ℕ) (es : List ℕ) (bs : Bodies Node) (to : ℕ) → StandBodies ns k es bs → IsLaidOut ms k (joined (tidied_bodies drop bs)) to → StandBodies ms k es (tidied_bodies drop bs)
-parted ns ms drop k es no_bodies to s t = s
-parted ns ms drop k es (body f bs) to (e, rest, eq, here, more) t =
-    let (m, first, later) = stands_append ms k (tidied drop f) (joined (tidied_bodies drop bs)) to t in
-    let there : m ≡ e = stands_size ms k (tidied drop f) m first ∙ ap (λ n. k + n) (tidied_size drop f) ∙ sym (stands_size ns k f e here) in (
+parted : (ns : List (Flat Node)) (ms : List (Flat Maker)) (drop chained : Bool) (k : ℕ) (es : List ℕ) (bs : Bodies Node) (to : ℕ) → StandBodies ns k es bs → IsLaidOut ms k (joined (tidied_bodies drop chained bs)) to → StandBodies ms k es (tidied_bodies drop chained bs)
+parted ns ms drop chained k es no_bodies to s t = s
+parted ns ms drop chained k es (body f bs) to (e, rest, eq, here, more) t =
+    let tidy = tidied drop (chained && is_no_bodies bs) f in
+    let (m, first, later) = stands_append ms k tidy (joined (tidied_bodies drop chained bs)) to t in
+    let there : m ≡ e = stands_size ms k tidy m first ∙ ap (λ n. k + n) (tidied_size drop (chained && is_no_bodies bs) f) ∙ sym (stands_size ns k f e here) in (
       e,
       rest,
       eq,
-      subst (λ n. IsLaidOut ms k (tidied drop f) n) there first,
-      parted ns ms drop e rest bs to more (subst (λ n. IsLaidOut ms n (joined (tidied_bodies drop bs)) to) there later),
+      subst (λ n. IsLaidOut ms k tidy n) there first,
+      parted ns ms drop chained e rest bs to more (subst (λ n. IsLaidOut ms n (joined (tidied_bodies drop chained bs)) to) there later),
     )
 
-pub bodies_tidied : (ns : List (Flat Node)) (ms : List (Flat Maker)) (drop : Bool) (k : ℕ) (es : List ℕ) (bs : Bodies Node) → StandBodies ns k es bs → IsLaidOut ms k (tidied drop (joined bs)) (last_end k es) → StandBodies ms k es (tidied_bodies drop bs)
-bodies_tidied ns ms drop k es bs s t = parted ns ms drop k es bs (last_end k es) s (subst (λ f. IsLaidOut ms k f (last_end k es)) (tidied_joined drop bs) t)
+pub bodies_tidied : (ns : List (Flat Node)) (ms : List (Flat Maker)) (drop chained : Bool) (k : ℕ) (es : List ℕ) (bs : Bodies Node) → StandBodies ns k es bs → IsLaidOut ms k (tidied_all drop (chained && ends_in_if bs) (joined bs)) (last_end k es) → StandBodies ms k es (tidied_bodies drop chained bs)
+bodies_tidied ns ms drop chained k es bs s t = parted ns ms drop chained k es bs (last_end k es) s (subst (λ f. IsLaidOut ms k f (last_end k es)) (tidied_joined drop chained bs) t)

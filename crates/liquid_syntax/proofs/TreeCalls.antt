@@ -6,7 +6,7 @@ use Rattle.std.proofs.lemmas.List.Folds.{list_all-append}
 use mathlib.Core.Path.{refl, sym, ap, subst, ◌∙◌}
 use Rattle.liquid_core.specs.Expression.{Expression}
 use Rattle.liquid_core.specs.ExpressionView.{expression_view}
-use Rattle.liquid_evaluation.specs.ChainView.{chain_view}
+use Rattle.liquid_evaluation.specs.ChainView.{chain_filter_view, chain_view}
 use Rattle.liquid_evaluation.specs.ConditionView.{condition_view}
 use Rattle.liquid_evaluation.specs.PartialCalls.{PartialCall, node_calls, nodes_calls, whens_calls}
 use Rattle.liquid_evaluation.specs.SourceView.{source_view}
@@ -15,7 +15,7 @@ use Rattle.liquid_syntax.specs.Flats.{arm_values, bindings_view, each_view, flat
 use Rattle.liquid_syntax.specs.inside.Calls.{list_calls, own_calls}
 use Rattle.liquid_syntax.specs.Templates.{template_nodes, tree_of}
 use Rattle.liquid_syntax.specs.declared.node.Node.{Node}
-use Rattle.liquid_syntax.specs.declared.node.Node.TheVariants.{Text as Plain, Output, Assign, Raw, Comment, If, Unless, Capture, Case, For, TableRow, Break, Continue, Increment, Decrement, Cycle, IfChanged, Include, JekyllInclude, Render, RenderEach}
+use Rattle.liquid_syntax.specs.declared.node.Node.TheVariants.{Text as Plain, Output, Assign, Raw, Comment, If, Unless, Capture, Case, For, TableRow, Break, Continue, Increment, Decrement, Cycle, IfChanged, Filtered, Include, JekyllInclude, Render, RenderEach}
 use Rattle.liquid_syntax.specs.declared.template.Template.{Template}
 use Rattle.liquid_syntax.proofs.Totals.{IsTotal, Makes, leaf_makes, one_makes, two_makes, of_arms, case_makes, list_total, tree_total}
 
@@ -104,6 +104,7 @@ module _ (f : PartialCall → Bool) where
   makes (Decrement target) = without_bodies (tree.decrement (string_bytes target))
   makes (Cycle group values) = without_bodies (tree.cycle (string_bytes group) (map expression_view values.items))
   makes (IfChanged end) = one_makes true both in_node in_nodes sum true tree.ifchanged end (λ b. refl)
+  makes (Filtered filters end) = one_makes true both in_node in_nodes sum true (tree.filtered (map chain_filter_view filters.items)) end (λ b. refl)
   makes (Include partial pairs) = without_bodies (tree.include (expression_view partial) (bindings_view pairs.items))
   makes (JekyllInclude partial pairs) = without_bodies (tree.jekyll_include (string_bytes partial) (bindings_view pairs.items))
   makes (Render partial pairs) = without_bodies (tree.render (expression_view partial) None (bindings_view pairs.items))

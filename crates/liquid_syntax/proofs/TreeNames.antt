@@ -9,9 +9,9 @@ use Rattle.liquid_core.specs.Environment.{Names}
 use Rattle.liquid_core.specs.Expression.{Expression}
 use Rattle.liquid_core.specs.ExpressionView.{expression_view}
 use Rattle.liquid_model.specs.Texts.{Text}
-use Rattle.liquid_evaluation.specs.ChainView.{chain_view}
+use Rattle.liquid_evaluation.specs.ChainView.{chain_filter_view, chain_view}
 use Rattle.liquid_evaluation.specs.ConditionView.{condition_view}
-use Rattle.liquid_evaluation.specs.Names.{all_names, condition_names, expression_names, node_names, nodes_names, optional_names, source_names, whens_names, window_names}
+use Rattle.liquid_evaluation.specs.Names.{all_names, condition_names, expression_names, filters_names, node_names, nodes_names, optional_names, source_names, whens_names, window_names}
 use Rattle.liquid_evaluation.specs.SourceView.{source_view}
 use Rattle.liquid_evaluation.specs.Tree as tree
 use Rattle.liquid_syntax.specs.Flats.{arm_values, bindings_view, each_view, flat_of, leaf, window_view}
@@ -20,7 +20,7 @@ use Rattle.liquid_syntax.specs.Templates.{template_nodes, tree_of}
 use Rattle.liquid_syntax.specs.declared.loop_nodes.For as loops
 use Rattle.liquid_syntax.specs.declared.loop_nodes.TableRow as rows
 use Rattle.liquid_syntax.specs.declared.node.Node.{Node}
-use Rattle.liquid_syntax.specs.declared.node.Node.TheVariants.{Text as Plain, Output, Assign, Raw, Comment, If, Unless, Capture, Case, For, TableRow, Break, Continue, Increment, Decrement, Cycle, IfChanged, Include, JekyllInclude, Render, RenderEach}
+use Rattle.liquid_syntax.specs.declared.node.Node.TheVariants.{Text as Plain, Output, Assign, Raw, Comment, If, Unless, Capture, Case, For, TableRow, Break, Continue, Increment, Decrement, Cycle, IfChanged, Filtered, Include, JekyllInclude, Render, RenderEach}
 use Rattle.liquid_syntax.specs.declared.template.Template.{Template}
 use Rattle.liquid_syntax.specs.inside.NameVisitors.{any_both, or_assoc, or_false}
 use Rattle.liquid_syntax.proofs.Totals.{IsTotal, Makes, leaf_makes, one_makes, two_makes, of_arms, case_makes, list_total, tree_total}
@@ -124,6 +124,9 @@ module _ (N : Names) where
   makes (Decrement target) = without_bodies (tree.decrement (string_bytes target))
   makes (Cycle group values) = without_bodies (tree.cycle (string_bytes group) (map expression_view values.items))
   makes (IfChanged end) = one_makes false either in_node in_nodes sum false tree.ifchanged end (one [])
+  makes (Filtered filters end) =
+      let calls = map chain_filter_view filters.items in
+      one_makes false either in_node in_nodes sum (list_any N (filters_names calls)) (tree.filtered calls) end (one (filters_names calls))
   makes (Include partial pairs) = without_bodies (tree.include (expression_view partial) (bindings_view pairs.items))
   makes (JekyllInclude partial pairs) = without_bodies (tree.jekyll_include (string_bytes partial) (bindings_view pairs.items))
   makes (Render partial pairs) = without_bodies (tree.render (expression_view partial) None (bindings_view pairs.items))

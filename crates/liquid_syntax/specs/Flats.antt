@@ -6,7 +6,7 @@
 --     NodeAt ns at n next      the node at `at`, with its bodies, is n, and ends before `next`
 use Rattle.std.specs.Prelude.{◌≡◌, ℕ, ◌+◌, ◌≤◌, List, [], ◌∷◌, ◌++◌, map, Some, None, option_map}
 use Rattle.std.specs.Prelude.{slice_get, string_bytes}
-use Rattle.liquid_evaluation.specs.ChainView.{chain_view}
+use Rattle.liquid_evaluation.specs.ChainView.{chain_filter_view, chain_view}
 use Rattle.liquid_evaluation.specs.ConditionView.{condition_view}
 use Rattle.liquid_core.specs.Expression.{Expression}
 use Rattle.liquid_core.specs.ExpressionView.{expression_view}
@@ -26,8 +26,8 @@ use Rattle.liquid_syntax.specs.declared.node.Node.TheVariants.{Text as Plain, Ou
 use Rattle.liquid_syntax.specs.declared.node.Node.TheVariants.{Comment, If, Unless, Capture, Case}
 use Rattle.liquid_syntax.specs.declared.node.Node.TheVariants.{For, TableRow, Break, Continue}
 use Rattle.liquid_syntax.specs.declared.node.Node.TheVariants.{Increment, Decrement, Cycle}
-use Rattle.liquid_syntax.specs.declared.node.Node.TheVariants.{IfChanged, Include, JekyllInclude}
-use Rattle.liquid_syntax.specs.declared.node.Node.TheVariants.{Render, RenderEach}
+use Rattle.liquid_syntax.specs.declared.node.Node.TheVariants.{IfChanged, Filtered, Include}
+use Rattle.liquid_syntax.specs.declared.node.Node.TheVariants.{JekyllInclude, Render, RenderEach}
 
 -- a node of the tree, from the trees of its bodies
 abbrev pub Maker : Type 0
@@ -121,6 +121,8 @@ flat_of (Decrement name) = leaf (tree.decrement (string_bytes name))
 flat_of (Cycle group values) =
     leaf (tree.cycle (string_bytes group) (map expression_view values.items))
 flat_of (IfChanged end) = one_body tree.ifchanged end
+flat_of (Filtered filters end) =
+    one_body (tree.filtered (map chain_filter_view filters.items)) end
 flat_of (Include name bindings) =
     leaf (tree.include (expression_view name) (bindings_view bindings.items))
 flat_of (JekyllInclude name bindings) =

@@ -67,13 +67,17 @@ fn from_found(alloc: Global, source: &str, item: PieceItem) -> Result<Option<&st
 }
 
 /// The items of the piece with which the source begins. Its language isn't known here: a tag that
-/// can't be read as items begins with a path.
+/// can't be read as items begins with a path, or else has a text.
 fn placed(alloc: Global, source: &str) -> Result<PlacedPiece<'_>, AllocError> {
     let placed = placed_piece(alloc, source, Style::Items)?;
     if closer(placed.rest, placed.kind).is_some() {
         return Ok(placed);
     }
-    placed_piece(alloc, source, Style::PathFirst)
+    let placed = placed_piece(alloc, source, Style::PathFirst)?;
+    if closer(placed.rest, placed.kind).is_some() {
+        return Ok(placed);
+    }
+    placed_piece(alloc, source, Style::Text)
 }
 
 /// The source from an item on, where the piece has it.

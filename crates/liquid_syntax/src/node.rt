@@ -4,7 +4,7 @@ ghost use Rattle.std.specs.Prelude.{◌≡◌};
 
 use crate::loop_nodes::{Each, For, TableRow};
 use liquid_core::Expression;
-use liquid_evaluation::{Condition, FilterChain};
+use liquid_evaluation::{ChainFilter, Condition, FilterChain};
 
 /// A pair of a tag: a name, and what it is bound to.
 pub struct Binding {
@@ -92,6 +92,9 @@ pub enum Node {
     Cycle(String, Vec<Expression>),
     /// `{% ifchanged %}`, and where its body ends.
     IfChanged(usize),
+    /// A block of the host, with the filters that its body's text goes through, and where its body
+    /// ends.
+    Filtered(Vec<ChainFilter>, usize),
     /// `{% include name pairs %}`, with the name's value.
     Include(Expression, Vec<Binding>),
     /// Jekyll's `{% include name pairs %}`, with the name itself.
@@ -111,7 +114,7 @@ impl Drop for Node {
             Node::Output(_) | Node::Assign(_, _) => {}
             Node::Comment | Node::Break | Node::Continue => {}
             Node::If(_, _) | Node::Unless(_, _) => {}
-            Node::Capture(_, _) | Node::IfChanged(_) => {}
+            Node::Capture(_, _) | Node::IfChanged(_) | Node::Filtered(_, _) => {}
             Node::Case(_, _, _) | Node::For(_, _) | Node::TableRow(_, _) => {}
             Node::Cycle(_, _) => {}
             Node::Include(_, _) | Node::JekyllInclude(_, _) => {}

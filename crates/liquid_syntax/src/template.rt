@@ -102,7 +102,8 @@ impl Template {
 
     /// The same template without the white space of blocks that write nothing: each text of an
     /// `if`, `unless`, `case` or `for` in whose bodies only white space, comments, `assign`,
-    /// `capture` and such blocks stand is empty.
+    /// `capture` and such blocks stand is empty. An `if` with its `elsif` parts is one block, and
+    /// an `if` alone in the body of an `else` is an `elsif`.
     pub fn without_blanks(self) -> Template
         ensures tree { tree_of result ≡ without_blanks (tree_of self) }
         ensures positions { positions_of result ≡ positions_of self }
@@ -115,7 +116,7 @@ impl Template {
         } = self;
         let mut nodes = nodes;
         let end = nodes.len();
-        empty_blanks(&mut nodes, 0, end, false);
+        empty_blanks(&mut nodes, 0, end, false, false);
         Self {
             nodes,
             positions,

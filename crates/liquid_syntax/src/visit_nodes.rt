@@ -16,7 +16,7 @@ use crate::loop_nodes::{Each, For, TableRow, WindowExpression};
 use crate::node::{Arm, Binding, Node};
 use liquid_evaluation::{
     FilterChain, NameVisitor, RangeExpression, visit_chain, visit_condition, visit_expression,
-    visit_expressions, visit_optional, visit_source,
+    visit_expressions, visit_filters, visit_optional, visit_source,
 };
 
 /// The names of the nodes of a list.
@@ -39,6 +39,7 @@ fn visit_node<V: NameVisitor>(node: &Node, visitor: &mut V) -> bool
         Node::Text(_) | Node::Raw(_) | Node::Comment => false,
         Node::Break | Node::Continue | Node::IfChanged(_) => false,
         Node::Output(chain) => visit_chain(chain, visitor),
+        Node::Filtered(filters, _) => visit_filters(filters, visitor),
         Node::Assign(name, chain) => visit_assign(name, chain, visitor),
         Node::If(condition, _) => visit_condition(condition, visitor),
         Node::Unless(condition, _) => visit_condition(condition, visitor),

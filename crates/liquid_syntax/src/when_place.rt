@@ -6,6 +6,9 @@ use liquid_lexer::{
 use liquid_model::past_byte;
 use std::alloc::{AllocError, Global};
 
+/// All styles, the strictest first.
+const STYLES: &[Style] = &[Style::Items, Style::PathFirst, Style::Text];
+
 /// What a piece is for a `case` around it.
 #[derive(Clone, Copy, Drop)]
 enum CasePart {
@@ -62,20 +65,19 @@ fn past_piece(alloc: Global, text: &str) -> Result<Option<(CasePart, &str)>, All
 }
 
 /// The piece after a `{`, where it can be read. Its language isn't known here: a tag that can't be
-/// read as items begins with a path.
+/// read as items begins with a path, or else has a text.
 fn markup_of<'s>(
     alloc: Global,
     inside: &'s str,
 ) -> Result<Option<(Markup<'s>, &'s str)>, AllocError> {
-    let mut read = read_markup(alloc, inside, Style::Items);
-    if let Err(ParseError::Fault(_)) = &read {
-        read = read_markup(alloc, inside, Style::PathFirst);
+    for style in STYLES {
+        match read_markup(alloc, inside, *style) {
+            Ok(read) => return Ok(Some(read)),
+            Err(ParseError::Fault(_)) => {}
+            Err(ParseError::Memory) => return Err(AllocError),
+        }
     }
-    match read {
-        Ok(read) => Ok(Some(read)),
-        Err(ParseError::Fault(_)) => Ok(None),
-        Err(ParseError::Memory) => Err(AllocError),
-    }
+    Ok(None)
 }
 
 fn part_of(piece: &Piece<'_>) -> CasePart {

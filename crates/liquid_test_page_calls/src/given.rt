@@ -1,6 +1,8 @@
 //! What a page is given beside its source and its data.
 use liquid_core::{Error, Expression, Missing, Object, Result, Value, Variable, look_up};
-use liquid_lib::{HostCall, Language, Partials, TagError, jekyll, language, parse, stdlib};
+use liquid_lib::{
+    HostBlock, HostCall, Language, Partials, Style, TagError, jekyll, language, parse, stdlib,
+};
 use liquid_parser::{FilterRegistry, Registry, TagKind};
 use liquid_test_refusals::{items, text_of};
 use std::alloc::{AllocError, Global};
@@ -51,7 +53,7 @@ pub(crate) fn missing(options: &Value) -> Missing {
 }
 
 /// The standard language with what the options register in it: tags, names that stand for filters
-/// of the host, and tags of the host.
+/// of the host, and tags and blocks of the host.
 pub(crate) fn language_with(alloc: Global, options: &Value) -> Result<Language> {
     let mut language = language(alloc)?;
     register(alloc, &mut language, options)?;
@@ -67,8 +69,11 @@ fn register(alloc: Global, language: &mut Language, options: &Value) -> Result<(
     if let Some(names) = map_option(options, "host") {
         register_host(alloc, &mut language.filters, names)?;
     }
-    match map_option(options, "host tags") {
-        Some(calls) => register_host_tags(alloc, language, calls),
+    if let Some(calls) = map_option(options, "host tags") {
+        register_host_tags(alloc, language, calls)?;
+    }
+    match map_option(options, "host blocks") {
+        Some(blocks) => register_host_blocks(alloc, language, blocks),
         None => Ok(()),
     }
 }
@@ -117,7 +122,8 @@ fn register_filter(
     filters.register_host(name, 0, most)
 }
 
-/// Registers each tag with the filter and the variable that its list names, or the filter alone.
+/// Registers each tag with the filter, the variable and the style that its list names, or with a
+/// part of them.
 fn register_host_tags(alloc: Global, language: &mut Language, calls: &Object) -> Result<()> {
     for (name, call) in calls.iter() {
         let name = String::from_str(alloc, name.as_str())?;
@@ -130,15 +136,47 @@ fn register_host_tags(alloc: Global, language: &mut Language, calls: &Object) ->
 }
 
 fn host_call(alloc: Global, words: &[Value]) -> Result<HostCall> {
-    let (filter, input) = match words {
-        [filter, input, ..] => (text_of(filter), variable(alloc, text_of(input))?),
-        [filter] => (text_of(filter), Expression::Literal(Value::Nil)),
-        [] => ("", Expression::Literal(Value::Nil)),
+    let input = match words.get(1) {
+        Some(Value::Text(name)) => variable(alloc, name.as_str())?,
+        _ => Expression::Literal(Value::Nil),
     };
     Ok(HostCall {
-        filter: String::from_str(alloc, filter)?,
+        filter: word_at(alloc, words, 0)?,
         input,
+        style: style_at(words, 2),
     })
+}
+
+/// Registers each block with the filter and the style that its list names, or the filter alone.
+fn register_host_blocks(alloc: Global, language: &mut Language, blocks: &Object) -> Result<()> {
+    for (name, words) in blocks.iter() {
+        let name = String::from_str(alloc, name.as_str())?;
+        let block = HostBlock {
+            filter: word_at(alloc, items(words), 0)?,
+            style: style_at(items(words), 1),
+        };
+        if let Err(TagError::Memory) = language.register_block(alloc, name, block) {
+            return Err(Error::from(AllocError));
+        }
+    }
+    Ok(())
+}
+
+fn word_at(alloc: Global, words: &[Value], place: usize) -> Result<String> {
+    let word = match words.get(place) {
+        Some(value) => text_of(value),
+        None => "",
+    };
+    Ok(String::from_str(alloc, word)?)
+}
+
+/// The style that the word names, or else that of items.
+fn style_at(words: &[Value], place: usize) -> Style {
+    match words.get(place).map_or("", text_of) {
+        "text" => Style::Text,
+        "path" => Style::PathFirst,
+        _ => Style::Items,
+    }
 }
 
 fn variable(alloc: Global, name: &str) -> Result<Expression> {

@@ -5,7 +5,8 @@
 //! `on`, with `partials`, `tags` that are registered beside the standard ones, `paths` where
 //! Jekyll's `include` takes a path without quotes, `blanks` where the white space of blocks that
 //! write nothing is dropped, `host` (names that stand for filters of a host), `host tags` (each
-//! with its filter, and the variable that is its input if one is), the `depth`, what a value that
+//! with its filter, the variable that is its input if one is, and its style), `host blocks` (each
+//! with its filter and its style), the `depth`, what a value that
 //! is `missing` is (`nil`, or else a fault), the `writes` that its writer takes, of at most `most`
 //! bytes each and `room` bytes in all, what is rendered `first` on the same runtime, and what is
 //! rendered `then`; its page as `answer`, and the kind of its `fault`. Where a rendering of it is

@@ -3,7 +3,9 @@ use crate::given::number_or;
 use liquid_core::{Error, Expression, Result, Value};
 use liquid_filters::FilterKind;
 use liquid_lib::stdlib::{ForloopObject, IfBlock};
-use liquid_lib::{HostCall, Language, Partials, TagError, language, parse};
+use liquid_lib::{
+    HostBlock, HostCall, HostKind, Language, Partials, Style, TagError, language, parse,
+};
 use liquid_parser::{BlockKind, TagKind};
 use liquid_test_refusals::{Reporter, WorkedRow, items, text_of};
 use std::alloc::{AllocError, Global};
@@ -24,8 +26,9 @@ fn accepts(language: &Language, name: &str, count: usize) -> bool {
 }
 
 /// The calls that put something in under a name.
-const CALLS: [&str; 6] = [
+const CALLS: [&str; 7] = [
     "Language::register_tag",
+    "Language::register_block",
     "tags.register",
     "blocks.register",
     "filters.register",
@@ -98,6 +101,7 @@ fn put(
     let key = String::from_str(alloc, name)?;
     match call {
         "Language::register_tag" => put_host_tag(alloc, language, key),
+        "Language::register_block" => put_host_block(alloc, language, key),
         "tags.register" => language.tags.register(key, TagKind::Assign),
         "blocks.register" => language
             .blocks
@@ -112,8 +116,22 @@ fn put_host_tag(alloc: Global, language: &mut Language, name: String) -> Result<
     let call = HostCall {
         filter: String::from_str(alloc, "sort")?,
         input: Expression::Literal(Value::Nil),
+        style: Style::Items,
     };
-    match language.register_tag(name, call) {
+    past_refusal(language.register_tag(name, call))
+}
+
+fn put_host_block(alloc: Global, language: &mut Language, name: String) -> Result<()> {
+    let block = HostBlock {
+        filter: String::from_str(alloc, "upcase")?,
+        style: Style::Text,
+    };
+    past_refusal(language.register_block(alloc, name, block))
+}
+
+/// A refused name is no fault here.
+fn past_refusal(registered: std::result::Result<(), TagError>) -> Result<()> {
+    match registered {
         Err(TagError::Memory) => Err(Error::from(AllocError)),
         Ok(()) | Err(TagError::Refused(_)) => Ok(()),
     }
@@ -121,13 +139,21 @@ fn put_host_tag(alloc: Global, language: &mut Language, name: String) -> Result<
 
 /// Whether a host's tag of the name is there, or none can be.
 fn is_host_tag(language: &Language, name: &str) -> bool {
-    language.host_tags.number(name).is_some() || language.name_refusal(name).is_some()
+    matches!(language.host_tags.get(name), Some(HostKind::Tag(_)))
+        || language.name_refusal(name).is_some()
+}
+
+/// Whether a host's block of the name is there, or none can be.
+fn is_host_block(language: &Language, name: &str) -> bool {
+    matches!(language.host_tags.get(name), Some(HostKind::Block(_)))
+        || language.name_refusal(name).is_some()
 }
 
 /// Whether what the call put in under the name is there.
 fn is_there(language: &Language, partials: &Partials, call: &str, name: &str) -> bool {
     match call {
         "Language::register_tag" => is_host_tag(language, name),
+        "Language::register_block" => is_host_block(language, name),
         "tags.register" => language.tags.get(name).is_some(),
         "blocks.register" => language.blocks.get(name).is_some(),
         "Partials::insert" => has_partial(partials, name),

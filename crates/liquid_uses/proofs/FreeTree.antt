@@ -18,7 +18,7 @@ use Rattle.liquid_syntax.specs.inside.Mentions.{arms_names}
 use Rattle.liquid_syntax.specs.inside.NameVisitors.{mentioned_both}
 use Rattle.liquid_syntax.specs.declared.template.Template.{Template}
 use Rattle.liquid_syntax.specs.declared.node.Node.{Node}
-use Rattle.liquid_syntax.specs.declared.node.Node.TheVariants.{Text as Plain, Output, Assign, Raw, Comment, If, Unless, Capture, Case, For, TableRow, Break, Continue, Increment, Decrement, Cycle, IfChanged, Include, JekyllInclude, Render, RenderEach}
+use Rattle.liquid_syntax.specs.declared.node.Node.TheVariants.{Text as Plain, Output, Assign, Raw, Comment, If, Unless, Capture, Case, For, TableRow, Break, Continue, Increment, Decrement, Cycle, IfChanged, Filtered, Include, JekyllInclude, Render, RenderEach}
 use Rattle.liquid_syntax.proofs.Places.{Stands-le, StandBodies-le}
 use Rattle.liquid_syntax.proofs.Whole.{template_stands, tree_is}
 use Rattle.liquid_uses.specs.inside.Scopes.{read_names, own_reads, is_either, BindsIn, end_at, Visible, free, bound, ends_at, bodies_end, AreScoped}
@@ -164,6 +164,9 @@ module _ (R : PartialsRead) (q : Text) where
   node_split (IfChanged end) (b ∷ []) h = first_of (nodes_reads R b q) false h
   node_split (IfChanged end) [] h = absurd h
   node_split (IfChanged end) (b ∷ c ∷ bs) h = absurd h
+  node_split (Filtered filters end) (b ∷ []) h = one (mentioned (read_names (Filtered filters end)) q) (nodes_reads R b q) h
+  node_split (Filtered filters end) [] h = absurd h
+  node_split (Filtered filters end) (b ∷ c ∷ bs) h = absurd h
   node_split (Include name pairs) bs h = first_of (own_reads R (Include name pairs) q) (inner_reads R [] bs q) h
   node_split (JekyllInclude name pairs) bs h = first_of (own_reads R (JekyllInclude name pairs) q) (inner_reads R [] bs q) h
   node_split (Render name pairs) bs h = first_of (own_reads R (Render name pairs) q) (inner_reads R [] bs q) (first_of (mentioned (read_names (Render name pairs)) q) false h)
@@ -230,6 +233,7 @@ module _ (xs : List (Flat Maker)) (end p i : ℕ) (q : Text) where
   self_until Continue bs s le b = absurd b
   self_until (Cycle group values) bs s le b = absurd b
   self_until (IfChanged last) bs s le b = absurd b
+  self_until (Filtered filters last) bs s le b = absurd b
   self_until (Include name pairs) bs s le b = absurd b
   self_until (JekyllInclude name pairs) bs s le b = absurd b
   self_until (Render name pairs) bs s le b = absurd b
@@ -254,6 +258,7 @@ module _ (xs : List (Flat Maker)) (end p i : ℕ) (q : Text) where
   self_inside Continue lt le b = absurd b
   self_inside (Cycle group values) lt le b = absurd b
   self_inside (IfChanged last) lt le b = absurd b
+  self_inside (Filtered filters last) lt le b = absurd b
   self_inside (Include name pairs) lt le b = absurd b
   self_inside (JekyllInclude name pairs) lt le b = absurd b
   self_inside (Render name pairs) lt le b = absurd b
@@ -283,6 +288,7 @@ module _ (xs : List (Flat Maker)) (end p i : ℕ) (q : Text) where
   self_after Continue bs s le b = absurd b
   self_after (Cycle group values) bs s le b = absurd b
   self_after (IfChanged last) bs s le b = absurd b
+  self_after (Filtered filters last) bs s le b = absurd b
   self_after (Include name pairs) bs s le b = absurd b
   self_after (JekyllInclude name pairs) bs s le b = absurd b
   self_after (Render name pairs) bs s le b = absurd b

@@ -1,4 +1,5 @@
 pub mod AddedPaths
+pub mod AskedTogether
 pub mod Chains
 pub mod DataSight
 pub mod EachGrants

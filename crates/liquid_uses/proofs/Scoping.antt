@@ -11,7 +11,6 @@ use Rattle.liquid_syntax.specs.Laid.{last_end}
 use Rattle.liquid_syntax.specs.Flats.{arm_ends}
 use Rattle.liquid_syntax.specs.declared.node.Arm.{Arm}
 use Rattle.liquid_syntax.specs.declared.node.Node.{Node}
-use Rattle.liquid_syntax.specs.declared.node.Node.TheVariants.{Text as Plain, Output, Assign, Raw, Comment, If, Unless, Capture, Case, For, TableRow, Break, Continue, Increment, Decrement, Cycle, IfChanged, Include, JekyllInclude, Render, RenderEach}
 use Rattle.liquid_uses.specs.declared.scopes.Scopes.{Scopes}
 use Rattle.liquid_uses.specs.declared.scopes.Reader.{Reader}
 use Rattle.liquid_uses.specs.inside.Readings.{reads_in}

@@ -5,7 +5,7 @@ use Rattle.std.specs.declared.alloc.Global.{Global}
 use Rattle.std.specs.Map.{values_of}
 use Rattle.liquid_core.specs.Expression.{Expression}
 use Rattle.liquid_core.specs.ExpressionView.{expression_view}
-use Rattle.liquid_evaluation.specs.ChainView.{chain_view}
+use Rattle.liquid_evaluation.specs.ChainView.{chain_filter_view, chain_view}
 use Rattle.liquid_evaluation.specs.ConditionView.{condition_view}
 use Rattle.liquid_evaluation.specs.SourceView.{source_view}
 use Rattle.liquid_evaluation.specs.Tree as tree
@@ -16,7 +16,7 @@ use Rattle.liquid_syntax.specs.Templates.{template_nodes, tree_of}
 use Rattle.liquid_syntax.specs.declared.loop_nodes.For as loops
 use Rattle.liquid_syntax.specs.declared.loop_nodes.TableRow as rows
 use Rattle.liquid_syntax.specs.declared.node.Node.{Node}
-use Rattle.liquid_syntax.specs.declared.node.Node.TheVariants.{Text as Plain, Output, Assign, Raw, Comment, If, Unless, Capture, Case, For, TableRow, Break, Continue, Increment, Decrement, Cycle, IfChanged, Include, JekyllInclude, Render, RenderEach}
+use Rattle.liquid_syntax.specs.declared.node.Node.TheVariants.{Text as Plain, Output, Assign, Raw, Comment, If, Unless, Capture, Case, For, TableRow, Break, Continue, Increment, Decrement, Cycle, IfChanged, Filtered, Include, JekyllInclude, Render, RenderEach}
 use Rattle.liquid_syntax.specs.declared.template.Template.{Template}
 use Rattle.liquid_syntax.proofs.Totals.{IsTotal, Makes, leaf_makes, one_makes, two_makes, of_arms, case_makes, list_total, tree_total}
 use Rattle.liquid_model.specs.Uses.{there}
@@ -123,6 +123,7 @@ module _ (U : Uses) where
   makes (Decrement target) = without_bodies (tree.decrement (string_bytes target)) _ refl
   makes (Cycle group values) = without_bodies (tree.cycle (string_bytes group) (map expression_view values.items)) _ refl
   makes (IfChanged end) = one_makes true both of_node of_nodes sum true tree.ifchanged end (λ b. refl)
+  makes (Filtered filters end) = one_makes true both of_node of_nodes sum (own_grants U (Filtered filters end)) (tree.filtered (map chain_filter_view filters.items)) end (λ b. refl)
   makes (Include partial pairs) = without_bodies (tree.include (expression_view partial) (bindings_view pairs.items)) _ refl
   makes (JekyllInclude partial pairs) = without_bodies (tree.jekyll_include (string_bytes partial) (bindings_view pairs.items)) _ refl
   makes (Render partial pairs) = without_bodies (tree.render (expression_view partial) None (bindings_view pairs.items)) _ refl

@@ -1,4 +1,5 @@
 pub mod Covered
 pub mod PathReading
 pub mod Paths
+pub mod Together
 pub mod inside

@@ -6,6 +6,7 @@ use crate::demands::{Demands, Wanted};
 use crate::needs::use_before;
 use crate::windows::seen_limit;
 use liquid_core::{Expression, Use};
+use liquid_evaluation::ChainFilter;
 use liquid_syntax::{
     Arm, Atom, Binding, ComparisonOperator, Condition, Each, FilterChain, For, Node,
     RangeExpression, TableRow, WindowExpression,
@@ -27,6 +28,7 @@ fn ask_node(demands: &mut Demands<'_>, node: &Node) -> Asked {
     match node {
         Node::Text(_) | Node::Raw(_) | Node::Comment => Ok(()),
         Node::Break | Node::Continue | Node::IfChanged(_) | Node::Capture(_, _) => Ok(()),
+        Node::Filtered(filters, _) => ask_arguments(demands, filters),
         Node::Output(chain) => ask_chain(demands, chain, Wanted::Whole),
         Node::Assign(name, chain) => ask_chain(demands, chain, Wanted::AsNamed(name.as_str())),
         Node::If(condition, _) | Node::Unless(condition, _) => ask_condition(demands, condition),
@@ -59,10 +61,15 @@ fn ask_optional(demands: &mut Demands<'_>, value: &Option<Expression>) -> Asked 
 }
 
 /// The arguments of filters are seen whole.
-fn ask_chain(demands: &mut Demands<'_>, chain: &FilterChain, wanted: Wanted<'_>) -> Asked {
-    for filter in &chain.filters {
+fn ask_arguments(demands: &mut Demands<'_>, filters: &[ChainFilter]) -> Asked {
+    for filter in filters {
         ask_all(demands, &filter.arguments)?;
     }
+    Ok(())
+}
+
+fn ask_chain(demands: &mut Demands<'_>, chain: &FilterChain, wanted: Wanted<'_>) -> Asked {
+    ask_arguments(demands, &chain.filters)?;
     if matches!(chain.entry, Expression::Literal(_)) {
         return Ok(());
     }

@@ -56,7 +56,10 @@ fn open_bodies(open: &mut Vec<usize>, node: &Node) -> Result<(), AllocError> {
             open.push(bodies.last_end)?;
             open.push(bodies.first_end)?;
         }
-        Node::Capture(_, end) | Node::TableRow(_, end) | Node::IfChanged(end) => {
+        Node::Capture(_, end)
+        | Node::TableRow(_, end)
+        | Node::IfChanged(end)
+        | Node::Filtered(_, end) => {
             open.push(*end)?;
         }
         Node::Case(_, arms, end) => {

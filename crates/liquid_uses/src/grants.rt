@@ -85,7 +85,8 @@ pub(crate) fn optional_whole(uses: &Uses, expression: &Option<Expression>) -> bo
     }
 }
 
-fn filters_granted(uses: &Uses, filters: &[ChainFilter]) -> bool
+/// Everything is asked of the arguments of filters.
+pub(crate) fn filters_granted(uses: &Uses, filters: &[ChainFilter]) -> bool
     ensures { result ≡ true → grants_filters (uses_view uses.now) (map chain_filter_view
         filters.now) ≡ true }
 {

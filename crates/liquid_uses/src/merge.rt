@@ -1,4 +1,5 @@
-//! Uses put together. Nothing here has a contract: what comes of it is tested by `covers`.
+//! Uses put together. Nothing here has a contract: what comes of it is tested by `covers`, or by
+//! `asks_all`.
 
 use liquid_core::{ItemUse, Use, Uses};
 use std::alloc::{AllocError, Global};
@@ -28,7 +29,7 @@ pub(crate) fn copied(alloc: Global, asked: &Use) -> Result<Use, AllocError> {
 }
 
 #[cycle(copy)]
-fn copied_members(alloc: Global, members: &Uses) -> Result<Uses, AllocError> {
+pub(crate) fn copied_members(alloc: Global, members: &Uses) -> Result<Uses, AllocError> {
     let mut copies: Uses = BTreeMap::new(alloc);
     for (name, asked) in members.iter() {
         let key = String::from_str(alloc, name.as_str())?;
@@ -61,7 +62,7 @@ pub(crate) fn joined(alloc: Global, more: Use, held: Use) -> Result<Use, AllocEr
 }
 
 #[cycle(join)]
-fn joined_members(alloc: Global, more: Uses, held: Uses) -> Result<Uses, AllocError> {
+pub(crate) fn joined_members(alloc: Global, more: Uses, held: Uses) -> Result<Uses, AllocError> {
     let mut members = held;
     for (name, asked) in more {
         let both = match members.remove(name.as_str()) {

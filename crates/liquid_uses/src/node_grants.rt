@@ -10,8 +10,8 @@ ghost use Rattle.liquid_uses.specs.inside.OwnGrants.{own_grants, pairs_grants, r
 
 use crate::comparisons::arms_granted;
 use crate::grants::{
-    all_whole, assigned, bindings_granted, bindings_whole, condition_granted, grants_output,
-    grants_whole_value, optional_whole, present, source_granted, window_granted,
+    all_whole, assigned, bindings_granted, bindings_whole, condition_granted, filters_granted,
+    grants_output, grants_whole_value, optional_whole, present, source_granted, window_granted,
 };
 use crate::windows::seen_limit;
 use liquid_core::{Expression, Use, Uses, member_of};
@@ -36,6 +36,7 @@ fn node_granted(uses: &Uses, node: &Node) -> bool
     match node {
         Node::Text(_) | Node::Raw(_) | Node::Comment => true,
         Node::Break | Node::Continue | Node::IfChanged(_) | Node::Capture(_, _) => true,
+        Node::Filtered(filters, _) => filters_granted(uses, filters),
         Node::Output(chain) => grants_output(uses, chain),
         Node::Assign(name, chain) => assigned(uses, name.as_str(), chain),
         Node::If(condition, _) => condition_granted(uses, condition),

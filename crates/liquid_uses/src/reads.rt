@@ -6,7 +6,8 @@ ghost use Rattle.liquid_syntax.specs.Flats.{bindings_view, each_view, window_vie
 ghost use Rattle.liquid_uses.specs.inside.Scopes.{read_names};
 
 use liquid_evaluation::{
-    NameVisitor, visit_chain, visit_condition, visit_expression, visit_expressions, visit_source,
+    NameVisitor, visit_chain, visit_condition, visit_expression, visit_expressions, visit_filters,
+    visit_source,
 };
 use liquid_syntax::{
     Binding, Each, For, Node, visit_arms, visit_layout, visit_values, visit_window,
@@ -21,6 +22,7 @@ pub(crate) fn visit_reads<V: NameVisitor>(node: &Node, visitor: &mut V) -> bool
         Node::Text(_) | Node::Raw(_) | Node::Comment | Node::Capture(_, _) => false,
         Node::Break | Node::Continue | Node::IfChanged(_) => false,
         Node::Increment(_) | Node::Decrement(_) => false,
+        Node::Filtered(filters, _) => visit_filters(filters, visitor),
         Node::Output(chain) => visit_chain(chain, visitor),
         Node::Assign(_, chain) => visit_chain(chain, visitor),
         Node::If(condition, _) => visit_condition(condition, visitor),

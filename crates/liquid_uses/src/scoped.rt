@@ -70,6 +70,7 @@ fn ends_after(scopes: Scopes<'_>, at: usize, next: usize, node: &Node) -> bool
         Node::Capture(_, last) => scopes.ends_at(next, *last) && scopes.ends_at(*last, end),
         Node::TableRow(_, last) => scopes.ends_at(next, *last) && scopes.ends_at(*last, end),
         Node::IfChanged(last) => scopes.ends_at(next, *last) && scopes.ends_at(*last, end),
+        Node::Filtered(_, last) => scopes.ends_at(next, *last) && scopes.ends_at(*last, end),
         Node::Case(_, arms, last) => {
             arms_end(scopes, next, arms, *last) && scopes.ends_at(*last, end)
         }

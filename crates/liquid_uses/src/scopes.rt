@@ -114,7 +114,8 @@ fn binds_at(node: &Node, end: usize, at: usize, name: &str) -> bool
             is_either("tablerow", head.variable.as_str(), name) && at < *last
         }
         Node::Text(_) | Node::Raw(_) | Node::Comment | Node::Output(_) => false,
-        Node::Break | Node::Continue | Node::IfChanged(_) | Node::Cycle(_, _) => false,
+        Node::Break | Node::Continue | Node::Cycle(_, _) => false,
+        Node::IfChanged(_) | Node::Filtered(_, _) => false,
         Node::If(_, _) | Node::Unless(_, _) | Node::Case(_, _, _) => false,
         Node::Include(_, _) | Node::JekyllInclude(_, _) => false,
         Node::Render(_, _) | Node::RenderEach(_, _, _) => false,

@@ -4,9 +4,11 @@ use Rattle.liquid_warnings.specs.Doubts as seen
 use Rattle.liquid_warnings.specs.Views.{lack_view}
 use Rattle.liquid_warnings.specs.declared.doubt.Doubt.{Doubt}
 use Rattle.liquid_warnings.specs.declared.doubt.Doubt.TheVariants.{Lacks, NoList, PastEnd, NoDate}
+use Rattle.liquid_warnings.specs.declared.doubt.Doubt.TheVariants.{NumberText}
 
 abbrev pub doubt_view : Doubt → seen.Doubt
 doubt_view (Lacks l) = seen.lacks (lack_view l)
 doubt_view (NoList v) = seen.no_list (view v.now)
 doubt_view (PastEnd n) = seen.past_end n
 doubt_view (NoDate s) = seen.no_date s.now
+doubt_view (NumberText s) = seen.number_text s.now

@@ -6,21 +6,23 @@ use Rattle.std.specs.Prelude.{Bool, true, false, List, [], ◌∷◌, length, Op
 use Rattle.liquid_model.specs.Data.{Datum, nil, text, array, object, Pairs}
 use Rattle.liquid_model.specs.Digest.{items_len, pairs_len}
 use Rattle.liquid_model.specs.Texts.{Text}
+use Rattle.liquid_model.specs.Whole.{whole}
 use Rattle.liquid_filters.specs.DateSpelling.{read}
 use Rattle.liquid_warnings.specs.DataPaths.{Lacking, lack_of, values_at_path}
 use Rattle.liquid_warnings.specs.declared.data_path.DataPath.{DataPath}
 use Rattle.liquid_warnings.specs.declared.doubt.Span.{Span}
 use Rattle.liquid_warnings.specs.declared.doubt.Want.{Want}
 use Rattle.liquid_warnings.specs.declared.doubt.Want.TheVariants.{Present, Perhaps, Date, Items}
-use Rattle.liquid_warnings.specs.declared.doubt.Want.TheVariants.{Searched}
+use Rattle.liquid_warnings.specs.declared.doubt.Want.TheVariants.{Searched, Number}
 
 -- a map lacks a key; a loop goes over what is no list and no map; it asks for items past the end
--- of a list with this number of them; a text is no date
+-- of a list with this number of them; a text is no date; a text is a number
 pub data Doubt : Type 0 where
   lacks : Lacking → Doubt
   no_list : Datum → Doubt
   past_end : ℕ → Doubt
   no_date : Text → Doubt
+  number_text : Text → Doubt
 
 -- an amount that is asked for of n items: at most all; a negative one is huge
 abbrev pub amount_within : ℤ → ℕ → ℕ
@@ -63,11 +65,17 @@ abbrev pub date_doubt : Datum → Option Doubt
 date_doubt (text s) = cond (is_empty_or_date s) None (Some (no_date s))
 date_doubt d = None
 
+-- of what is compared with a number
+abbrev pub number_doubt : Datum → Option Doubt
+number_doubt (text s) = cond (is_some (whole (text s))) (Some (number_text s)) None
+number_doubt d = None
+
 abbrev pub value_doubt : Want → Datum → Option Doubt
 value_doubt Present d = None
 value_doubt Perhaps d = None
 value_doubt Searched d = None
 value_doubt Date d = date_doubt d
+value_doubt Number d = number_doubt d
 value_doubt (Items s) d = items_doubt s d
 
 abbrev pub or_next : Option Doubt → Option Doubt → Option Doubt
@@ -88,6 +96,7 @@ asks_values Present = false
 asks_values Perhaps = false
 asks_values Searched = false
 asks_values Date = true
+asks_values Number = true
 asks_values (Items s) = true
 
 abbrev pub doubt_of : Want → DataPath → Pairs → Option Doubt

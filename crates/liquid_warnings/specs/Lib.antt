@@ -15,6 +15,7 @@ pub mod PastPieces
 pub mod Paths
 pub mod Ported
 pub mod Remarks
+pub mod Silent
 pub mod Sorts
 pub mod Views
 pub mod Warnings

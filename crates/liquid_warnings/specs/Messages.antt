@@ -53,5 +53,9 @@ abbrev pub no_date : Text → Text → Text
 no_date path found = codes "`" ++ (quotation path ++ (codes "` is `" ++ (quotation found
     ++ codes "` in the data, which isn't read as a date")))
 
+abbrev pub number_text : Text → Text → Text
+number_text path found = codes "`" ++ (quotation path ++ (codes "` is the text `"
+    ++ (quotation found ++ codes "` in the data, and no number: such a comparison never holds")))
+
 abbrev pub item_words : Text → Text
 item_words list = codes "an item of `" ++ (quotation list ++ codes "` has no")

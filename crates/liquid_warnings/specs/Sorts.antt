@@ -7,7 +7,7 @@ use Rattle.std.specs.Prelude.{◌≡◌, ◌⊎◌, ℕ, Bool, true, false, List
 use Rattle.liquid_model.specs.Data.{Datum}
 use Rattle.liquid_model.specs.Texts.{Text}
 use Rattle.liquid_warnings.specs.Messages.{else_if_message, in_data, kind_word, lack_message}
-use Rattle.liquid_warnings.specs.Messages.{no_date, past_end, recursive_message}
+use Rattle.liquid_warnings.specs.Messages.{no_date, number_text, past_end, recursive_message}
 use Rattle.liquid_warnings.specs.Messages.{unescaped_message, unused_message}
 use Rattle.liquid_warnings.specs.Messages.{unused_partial_message, value_message}
 use Rattle.liquid_warnings.specs.Remarks.{Said, warning_at}
@@ -55,8 +55,14 @@ IsPastEnd s = (path : Text) × (count : ℕ) × WarnsOf (codes "PastEnd") (past_
 abbrev pub IsUndated : Said → Type 0
 IsUndated s = (path : Text) × (found : Text) × WarnsOf (codes "NoDate") (no_date path found) s
 
+-- a text that is a number, compared with one
+abbrev pub IsNumberText : Said → Type 0
+IsNumberText s = (path : Text) × (found : Text)
+    × WarnsOf (codes "TextNumber") (number_text path found) s
+
 abbrev pub IsDoubt : Said → Type 0
-IsDoubt s = IsUnknownPath s ⊎ (IsUnlisted s ⊎ (IsPastEnd s ⊎ IsUndated s))
+IsDoubt s = IsUnknownPath s
+    ⊎ (IsUnlisted s ⊎ (IsPastEnd s ⊎ (IsUndated s ⊎ IsNumberText s)))
 
 -- ---- of partials
 

@@ -43,7 +43,7 @@ pub fn difference_of(
             Ok(any_shows_order(&values).then_some(Difference::KeyOrder))
         }
         Want::Searched => Ok(path_to_nil(data, path).then_some(Difference::NilSearched)),
-        Want::Present | Want::Perhaps | Want::Date => Ok(None),
+        Want::Present | Want::Perhaps | Want::Date | Want::Number => Ok(None),
     }
 }
 

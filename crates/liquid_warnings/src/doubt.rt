@@ -6,7 +6,7 @@ ghost use Rattle.liquid_filters.specs.DateSpelling.{read};
 ghost use Rattle.liquid_warnings.specs.DoubtViews.{doubt_view};
 ghost use Rattle.liquid_warnings.specs.Doubts.{asks_values, amount_within, count_of, date_doubt};
 ghost use Rattle.liquid_warnings.specs.Doubts.{doubt_of, first_doubt, is_empty_or_date};
-ghost use Rattle.liquid_warnings.specs.Doubts.{items_doubt, passes_end, span_doubt};
+ghost use Rattle.liquid_warnings.specs.Doubts.{items_doubt, number_doubt, passes_end, span_doubt};
 ghost use Rattle.liquid_warnings.specs.Doubts.{unlisted_doubt, value_doubt};
 
 use crate::data_path::{DataPath, Lack, lacking, values_at};
@@ -25,6 +25,8 @@ pub enum Want {
     Searched,
     /// Dates, which are printed.
     Date,
+    /// Numbers: they are compared with one.
+    Number,
     /// Lists or maps, which a loop goes over.
     Items(Span),
 }
@@ -50,6 +52,8 @@ pub enum Doubt<'d> {
     PastEnd(usize),
     /// What is printed as a date is another text.
     NoDate(&'d str),
+    /// What is compared with a number is a text that is one, which is never equal, less or greater.
+    NumberText(&'d str),
 }
 
 /// The first doubt about the values at a path in data: a map on the way lacks a key, or one of the
@@ -79,7 +83,7 @@ pub fn doubt_of<'d>(
 fn asks_values(want: Want) -> bool
     ensures { result ≡ asks_values want }
 {
-    matches!(want, Want::Date | Want::Items(_))
+    matches!(want, Want::Date | Want::Number | Want::Items(_))
 }
 
 fn first_doubt<'d>(want: Want, values: &[&'d Value]) -> Option<Doubt<'d>>
@@ -100,6 +104,7 @@ fn value_doubt<'d>(want: Want, value: &'d Value) -> Option<Doubt<'d>>
     match want {
         Want::Present | Want::Perhaps | Want::Searched => None,
         Want::Date => date_doubt(value),
+        Want::Number => number_doubt(value),
         Want::Items(span) => items_doubt(span, value),
     }
 }
@@ -167,6 +172,17 @@ fn date_doubt<'d>(value: &'d Value) -> Option<Doubt<'d>>
 {
     match value {
         Value::Text(text) if !is_empty_or_date(text.as_str()) => Some(Doubt::NoDate(text.as_str())),
+        _ => None,
+    }
+}
+
+fn number_doubt<'d>(value: &'d Value) -> Option<Doubt<'d>>
+    ensures { option_map doubt_view result ≡ number_doubt (view value.now) }
+{
+    match value {
+        Value::Text(text) if value.to_integer().is_some() => {
+            Some(Doubt::NumberText(text.as_str()))
+        }
         _ => None,
     }
 }

@@ -1,9 +1,10 @@
 //! Where the data isn't as templates ask for it.
 ghost use Rattle.std.specs.Prelude.{◌≡◌, All, IfErr, IfOk, IfSome, OnOk, string_bytes};
-ghost use Rattle.liquid_warnings.specs.Messages.{in_data, no_date, past_end};
+ghost use Rattle.liquid_warnings.specs.Messages.{in_data, no_date, number_text, past_end};
 ghost use Rattle.liquid_warnings.specs.Paths.{is_needed};
 ghost use Rattle.liquid_warnings.specs.Remarks.{remark_view};
-ghost use Rattle.liquid_warnings.specs.Sorts.{IsDoubt, IsPastEnd, IsUndated, IsUnlisted};
+ghost use Rattle.liquid_warnings.specs.Sorts.{IsDoubt, IsNumberText, IsPastEnd, IsUndated};
+ghost use Rattle.liquid_warnings.specs.Sorts.{IsUnlisted};
 ghost use Rattle.liquid_warnings.specs.inside.Added.{AddsRemarks};
 
 use crate::loops::no_list_of;
@@ -86,6 +87,7 @@ fn remark_of(alloc: Global, asked: &UsedPath, doubt: Option<Doubt<'_>>) -> Found
         Doubt::NoList(value) => no_list_in(alloc, at, value, path),
         Doubt::PastEnd(count) => past_end_in(alloc, at, path, count),
         Doubt::NoDate(text) => no_date_in(alloc, at, path, text),
+        Doubt::NumberText(text) => number_text_in(alloc, at, path, text),
     }
 }
 
@@ -113,6 +115,14 @@ fn no_date_in(alloc: Global, at: Position, path: &str, text: &str) -> Found
     Ok(Some(Remark::warning(at, "NoDate", message)))
 }
 
+/// `TextNumber`: what is compared with a number is a text that is one.
+fn number_text_in(alloc: Global, at: Position, path: &str, text: &str) -> Found
+    ensures { IfOk result (λ r. IfSome r (λ w. IsNumberText (remark_view w))) }
+{
+    let message = number_text(alloc, path, text)?;
+    Ok(Some(Remark::warning(at, "TextNumber", message)))
+}
+
 /// A path in the data, at the begin of a message.
 pub(crate) fn in_data(alloc: Global, path: &str) -> Said
     ensures { IfOk result (λ message. string_bytes message ≡ in_data path.now) }
@@ -136,6 +146,16 @@ fn no_date(alloc: Global, path: &str, text: &str) -> Said
     let path = Quoted { text: path };
     let text = Quoted { text };
     format!(in alloc; "`{path}` is `{text}` in the data, which isn't read as a date")
+}
+
+fn number_text(alloc: Global, path: &str, text: &str) -> Said
+    ensures { IfOk result (λ message. string_bytes message ≡ number_text path.now text.now) }
+{
+    let path = Quoted { text: path };
+    let text = Quoted { text };
+    format!(in alloc;
+        "`{path}` is the text `{text}` in the data, and no number: such a comparison never holds"
+    )
 }
 
 /// `UnknownPath`: a map on the way hasn't the key.

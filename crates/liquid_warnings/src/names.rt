@@ -10,8 +10,8 @@ use crate::remark::Remark;
 use crate::suggestions::{KnownNames, Suggestions, suggestion_for};
 use liquid_core::Quoted;
 use liquid_evaluation::{
-    NameVisitor, visit_chain, visit_condition, visit_expression, visit_expressions, visit_optional,
-    visit_source,
+    NameVisitor, visit_chain, visit_condition, visit_expression, visit_expressions, visit_filters,
+    visit_optional, visit_source,
 };
 use liquid_syntax::{Binding, Node, Position, Template, WindowExpression};
 use std::alloc::{AllocError, Global};
@@ -167,6 +167,7 @@ fn read_node<V: NameVisitor>(node: &Node, visitor: &mut V) -> bool {
                 || visit_optional(&head.cols, visitor)
         }
         Node::Cycle(_, values) => visit_expressions(values, visitor),
+        Node::Filtered(filters, _) => visit_filters(filters, visitor),
         Node::JekyllInclude(_, pairs) => read_values(pairs, visitor),
         Node::Include(name, pairs) | Node::Render(name, pairs) => {
             visit_expression(name, visitor) || read_values(pairs, visitor)

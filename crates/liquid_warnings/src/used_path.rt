@@ -3,7 +3,9 @@ ghost use Rattle.std.specs.Prelude.{◌≡◌, IfErr};
 
 use crate::{DataPath, Span, Step, Want};
 use liquid_core::{ErrorKind, Expression, Result, Value, Variable};
-use liquid_evaluation::{Atom, ComparisonOperator, Condition, FilterChain, RangeExpression};
+use liquid_evaluation::{
+    Atom, ChainFilter, ComparisonOperator, Condition, FilterChain, RangeExpression,
+};
 use liquid_syntax::{
     Arm, Binding, Each, For, Node, Position, TableRow, Template, WindowExpression,
 };
@@ -106,6 +108,7 @@ impl<'t> Asking<'t> {
             Node::For(head, bodies) => self.ask_for(head, bodies.first_end),
             Node::TableRow(head, end) => self.ask_tablerow(head, *end),
             Node::Cycle(_, values) => self.ask_all(values),
+            Node::Filtered(filters, _) => self.ask_arguments(filters),
             Node::JekyllInclude(_, pairs) => self.ask_pairs(pairs),
             Node::Include(name, pairs) | Node::Render(name, pairs) => self.ask_partial(name, pairs),
             Node::RenderEach(name, each, pairs) => self.ask_render_each(name, each, pairs),
@@ -174,7 +177,11 @@ impl<'t> Asking<'t> {
             Some(_) => Want::Perhaps,
         };
         self.ask(&chain.entry, want)?;
-        for filter in &chain.filters {
+        self.ask_arguments(&chain.filters)
+    }
+
+    fn ask_arguments(&mut self, filters: &'t [ChainFilter]) -> Done {
+        for filter in filters {
             self.ask_all(&filter.arguments)?;
         }
         Ok(())
@@ -193,8 +200,8 @@ impl<'t> Asking<'t> {
         match atom {
             Atom::Bare(value) => self.ask(value, Want::Perhaps),
             Atom::Compared(left, operator, right) => {
-                self.ask(left, want_beside(*operator))?;
-                self.ask(right, Want::Present)
+                self.ask(left, want_before(*operator, right))?;
+                self.ask(right, want_beside(left))
             }
         }
     }
@@ -348,10 +355,18 @@ fn literal_steps(variable: &Variable) -> usize {
     count
 }
 
-/// What is wanted of the value before an operator.
-fn want_beside(operator: ComparisonOperator) -> Want {
+/// What is wanted of the value before an operator, which another one follows.
+fn want_before(operator: ComparisonOperator, other: &Expression) -> Want {
     match operator {
         ComparisonOperator::Contains => Want::Searched,
+        _ => want_beside(other),
+    }
+}
+
+/// What is wanted of a value that is compared with another one.
+fn want_beside(other: &Expression) -> Want {
+    match other {
+        Expression::Literal(Value::Integer(_)) => Want::Number,
         _ => Want::Present,
     }
 }

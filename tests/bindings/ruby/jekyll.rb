@@ -36,7 +36,8 @@ SITE = {
   'blank.html' => "---\ntitle: Blank\n---\n{% for post in site.posts %}\n {% if post.title %} {% assign last = post %} {% else %} {% endif %}\n" \
                   '{% comment %} no {% endcomment %} {% endfor %}|{% if page.title %} {% capture x %} {% if last %} {% endif %} {% endcapture %}' \
                   "{% endif %}[{{ x }}]{% case page.title %} {% when 'Blank' %} {% unless x %} {% endunless %} {% when 'B' %} {% endcase %}|" \
-                  "{% if last %} {% increment n %} {% endif %}{% for a in site.none %} {% else %} {% cycle 'a' %} {% endfor %}|\n",
+                  "{% if last %} {% increment n %} {% endif %}{% for a in site.none %} {% else %} {% cycle 'a' %} {% endfor %}|" \
+                  "{% if page.none %}x{% elsif last %} {% assign y = x %} {% endif %}{% if page.none %} {% elsif last %} {% endif %}|\n",
   'page.html' => "---\ntitle: Page\n---\n{{ site.posts | where_exp: 'p', 'p.title == page.title' | size }}"
 }.freeze
 

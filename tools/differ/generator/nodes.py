@@ -1,6 +1,6 @@
 """Nodes of a template, by a seed: texts, outputs, and every tag and block."""
 from . import samples
-from .expressions import STANDARD, Expressions, literal, separated, spelled
+from .expressions import ARGUMENTS, STANDARD, Expressions, literal, separated, spelled
 
 SCALAR_KINDS = ("number", "text", "truth", "nil")
 
@@ -229,6 +229,15 @@ class Nodes:
         return self.tag("ifchanged") + self.body(depth) + self.tag("endifchanged")
 
 
+    def filtered(self, depth):
+        """A block of a host, where there are such."""
+        if not self.is_jekyll:
+            return self.ifchanged(depth)
+        markup = self.rng.choice((*ARGUMENTS["code"], "ruby a='%'", "-", "'ruby'", "a %"))
+        end = self.tag("endhighlight", *(["ruby", "5"] if self.chance(0.1) else []))
+        return self.tag("highlight", markup) + self.body(depth) + end
+
+
 LEAVES = (
     [Nodes.text] * 6
     + [Nodes.value] * 9
@@ -237,4 +246,4 @@ LEAVES = (
     + [Nodes.dated] * 2
     + [Nodes.counter, Nodes.counter, Nodes.cycle, Nodes.cycle, Nodes.interrupt, Nodes.include, Nodes.include, Nodes.render, Nodes.render, Nodes.comment, Nodes.raw]
 )
-BLOCKS = [Nodes.choice] * 4 + [Nodes.unless, Nodes.case, Nodes.case] + [Nodes.loop] * 5 + [Nodes.tablerow] * 2 + [Nodes.capture] * 2 + [Nodes.ifchanged] * 2
+BLOCKS = [Nodes.choice] * 4 + [Nodes.unless, Nodes.case, Nodes.case] + [Nodes.loop] * 5 + [Nodes.tablerow] * 2 + [Nodes.capture] * 2 + [Nodes.ifchanged] * 2 + [Nodes.filtered]

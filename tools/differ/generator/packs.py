@@ -8,6 +8,7 @@ CONDITIONS = (
     "other == nil", "item.size > 1", "item contains 'a'", "item ==", "", "item.a = 1", "item.a | size", "(1..2)", "item.a == 1.5", "item %}", "not item", "item[other]", "item['a'] < item.b",
     "item.author.name == 'a'", "item.tags contains 'a'", "item.tags contains item.title", "item.author.name contains 'a' or item.price > 1", "item.tags.first == nil", "x > 1", "x.a == x.b", "item == 'a' or", "true", "nil", "item.a == empty", "  item.a  ", "item.a,item.b", "item and\nitem.b", "'", "item.first == 1", "item[0] > 0",
 )
+MARKUPS = ("ruby", "ruby", "c++ linenos", "Html+Erb linenos=table", "c# a=\"1 2\"", "ruby a=\"1  2\"", "ruby, b", "a\nb\tc=d", "a=b", "é", "", "{{ a }}", "ruby a = b", "a-b_c.d  e", "ruby \"1\"")
 DIGESTED = ("md5", "sha1", "sha256")
 MORE_ARGUMENTS = {
     "dotted": (*samples.PROPERTIES, "title", "tags", "author", "author.name", "author.name.x", "tags.0", "a.b", "a.k", ".", "a.", "k.title", "nope"),
@@ -17,6 +18,7 @@ MORE_ARGUMENTS = {
     "country": ("US", "US", "UK", ""),
     "variable": ("item", "item", "item", "x", "", "i t"),
     "conditional": CONDITIONS,
+    "code": MARKUPS,
     "image": ("small", "grande", "large", "medium", "compact", "thumb", "icon", "original", "Small", "", "1x1"),
 }
 JEKYLL = {
@@ -38,6 +40,7 @@ JEKYLL = {
     "find": ("maps", ["dotted", "any"], "map"),
     "group_by": ("maps", ["dotted"], "maps"),
     "where_exp": ("maps", ["variable", "conditional"], "maps"),
+    "highlight": ("text", ["code"], "text"),
     "sort": ("maps", ["path?", "nils?"], "list"),
 }
 SHOPIFY = {

@@ -112,6 +112,10 @@ class Run:
             self.write(text)
         self.environment.changed = text
 
+    def filtered(self, node):
+        text = self.buffered(node.body)
+        self.write(text_of(evaluate_chain(tree.Chain(tree.Literal(text), [node.call]), self.environment)))
+
     def loop(self, node):
         window = Window(node, self.environment)
         if node.tag == "tablerow":
@@ -209,6 +213,7 @@ class Run:
 
 RULES = {
     tree.Text: Run.text,
+    tree.Raw: Run.text,
     tree.Output: Run.output,
     tree.Assign: Run.assign,
     tree.Count: Run.count,
@@ -219,6 +224,7 @@ RULES = {
     tree.Loop: Run.loop,
     tree.Capture: Run.capture,
     tree.IfChanged: Run.ifchanged,
+    tree.Filtered: Run.filtered,
     tree.Include: Run.include,
     tree.JekyllInclude: Run.jekyll_include,
     tree.Render: Run.render,

@@ -76,6 +76,17 @@ class Items:
     def call(self):
         name = self.identifier()
         arguments = self.values(",") if self.skip_symbol(":") else []
+        return self.counted(name, arguments)
+
+    def host_call(self, name):
+        """The call of a filter with all values, between which a comma may stand."""
+        arguments = [] if self.is_over() else [self.value()]
+        while not self.is_over():
+            self.skip_symbol(",")
+            arguments.append(self.value())
+        return self.counted(name, arguments)
+
+    def counted(self, name, arguments):
         if name not in self.counts:
             raise Fault("UnknownFilter")
         least, most = self.counts[name]

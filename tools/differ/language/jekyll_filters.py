@@ -22,7 +22,11 @@ SCHEME = re.compile(r"[A-Za-z][A-Za-z0-9+.-]*:")
 SPACE = " \t\n\f\r"
 WORDS = re.compile(f"[^{SPACE}]+")
 LEADING_NUMBER = re.compile(f"[{SPACE}]*([+-]?)([0-9]+)")
+# what Ruby strips at the ends of a text
+STRIPPED = "\0\t\n\v\f\r "
+MARKUP = re.compile(r"([A-Za-z0-9.+#_-]+)(?:[\t-\r ]+[A-Za-z0-9_]+(?:=(?:[A-Za-z0-9_]+|\"[0-9]+(?:[\t-\r ][0-9]+)*\"))?)*")
 XML = {'"': "&quot;", "&": "&amp;", "'": "&apos;", "<": "&lt;", ">": "&gt;"}
+HTML = {**XML, "'": "&#39;"}
 
 
 def escaped(text, plain):
@@ -187,6 +191,15 @@ def atom_holds(atom, environment):
     return not (atom.operator == "contains" and left is None) and compared(atom.operator, left, right)
 
 
+def highlight(code, markup):
+    found = MARKUP.fullmatch(text_of(markup).strip(STRIPPED))
+    if not found:
+        raise Fault("InvalidArgument")
+    language = found[1].lower()
+    shown = re.sub("[\"&'<>]", lambda mark: HTML[mark[0]], text_of(code).strip(STRIPPED))
+    return f'<figure class="highlight"><pre><code class="language-{language.replace("+", "-")}" data-lang="{language}">{shown}</code></pre></figure>'
+
+
 # an argument that isn't written; a written nil is one like any other
 NOT_GIVEN = object()
 
@@ -260,5 +273,6 @@ FILTERS = {
     "find": (2, 2, find),
     "group_by": (1, 1, group_by),
     "where_exp": (2, 2, where_exp),
+    "highlight": (1, 1, highlight),
     "sort": (0, 2, sort),
 }

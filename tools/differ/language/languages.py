@@ -1,5 +1,5 @@
 """Which tags and filters a language has: the standard one, and those with a set of filters of a host."""
-from dataclasses import dataclass
+from dataclasses import dataclass, field
 from typing import Callable
 
 from . import jekyll_filters, shopify_filters
@@ -10,12 +10,15 @@ from .tags import TAGS, jekyll_include
 @dataclass(frozen=True)
 class Language:
     """The readers of tags by their names, how many arguments each filter takes, from the data the filters of a run, and the names of tags
-    that begin with a path without quotes."""
+    that begin with a path without quotes. It drops the white space of blocks that write nothing, or doesn't. By their names it has the
+    filters of blocks whose tag is one text."""
 
     tags: dict
     counts: dict
     filters: Callable
     path_tags: tuple = ()
+    drops_blanks: bool = False
+    text_blocks: dict = field(default_factory=dict)
 
 
 def counts_of(filters):
@@ -26,16 +29,18 @@ def functions_of(filters):
     return {name: function for name, (_, _, function) in filters.items()}
 
 
-def language_with(tags, filters_over, path_tags=()):
-    """The standard language with these tags and the filters that stand over the data, in place of its own of their names."""
+def language_with(tags, filters_over, path_tags=(), text_blocks=None):
+    """The standard language with these tags and the filters that stand over the data, in place of its own of their names, and without the
+    white space of blocks that write nothing."""
     counts = counts_of({**FILTERS, **filters_over({})})
-    return Language({**TAGS, **tags}, counts, lambda data: functions_of({**FILTERS, **filters_over(data)}), path_tags)
+    functions = lambda data: functions_of({**FILTERS, **filters_over(data)})
+    return Language({**TAGS, **tags}, counts, functions, path_tags, True, text_blocks or {})
 
 
 STANDARD = Language(TAGS, counts_of(FILTERS), lambda data: STANDARD_FUNCTIONS)
 STANDARD_FUNCTIONS = functions_of(FILTERS)
 LANGUAGES = {
     None: STANDARD,
-    "jekyll": language_with({"include": jekyll_include}, jekyll_filters.filters_over, ("include",)),
+    "jekyll": language_with({"include": jekyll_include}, jekyll_filters.filters_over, ("include",), {"highlight": "highlight"}),
     "shopify": language_with({}, shopify_filters.filters_over),
 }

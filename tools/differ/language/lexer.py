@@ -17,6 +17,7 @@ DIGITS = re.compile(r"[+-]?[0-9]+")
 SPACES = re.compile(f"[{SPACE}]*")
 SYMBOL = re.compile(r"[=!<>]=|<>|[<>=:,|]")
 FRACTION = re.compile(r"\.[0-9]")
+CLOSER_OF_TAG = re.compile(r"-?%\}")
 LETTER = re.compile(r"[A-Za-z_]")
 # of `.` and `/` no two stand in a row, and a `-` directly before a closer isn't taken
 PATH = re.compile(r"(?:[A-Za-z0-9_()+~#@]|-(?!%\}|\}\})|[./](?![./]))+")
@@ -45,10 +46,11 @@ COMMENT_MARKS = mark("comment", "raw", "endcomment")
 class Reader:
     """Reads a source from its beginning to its end."""
 
-    def __init__(self, source, path_tags=()):
-        """The tags of these names begin with a path without quotes."""
+    def __init__(self, source, path_tags=(), text_tags=()):
+        """The tags of these names begin with a path without quotes, or are one text."""
         self.source = source
         self.path_tags = path_tags
+        self.text_tags = text_tags
         self.at = 0
         # whether the closer just before asks to strip the text after it
         self.strips = False
@@ -76,7 +78,7 @@ class Reader:
             self.at += 1
         try:
             piece.name = self.tag_name() if opener == "{%" else ""
-            piece.items = [*self.path(piece.name), *self.items(CLOSERS[opener])]
+            piece.items = self.whole() if piece.name in self.text_tags else [*self.path(piece.name), *self.items(CLOSERS[opener])]
         except Fault as fault:
             raise fault.within(piece)
         piece.end = self.at
@@ -89,6 +91,16 @@ class Reader:
             raise Fault("Expected" if self.at < len(self.source) else "Unclosed")
         self.at = name.end()
         return name[0]
+
+    def whole(self):
+        """All up to the first closer as one text, nothing where it is only whitespace."""
+        closer = CLOSER_OF_TAG.search(self.source, self.at)
+        if not closer:
+            self.at = len(self.source)
+            raise Fault("Unclosed")
+        text = self.source[self.at : closer.start()].strip(SPACE)
+        self.at, self.strips = closer.end(), closer[0].startswith("-")
+        return [Literal(text, text)] if text else []
 
     def path(self, name):
         """The path with which a tag of the name begins, where its tags have one and one stands here."""

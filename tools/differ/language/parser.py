@@ -3,7 +3,7 @@ from .faults import Fault
 from .items import Items
 from .lexer import Reader
 from .tags import BLOCKS, VERBATIM, when
-from .tree import Output, Text
+from .tree import Filtered, Output, Raw, Text
 
 MOST_BLOCKS = 200
 
@@ -15,7 +15,7 @@ def parse(source, language):
 
 class Parser:
     def __init__(self, source, language):
-        self.reader = Reader(source, language.path_tags)
+        self.reader = Reader(source, language.path_tags, language.text_blocks)
         self.language = language
         # the name of the tag that ended the last list of nodes, with its items
         self.ended_by = None
@@ -49,9 +49,11 @@ class Parser:
             return self.language.tags[piece.name](items)
         if piece.name in VERBATIM:
             return self.verbatim(piece.name, items, depth)
-        if piece.name not in BLOCKS:
+        if piece.name not in BLOCKS and piece.name not in self.language.text_blocks:
             raise Fault("UnknownTag")
         require_room(depth)
+        if piece.name in self.language.text_blocks:
+            return self.filtered(piece.name, items, depth + 1)
         node = BLOCKS[piece.name](items)
         getattr(self, f"fill_{piece.name}")(node, depth + 1)
         return node
@@ -63,7 +65,12 @@ class Parser:
             text = self.reader.raw() if name == "raw" else self.reader.skip_comment() or ""
         require_room(depth)
         items.end()
-        return Text(text)
+        return Raw(text)
+
+    def filtered(self, name, items, depth):
+        """A block of a host: its end may have items."""
+        call = items.host_call(self.language.text_blocks[name])
+        return Filtered(call, self.nodes(depth, f"end{name}"))
 
     def of_end(self, read):
         """What is read of the tag that ended the last list of nodes."""

@@ -53,7 +53,12 @@ class Atom:
 
 @dataclass
 class Text:
-    """A text, a raw or, with the empty text, a comment."""
+    text: str
+
+
+@dataclass
+class Raw:
+    """A raw or, with the empty text, a comment."""
 
     text: str
 
@@ -125,6 +130,14 @@ class Capture:
 
 @dataclass
 class IfChanged:
+    body: list
+
+
+@dataclass
+class Filtered:
+    """The text of the body goes through the call."""
+
+    call: Call
     body: list
 
 

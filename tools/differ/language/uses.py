@@ -136,6 +136,10 @@ class Finder:
     def body(self, node):
         self.nodes(node.body)
 
+    def filtered(self, node):
+        self.body(node)
+        self.expressions(node.call.arguments)
+
     def include(self, node):
         self.expression(node.name)
         self.pairs(node.pairs)
@@ -228,6 +232,7 @@ def seen_beside(operator, other):
 
 RULES = {
     tree.Text: "nothing",
+    tree.Raw: "nothing",
     tree.Interrupt: "nothing",
     tree.Output: "output",
     tree.Assign: "assign",
@@ -238,6 +243,7 @@ RULES = {
     tree.Loop: "loop",
     tree.Capture: "capture",
     tree.IfChanged: "body",
+    tree.Filtered: "filtered",
     tree.Include: "include",
     tree.JekyllInclude: "jekyll_include",
     tree.Render: "render",

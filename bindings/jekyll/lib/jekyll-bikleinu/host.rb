@@ -4,7 +4,7 @@ module JekyllBikleinu
   # What is known of a site beyond the rules of paths, so that its pages need less of their data: the classes of its documents, and sources
   # that are written for the engine to find the paths of. A source that may do more than is known here is a Refused.
   class Host
-    MARKUP = /#{Blanks::VERBATIM}|\{%.*?%\}|\{\{.*?\}\}/m
+    MARKUP = /#{Source::VERBATIM}|\{%.*?%\}|\{\{.*?\}\}/m
     WORDS = /\A\{([{%])-?\s*(.*?)\s*-?[}%]\}\z/m
     QUOTED = /("[^"]*"|'[^']*')/
     UNKNOWN = /\A(?:render|liquid)\b/
@@ -52,7 +52,7 @@ module JekyllBikleinu
 
     # The source, with each markup as a block makes it of its words.
     def written(source, &)
-      source.gsub(MARKUP) { |piece| piece.match?(Blanks::VERBATIM) ? piece : markup(piece, &) }
+      source.gsub(MARKUP) { |piece| piece.match?(Source::VERBATIM) ? piece : markup(piece, &) }
     end
 
     def markup(piece)

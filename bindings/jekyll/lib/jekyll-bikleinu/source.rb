@@ -2,9 +2,9 @@
 
 module JekyllBikleinu
   # Sources of Jekyll's, in which what this language hasn't is written as it has it: a tag of Jekyll's or a plugin's as a filter that
-  # gives its text, and a block that writes nothing without white space.
+  # gives its text.
   class Source
-    VERBATIM = /(#{Blanks::VERBATIM})/m
+    VERBATIM = /\{%-?\s*raw\s*-?%\}.*?\{%-?\s*endraw\s*-?%\}|\{%-?\s*comment\s*-?%\}.*?\{%-?\s*endcomment\s*-?%\}/m
     # Tags that are functions of their own words, the page's and the site's data.
     TAG = /\{%(-?)\s*((?:seo|feed_meta|link|post_url)\b[^%{]*?)\s*(-?)%\}/
     HIGHLIGHT = /\{%(-?)\s*(highlight\b[^%{]*?)\s*(-?)%\}((?:(?!\{%|\{\{).)*)\{%(-?)\s*endhighlight\s*(-?)%\}/m
@@ -25,7 +25,7 @@ module JekyllBikleinu
       set = text[SET, 1]
       raise Refused, "the template sets `#{set}`" if set
 
-      Blanks.new.of(text).split(VERBATIM).map.with_index { |part, at| at.odd? ? part : converted(part) }.join
+      text.split(/(#{VERBATIM})/m).map.with_index { |part, at| at.odd? ? part : converted(part) }.join
     end
 
     private

@@ -5,8 +5,9 @@
 use Rattle.std.specs.Prelude.{ℕ, ◌+◌, ◌-◌, ◌^◌, nat_lt, if◌then◌else◌, List, [], ◌∷◌, length, None}
 use Rattle.liquid_core.specs.Expression.{Expression}
 use Rattle.liquid_evaluation.specs.Tree.{Condition, Node, Nodes, Whens}
-use Rattle.liquid_evaluation.specs.Tree.{output, assign, if_true, unless, case_of, include}
-use Rattle.liquid_evaluation.specs.Tree.{jekyll_include, render, no_nodes, node, no_whens, when}
+use Rattle.liquid_evaluation.specs.Tree.{output, assign, if_true, unless, case_of, filtered}
+use Rattle.liquid_evaluation.specs.Tree.{include, jekyll_include, render, no_nodes, node, no_whens}
+use Rattle.liquid_evaluation.specs.Tree.{when}
 
 -- the comparisons of a condition, whether `or` or `and` joins them; a value that is asked for its
 -- truth is one
@@ -30,6 +31,7 @@ node_turns (assign name chain) = 1 + length chain.filters
 node_turns (if_true c b d) = 1 + (comparisons c + elsif_comparisons d)
 node_turns (unless c b d) = 1 + comparisons c
 node_turns (case_of target whens d) = 1 + when_values whens
+node_turns (filtered filters b) = 1 + length filters
 node_turns (include name pairs) = 1 + length pairs
 node_turns (jekyll_include name pairs) = 1 + length pairs
 node_turns (render name None pairs) = 1 + length pairs

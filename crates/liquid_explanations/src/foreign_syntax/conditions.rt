@@ -27,6 +27,10 @@ not¦¦`not` isn't known; write `{% unless a %}` or `a == false`
 ¦is null¦`is null` is written `== nil`
 ¦is not¦`is not` is written `!=`
 ¦is empty¦`is empty` isn't known; compare with `''`, or `.size` with 0
+¦is divisibleby¦ask for the rest: `{% assign rest = a | modulo: 3 %}{% if rest == 0 %}`
+¦is divisible¦ask for the rest: `{% assign rest = a | modulo: 3 %}{% if rest == 0 %}`
+¦is odd¦ask for the rest: `{% assign rest = a | modulo: 2 %}{% if rest == 1 %}`
+¦is even¦ask for the rest: `{% assign rest = a | modulo: 2 %}{% if rest == 0 %}`
 ¦is defined¦`is defined` is written `{% if a %}`
 ¦is¦`is` is written `==`; `is defined` is written `{% if a %}`
 ¦,¦conditions are joined by `and` or `or`

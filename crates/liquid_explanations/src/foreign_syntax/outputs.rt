@@ -26,6 +26,8 @@ pub static OUTPUT: &str = "\
 ^¦@root¦`@root` isn't known; a name of an outer body is seen everywhere
 ^¦@key¦`@key` isn't known; a `for` over a map gives pairs, and `pair[0]` is the key
 ^¦~¦white space is stripped by `{{-` and `-}}`
+^¦<¦a shortcode isn't known; write the HTML itself, or a partial, as `{% render 'name' %}`
+^¦{{raw¦`{{{{raw}}}}` is written `{% raw %}`
 ^¦%¦a tag begins with `{%`, with one brace
 ¦{{¦the output before this `{{` has no `}}`
 ¦{%¦the output before this `{%` has no `}}`
@@ -48,6 +50,13 @@ with¦.¦`{{ with .a }}` isn't known; write `a.b` for a part of `a`
 ¦;}}¦an output ends without `;`
 :¦,¦a text stands between quotes, as `join: ','`
 ¦,¦an output shows one value; write `{{ a }}{{ b }}`
+";
+
+/// In an output, by the item that it begins with.
+pub static BEGUN: &str = "\
+partial¦.¦`{{ partial 'name' . }}` is written `{% render 'name' %}`
+template¦.¦`{{ template 'name' . }}` is written `{% render 'name' %}`
+if¦.¦`{{ if eq .a 1 }}` is written `{% if a == 1 %}`
 ";
 
 /// In an output or after the `=` of an `assign`.

@@ -10,28 +10,29 @@ use Rattle.liquid_model.specs.Projected.{pairs_wanted}
 use Rattle.liquid_model.specs.Skipping.{AlikeKeys}
 use Rattle.liquid_json.specs.Under.{Under, ItemsUnder, KeysUnder}
 use Rattle.liquid_json.specs.inside.Tokens.{datum_at, list_items_at, pairs_at}
+use Rattle.liquid_json.specs.declared.tokens.Numbers.TheVariants.{Integers}
 
 -- d is alike with the value that stands in front of the rest, and is under it
 abbrev pub IsPlanned : Use → ℕ → List Token → Datum → List Token → Type 0
-IsPlanned u depth ts d rest = (c : Datum) × (datum_at depth ts ≡ Some (c, rest)) ×
+IsPlanned u depth ts d rest = (c : Datum) × (datum_at Integers depth ts ≡ Some (c, rest)) ×
     Alike u (Some c) (Some d) × Under (Some c) (Some d)
 
 abbrev pub ArePlanned : Use → ℕ → List Token → Items → List Token → Type 0
-ArePlanned u depth ts ds rest = (cs : Items) × (list_items_at depth (length ts) ts ≡
+ArePlanned u depth ts ds rest = (cs : Items) × (list_items_at Integers depth (length ts) ts ≡
     Some (cs, rest)) ×
     Pairwise (λ c d. Alike u (Some c) (Some d)) (list_of cs) (list_of ds) ×
     ItemsUnder (list_of cs) (list_of ds)
 
 -- the same of the first n items, or of all
 abbrev pub AreFirstItems : Option ℕ → Use → ℕ → List Token → Items → List Token → Type 0
-AreFirstItems n u depth ts ds rest = (cs : Items) × (list_items_at depth (length ts) ts ≡
+AreFirstItems n u depth ts ds rest = (cs : Items) × (list_items_at Integers depth (length ts) ts ≡
     Some (cs, rest)) ×
     PairwiseUpTo n (λ c d. Alike u (Some c) (Some d)) (list_of cs) (list_of ds) ×
     ItemsUnder (list_of cs) (list_of ds)
 
 abbrev pub PairsPlanned : Fields → ℕ → List Token → Pairs → List Token → Type 0
 PairsPlanned members depth ts ps rest = (qs : Pairs) ×
-    (pairs_at depth no_pairs (length ts) ts ≡ Some (qs, rest)) ×
+    (pairs_at Integers depth no_pairs (length ts) ts ≡ Some (qs, rest)) ×
     AlikeKeys (pairs_wanted members uncounted) qs ps × KeysUnder qs ps
 
 -- the wanted data are these, or others: under each name both are alike in what U asks of it, and

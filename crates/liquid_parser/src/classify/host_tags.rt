@@ -1,21 +1,22 @@
-//! Tags of a host: each is an output of the call that it stands for.
-ghost use Rattle.std.specs.Prelude.{length};
-ghost use Rattle.liquid_evaluation.specs.ChainView.{chain_view};
-ghost use Rattle.liquid_language.specs.HostTags.{tag_call};
+//! Tags and blocks of a host: a tag is an output of the call that it stands for, and the text of a
+//! block goes through its call.
+ghost use Rattle.std.specs.Prelude.{◌≡◌, [], ◌∷◌, IfErr, IfOk, length};
+ghost use Rattle.liquid_evaluation.specs.ChainView.{chain_filter_view};
 ghost use Rattle.liquid_language.specs.Registered.{registered_in};
+ghost use Rattle.liquid_language.specs.declared.block.Block.TheVariants as blocks;
 ghost use Rattle.liquid_lexer.specs.Readers.{Parses};
 ghost use Rattle.liquid_lexer.specs.Tokens.{tokens_view};
-ghost use Rattle.liquid_parser.specs.Classification.{leaf_or};
+ghost use Rattle.liquid_parser.specs.Classification.{leaf_or, one_or};
 ghost use Rattle.liquid_parser.specs.Faults.{FaultsAt};
-ghost use Rattle.liquid_parser.specs.HostTags.{host_chain_of, host_tag_of};
+ghost use Rattle.liquid_parser.specs.HostTags.{host_block_of, host_call_of, host_tag_of};
 ghost use Rattle.liquid_parser.specs.inside.Classifies.{Classifies};
 
 use super::unknown_tag;
-use crate::build::Statement;
+use crate::build::{Stage, Statement};
 use crate::chain_items::accepted;
 use crate::value_items::{Separators, read_any_values};
-use liquid_evaluation::FilterChain;
-use liquid_language::{FilterRegistry, HostCall, Language};
+use liquid_evaluation::{ChainFilter, FilterChain};
+use liquid_language::{Block, FilterRegistry, Language};
 use liquid_lexer::{Item, ParseError};
 use liquid_syntax::Node;
 use std::alloc::Global;
@@ -36,28 +37,57 @@ pub(super) fn read_host_tag(
     let Some(call) = language.host_tags.call(number) else {
         return Err(unknown_tag(at));
     };
-    Ok(Statement::Leaf(Node::Output(read_call(alloc, &language.filters, call, items, at)?)))
-}
-
-/// The input, and the filter with the values that all the items are.
-fn read_call(
-    alloc: Global,
-    filters: &FilterRegistry,
-    call: &HostCall,
-    items: VecDeque<Item<'_>>,
-    at: &str,
-) -> Result<FilterChain, ParseError>
-    ensures chain { Parses chain_view result (host_chain_of (registered_in filters.now)
-        (tag_call call.now) (tokens_view items.entry.items)) }
-    ensures place { FaultsAt (length at.now) result }
-{
-    let arguments = read_any_values(alloc, items, Separators::OptionalCommas, at)?;
-    let name = String::from_str(alloc, call.filter.as_str())?;
-    let filter = accepted(filters, name, arguments, at)?;
-    let mut filters = Vec::with_capacity(alloc, 1)?;
-    filters.push(filter)?;
+    let filter = read_call(alloc, &language.filters, call.filter.as_str(), items, at)?;
+    let filters = alone(alloc, filter)?;
     let Ok(entry) = call.input.copy(alloc) else {
         return Err(ParseError::Memory);
     };
-    Ok(FilterChain { entry, filters })
+    Ok(Statement::Leaf(Node::Output(FilterChain { entry, filters })))
+}
+
+/// The statement of the host's block with the number.
+pub(super) fn read_host_block(
+    alloc: Global,
+    language: &Language,
+    number: usize,
+    items: VecDeque<Item<'_>>,
+    at: &str,
+) -> Result<Statement, ParseError>
+    ensures statement { Classifies (one_or (blocks.Host number)
+        (host_block_of language.now number (tokens_view items.entry.items))) result }
+    ensures place { FaultsAt (length at.now) result }
+{
+    let Some(block) = language.host_tags.block(number) else {
+        return Err(unknown_tag(at));
+    };
+    let filter = read_call(alloc, &language.filters, block.filter.as_str(), items, at)?;
+    let filters = alone(alloc, filter)?;
+    Ok(Statement::Begins(Block::Host(number), Stage::Last, Node::Filtered(filters, 0)))
+}
+
+/// The filter of the name with the values that all the items are.
+fn read_call(
+    alloc: Global,
+    filters: &FilterRegistry,
+    name: &str,
+    items: VecDeque<Item<'_>>,
+    at: &str,
+) -> Result<ChainFilter, ParseError>
+    ensures call { Parses chain_filter_view result (host_call_of (registered_in filters.now)
+        name.now (tokens_view items.entry.items)) }
+    ensures place { FaultsAt (length at.now) result }
+{
+    let arguments = read_any_values(alloc, items, Separators::OptionalCommas, at)?;
+    let name = String::from_str(alloc, name)?;
+    accepted(filters, name, arguments, at)
+}
+
+/// A list of the filter alone.
+fn alone(alloc: Global, filter: ChainFilter) -> Result<Vec<ChainFilter>, ParseError>
+    ensures filters { IfOk result (λ filters. filters.items ≡ filter ∷ []) }
+    ensures memory { IfErr result (λ e. e ≡ ParseError.Memory) }
+{
+    let mut filters = Vec::with_capacity(alloc, 1)?;
+    filters.push(filter)?;
+    Ok(filters)
 }

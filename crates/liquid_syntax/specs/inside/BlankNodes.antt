@@ -1,15 +1,15 @@
 -- Which texts of a list of nodes stand in blocks that write nothing.
 --     quiet f      the nodes of a forest write nothing
---     tidied drop f      the same forest, where the texts of such blocks are empty, and its own too
---       where drop is true
-use Rattle.std.specs.Prelude.{◌≡◌, ℕ, ◌≤◌, ◌<◌, ◌&&◌, ◌⊎◌, Bool, true, false, List, [], map}
-use Rattle.std.specs.Prelude.{slice_get}
-use Rattle.std.specs.Prelude.{cond, length, nat_eq, string_bytes}
+--     tidied drop as_elsif f      the same forest, where the texts of blocks that write nothing are
+--       empty, and its own too where drop is true. Where as_elsif is true, an `if` that is alone
+--       there loses its texts as the block around it does
+use Rattle.std.specs.Prelude.{◌≡◌, ℕ, ◌+◌, ◌≤◌, ◌<◌, ◌&&◌, ◌⊎◌, Bool, true, false, List, [], map}
+use Rattle.std.specs.Prelude.{Some, slice_get, cond, length, nat_eq, string_bytes}
 use Rattle.liquid_evaluation.specs.Tree as tree
 use Rattle.liquid_syntax.specs.Blanks.{is_blank_text}
 use Rattle.liquid_syntax.specs.Flats.{Maker, flat_of}
 use Rattle.liquid_syntax.specs.Forest.{Forest, Bodies, empty, node, no_bodies, body}
-use Rattle.liquid_syntax.specs.Laid.{Flat, IsLaidOut}
+use Rattle.liquid_syntax.specs.Laid.{Flat, IsLaidOut, StandBodies}
 use Rattle.liquid_syntax.specs.declared.blanks.Sound.{Sound}
 use Rattle.liquid_syntax.specs.declared.blanks.Sound.TheVariants.{Loud, Silent, OfBodies}
 use Rattle.liquid_syntax.specs.declared.node.Node.{Node}
@@ -17,8 +17,8 @@ use Rattle.liquid_syntax.specs.declared.node.Node.TheVariants.{Text as Plain, Ou
 use Rattle.liquid_syntax.specs.declared.node.Node.TheVariants.{Comment, If, Unless, Capture, Case}
 use Rattle.liquid_syntax.specs.declared.node.Node.TheVariants.{For, TableRow, Break, Continue}
 use Rattle.liquid_syntax.specs.declared.node.Node.TheVariants.{Increment, Decrement, Cycle}
-use Rattle.liquid_syntax.specs.declared.node.Node.TheVariants.{IfChanged, Include, JekyllInclude}
-use Rattle.liquid_syntax.specs.declared.node.Node.TheVariants.{Render, RenderEach}
+use Rattle.liquid_syntax.specs.declared.node.Node.TheVariants.{IfChanged, Filtered, Include}
+use Rattle.liquid_syntax.specs.declared.node.Node.TheVariants.{JekyllInclude, Render, RenderEach}
 
 abbrev pub text_sound : Bool → Sound
 text_sound blank = cond blank Silent Loud
@@ -42,6 +42,7 @@ sound_of (Increment name) = Loud
 sound_of (Decrement name) = Loud
 sound_of (Cycle group values) = Loud
 sound_of (IfChanged end) = OfBodies
+sound_of (Filtered filters end) = Loud
 sound_of (Include name bindings) = Loud
 sound_of (JekyllInclude name bindings) = Loud
 sound_of (Render name bindings) = Loud
@@ -75,15 +76,52 @@ abbrev pub cleared : Bool → Node → Maker
 cleared drop (Plain t) = λ bodies. tree.plain (cond drop [] (string_bytes t))
 cleared drop n = (flat_of n).head
 
-abbrev mutual
-  pub tidied : Bool → Forest Node → Forest Maker
-  tidied drop empty = empty
-  tidied drop (node n bs rest) =
-      node (cleared drop n) (tidied_bodies (drops n && quiet_bodies bs) bs) (tidied drop rest)
+-- an `if`, which alone may have an `elsif`, as an `if` alone in its last body
+abbrev pub is_if : Node → Bool
+is_if (If condition bodies) = true
+is_if _ = false
 
-  pub tidied_bodies : Bool → Bodies Node → Bodies Maker
-  tidied_bodies drop no_bodies = no_bodies
-  tidied_bodies drop (body f bs) = body (tidied drop f) (tidied_bodies drop bs)
+abbrev pub is_empty : Forest Node → Bool
+is_empty empty = true
+is_empty (node n bs rest) = false
+
+abbrev pub is_no_bodies : Bodies Node → Bool
+is_no_bodies no_bodies = true
+is_no_bodies (body f bs) = false
+
+-- whether the texts of a block's bodies go: where as_elsif is true, as those around it
+abbrev pub is_silent : Bool → Bool → Node → Bodies Node → Bool
+is_silent drop as_elsif n bs = cond as_elsif drop (drops n && quiet_bodies bs)
+
+abbrev mutual
+  pub tidied : Bool → Bool → Forest Node → Forest Maker
+  tidied drop as_elsif empty = empty
+  tidied drop as_elsif (node n bs rest) =
+      node (cleared drop n) (tidied_bodies
+      (is_silent drop (as_elsif && (is_if n && is_empty rest)) n bs) (is_if n) bs)
+      (tidied drop false rest)
+
+  -- the last body may be that of an `elsif` where as_elsif is true
+  pub tidied_bodies : Bool → Bool → Bodies Node → Bodies Maker
+  tidied_bodies drop as_elsif no_bodies = no_bodies
+  tidied_bodies drop as_elsif (body f bs) =
+      body (tidied drop (as_elsif && is_no_bodies bs) f) (tidied_bodies drop as_elsif bs)
+
+-- all bodies of a block as one forest, whose last root is an `elsif` where as_elsif is true
+abbrev pub tidied_all : Bool → Bool → Forest Node → Forest Maker
+tidied_all drop as_elsif empty = empty
+tidied_all drop as_elsif (node n bs rest) =
+    node (cleared drop n) (tidied_bodies (is_silent drop (as_elsif && is_empty rest) n bs)
+    (is_if n) bs) (tidied_all drop as_elsif rest)
+
+-- the last body is an `if` alone
+abbrev pub is_lone_if : Forest Node → Bool
+is_lone_if empty = false
+is_lone_if (node n bs rest) = is_if n && is_empty rest
+
+abbrev pub ends_in_if : Bodies Node → Bool
+ends_in_if no_bodies = false
+ends_in_if (body f bs) = cond (is_no_bodies bs) (is_lone_if f) (ends_in_if bs)
 
 -- the nodes of a list as they are
 abbrev pub own_flat : Node → Flat Node
@@ -94,6 +132,12 @@ own_flats ns = map own_flat ns
 
 abbrev pub IsOwnRange : List Node → ℕ → ℕ → Type 0
 IsOwnRange ns from to = (f : Forest Node) × IsLaidOut (own_flats ns) from f to
+
+-- all bodies of the node at an index stand in the list
+abbrev pub BodiesAt : List Node → ℕ → Type 0
+BodiesAt ns at =
+    (n : Node) × (bs : Bodies Node) × (slice_get ns at ≡ Some n) ×
+    StandBodies (own_flats ns) (at + 1) (flat_of n).ends bs
 
 -- a text is empty now, and any other node is as it was
 abbrev pub IsCleared : Node → Node → Type 0

@@ -10,8 +10,8 @@ use Rattle.liquid_syntax.specs.declared.node.Node.TheVariants.{Text as Plain, Ou
 use Rattle.liquid_syntax.specs.declared.node.Node.TheVariants.{Comment, If, Unless, Capture, Case}
 use Rattle.liquid_syntax.specs.declared.node.Node.TheVariants.{For, TableRow, Break, Continue}
 use Rattle.liquid_syntax.specs.declared.node.Node.TheVariants.{Increment, Decrement, Cycle}
-use Rattle.liquid_syntax.specs.declared.node.Node.TheVariants.{IfChanged, Include, JekyllInclude}
-use Rattle.liquid_syntax.specs.declared.node.Node.TheVariants.{Render, RenderEach}
+use Rattle.liquid_syntax.specs.declared.node.Node.TheVariants.{IfChanged, Filtered, Include}
+use Rattle.liquid_syntax.specs.declared.node.Node.TheVariants.{JekyllInclude, Render, RenderEach}
 
 -- one clause for each kind of node
 abbrev pub own_calls : Node → List PartialCall
@@ -32,6 +32,7 @@ own_calls (Increment name) = []
 own_calls (Decrement name) = []
 own_calls (Cycle group values) = []
 own_calls (IfChanged end) = []
+own_calls (Filtered filters end) = []
 own_calls (Include name pairs) = call_of_expression of_name (expression_view name) ∷ []
 own_calls (JekyllInclude name pairs) = of_name (string_bytes name) ∷ []
 own_calls (Render name pairs) =

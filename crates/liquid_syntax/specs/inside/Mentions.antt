@@ -8,11 +8,11 @@ use Rattle.std.specs.Prelude.{option_map}
 use Rattle.liquid_core.specs.Expression.{Expression}
 use Rattle.liquid_core.specs.ExpressionView.{expression_view}
 use Rattle.liquid_model.specs.Texts.{Text}
-use Rattle.liquid_evaluation.specs.ChainView.{chain_view}
+use Rattle.liquid_evaluation.specs.ChainView.{chain_filter_view, chain_view}
 use Rattle.liquid_evaluation.specs.ConditionView.{condition_view}
 use Rattle.liquid_evaluation.specs.Names.{all_names, bound_names, chain_names, condition_names}
-use Rattle.liquid_evaluation.specs.Names.{expression_names, include_name, optional_names}
-use Rattle.liquid_evaluation.specs.Names.{source_names, target_names, window_names}
+use Rattle.liquid_evaluation.specs.Names.{expression_names, filters_names, include_name}
+use Rattle.liquid_evaluation.specs.Names.{optional_names, source_names, target_names, window_names}
 use Rattle.liquid_evaluation.specs.SourceView.{source_view}
 use Rattle.liquid_evaluation.specs.Tree.{Bindings, Source}
 use Rattle.liquid_syntax.specs.Flats.{arm_values, bindings_view, window_view}
@@ -25,8 +25,8 @@ use Rattle.liquid_syntax.specs.declared.node.Node.TheVariants.{Text as Plain, Ou
 use Rattle.liquid_syntax.specs.declared.node.Node.TheVariants.{Comment, If, Unless, Capture, Case}
 use Rattle.liquid_syntax.specs.declared.node.Node.TheVariants.{For, TableRow, Break, Continue}
 use Rattle.liquid_syntax.specs.declared.node.Node.TheVariants.{Increment, Decrement, Cycle}
-use Rattle.liquid_syntax.specs.declared.node.Node.TheVariants.{IfChanged, Include, JekyllInclude}
-use Rattle.liquid_syntax.specs.declared.node.Node.TheVariants.{Render, RenderEach}
+use Rattle.liquid_syntax.specs.declared.node.Node.TheVariants.{IfChanged, Filtered, Include}
+use Rattle.liquid_syntax.specs.declared.node.Node.TheVariants.{JekyllInclude, Render, RenderEach}
 use Rattle.liquid_syntax.specs.declared.template.Template.{Template}
 
 -- of the `when` parts of a `case`: the names in their values
@@ -81,6 +81,7 @@ own_names (Increment name) = string_bytes name ∷ []
 own_names (Decrement name) = string_bytes name ∷ []
 own_names (Cycle group values) = all_names (map expression_view values.items)
 own_names (IfChanged end) = []
+own_names (Filtered filters end) = filters_names (map chain_filter_view filters.items)
 own_names (Include name pairs) = expression_names (expression_view name) ++
     pairs_names (bindings_view pairs.items)
 own_names (JekyllInclude name pairs) = jekyll_names (bindings_view pairs.items)

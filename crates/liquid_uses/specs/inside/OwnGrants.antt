@@ -6,7 +6,7 @@ use Rattle.std.specs.Prelude.{Some, None, option_map}
 use Rattle.liquid_core.specs.Expression.{Expression}
 use Rattle.liquid_core.specs.ExpressionView.{expression_view}
 use Rattle.liquid_model.specs.Texts.{Text}
-use Rattle.liquid_evaluation.specs.ChainView.{chain_view}
+use Rattle.liquid_evaluation.specs.ChainView.{chain_filter_view, chain_view}
 use Rattle.liquid_evaluation.specs.ConditionView.{condition_view}
 use Rattle.liquid_evaluation.specs.SourceView.{source_view}
 use Rattle.liquid_evaluation.specs.Tree.{Bindings, Source}
@@ -22,14 +22,14 @@ use Rattle.liquid_syntax.specs.declared.node.Node.TheVariants.{Text as Plain, Ou
 use Rattle.liquid_syntax.specs.declared.node.Node.TheVariants.{Comment, If, Unless, Capture, Case}
 use Rattle.liquid_syntax.specs.declared.node.Node.TheVariants.{For, TableRow, Break, Continue}
 use Rattle.liquid_syntax.specs.declared.node.Node.TheVariants.{Increment, Decrement, Cycle}
-use Rattle.liquid_syntax.specs.declared.node.Node.TheVariants.{IfChanged, Include, JekyllInclude}
-use Rattle.liquid_syntax.specs.declared.node.Node.TheVariants.{Render, RenderEach}
+use Rattle.liquid_syntax.specs.declared.node.Node.TheVariants.{IfChanged, Filtered, Include}
+use Rattle.liquid_syntax.specs.declared.node.Node.TheVariants.{JekyllInclude, Render, RenderEach}
 use Rattle.liquid_model.specs.Uses.{everything, asks_whether, present, there}
 use Rattle.liquid_meaning.specs.FilterNeeds.{known_needs}
 use Rattle.liquid_meaning.specs.Reading.{Uses, all_of, bound_use, is_flat, grants, grants_all}
 use Rattle.liquid_meaning.specs.Reading.{grants_bindings, grants_chain, grants_condition}
-use Rattle.liquid_meaning.specs.Reading.{grants_optional, grants_source, grants_values}
-use Rattle.liquid_meaning.specs.Reading.{grants_window, seen_limit}
+use Rattle.liquid_meaning.specs.Reading.{grants_filters, grants_optional, grants_source}
+use Rattle.liquid_meaning.specs.Reading.{grants_values, grants_window, seen_limit}
 
 -- the values of the `when` parts of a `case`, beside its target
 unfoldable pub arms_granted : Uses → Expression → List (List Expression) → Bool
@@ -79,6 +79,7 @@ own_grants U (Increment name) = asks_whether (U (string_bytes name))
 own_grants U (Decrement name) = asks_whether (U (string_bytes name))
 own_grants U (Cycle group values) = grants_all U (map expression_view values.items)
 own_grants U (IfChanged end) = true
+own_grants U (Filtered filters end) = grants_filters U (map chain_filter_view filters.items)
 own_grants U (Include name pairs) = pairs_grants U (expression_view name) (bindings_view
     pairs.items)
 own_grants U (JekyllInclude name pairs) = grants_bindings U all_of (bindings_view pairs.items)

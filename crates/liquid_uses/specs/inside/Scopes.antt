@@ -12,12 +12,12 @@ use Rattle.std.specs.Prelude.{codes, Some}
 use Rattle.liquid_model.specs.Texts.{Text, same_text}
 use Rattle.liquid_core.specs.Environment.{Names}
 use Rattle.liquid_core.specs.ExpressionView.{expression_view}
-use Rattle.liquid_evaluation.specs.ChainView.{chain_view}
+use Rattle.liquid_evaluation.specs.ChainView.{chain_filter_view, chain_view}
 use Rattle.liquid_evaluation.specs.ConditionView.{condition_view}
 use Rattle.liquid_evaluation.specs.SourceView.{source_view}
 use Rattle.liquid_evaluation.specs.Names.{all_names, bound_names, chain_names, condition_names}
-use Rattle.liquid_evaluation.specs.Names.{expression_names, include_name, mentioned, optional_names}
-use Rattle.liquid_evaluation.specs.Names.{source_names, target_names, window_names}
+use Rattle.liquid_evaluation.specs.Names.{expression_names, filters_names, include_name, mentioned}
+use Rattle.liquid_evaluation.specs.Names.{optional_names, source_names, target_names, window_names}
 use Rattle.liquid_meaning.specs.FreeNames.{PartialsRead, literal_name, unbound}
 use Rattle.liquid_syntax.specs.Laid.{last_end}
 use Rattle.liquid_syntax.specs.Flats.{arm_values, bindings_view, each_view, flat_of, window_view}
@@ -31,8 +31,8 @@ use Rattle.liquid_syntax.specs.declared.node.Node.TheVariants.{Text as Plain, Ou
 use Rattle.liquid_syntax.specs.declared.node.Node.TheVariants.{Comment, If, Unless, Capture, Case}
 use Rattle.liquid_syntax.specs.declared.node.Node.TheVariants.{For, TableRow, Break, Continue}
 use Rattle.liquid_syntax.specs.declared.node.Node.TheVariants.{Increment, Decrement, Cycle}
-use Rattle.liquid_syntax.specs.declared.node.Node.TheVariants.{IfChanged, Include, JekyllInclude}
-use Rattle.liquid_syntax.specs.declared.node.Node.TheVariants.{Render, RenderEach}
+use Rattle.liquid_syntax.specs.declared.node.Node.TheVariants.{IfChanged, Filtered, Include}
+use Rattle.liquid_syntax.specs.declared.node.Node.TheVariants.{JekyllInclude, Render, RenderEach}
 
 -- the names in what a node itself evaluates
 abbrev pub read_names : Node → List Text
@@ -57,6 +57,7 @@ read_names (Increment name) = []
 read_names (Decrement name) = []
 read_names (Cycle group values) = all_names (map expression_view values.items)
 read_names (IfChanged end) = []
+read_names (Filtered filters end) = filters_names (map chain_filter_view filters.items)
 read_names (Include name pairs) = expression_names (expression_view name) ++
     bound_names (bindings_view pairs.items)
 read_names (JekyllInclude name pairs) = bound_names (bindings_view pairs.items)

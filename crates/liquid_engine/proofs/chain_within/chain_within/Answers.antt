@@ -1,105 +1,44 @@
-use Rattle.std.proofs.Common.{[], ◌∷◌, ◌≡◌, ◌∙◌, Err, List, map, sym, ap, refl, subst, rules}
+use Rattle.std.proofs.Common.{List, map, ap, sym, subst, ◌∙◌}
+use Rattle.std.specs.Prelude.{OnOk}
 use Rattle.std.proofs.lemmas.Result.{err_from_is_err_and}
 use Rattle.liquid_model.specs.Cow.{cow_view}
-use Rattle.liquid_model.specs.Data.{Datum}
-use Rattle.liquid_model.specs.View.{view}
 use Rattle.liquid_model.specs.declared.cow.ValueCow.{ValueCow}
 use Rattle.liquid_core.specs.States.{environment_of}
-use Rattle.liquid_evaluation.specs.Calls.{applied}
-use Rattle.liquid_evaluation.specs.ChainView.{chain_view, chain_filter_view}
-use Rattle.liquid_evaluation.specs.Evaluation.{answers_in, answers_with, calls_by, chain_value}
-use Rattle.liquid_evaluation.proofs.Calls.{chain_from, chain_faulted, filters_more, filters_stop, filters_end}
+use Rattle.liquid_evaluation.specs.ChainView.{chain_filter_view, chain_view}
+use Rattle.liquid_evaluation.specs.Evaluation.{answers_with, chain_value, through}
+use Rattle.liquid_evaluation.specs.declared.chain.ChainFilter.{ChainFilter}
+use Rattle.liquid_evaluation.proofs.Calls.{chain_from, chain_faulted}
 use Rattle.liquid_meaning.specs.Runs.{evaluate}
+use Rattle.liquid_engine.specs.Limits.{TakesBytes}
 use Rattle.liquid_engine.specs.Performs.{configuration_of}
-use Rattle.liquid_engine.specs.Sinks.{sink_of}
-use Rattle.liquid_engine.proofs.ChainBytes.{taken_all, taken_more, taken_none}
-use Rattle.liquid_engine.proofs.Joined.{no_value_met, value_met}
-use Rattle.liquid_engine.proofs.Turns.{may_not_meet, meets_from}
+use Rattle.liquid_engine.specs.inside.ChainBytes.{through_bytes}
+use Rattle.liquid_engine.proofs.ChainBytes.{chain_taken}
+use Rattle.liquid_engine.proofs.Joined.{evaluated_as, no_value_met}
 use Rattle.liquid_engine.proofs.chain_within.chain_within.Goals as goal
 
-pub returns-in_err-value-clause-value : goal.returns-in_err-value-clause-value
-returns-in_err-value-clause-value g c =
+pub returns-in_err-entry-clause-value : goal.returns-in_err-entry-clause-value
+returns-in_err-entry-clause-value g c =
     let p = err_from_is_err_and c.from_residual.result c.from_residual.ensures.1 in
     let place = configuration_of g.W.CountedWrite.contents g.W.CountedWrite.failure_count in
     let answers = answers_with (g.H.NamedFilters.named c.args.host.now) in
-    rw (p.1, p.2) (no_value_met {V = ValueCow} cow_view c.in_err-value.field-0.0 (chain_value answers (chain_view c.args.chain.now)) (place c.args.out.now c.args.state.now)
-    (chain_faulted answers (chain_view c.args.chain.now) (environment_of c.args.state.now) c.in_err-value.field-0.0.kind c.in_err-value.ensures.value))
-
-pub loop-stored-init : goal.loop-stored-init
-loop-stored-init g c =
-    let e = environment_of c.args.state.now in
-    let answers = answers_with (g.H.NamedFilters.named c.args.host.now) in
-    let d = cow_view c.in_ok-value.value in
-    record {
-      value = chain_from answers (chain_view c.args.chain.now) e d c.in_ok-value.ensures.value
-          ∙ ap (λ xs. applied (calls_by (answers_in e.missing answers) (map chain_filter_view xs)) d e) (sym c.deref-stored-items.ensures.value);
-      same_sink = refl;
-      taken = taken_none answers chain_filter_view (chain_view c.args.chain.now) e c.args.chain.now.filters.items c.deref-stored-items.result.now d _ refl c.deref-stored-items.ensures.value c.in_ok-value.ensures.value;
-      same_writer = refl;
-    }
-
-pub returns-in_err-room_ahead-clause-value : goal.returns-in_err-room_ahead-clause-value
-returns-in_err-room_ahead-clause-value g c =
-    let p = err_from_is_err_and c.from_residual-in_err-room_ahead.result c.from_residual-in_err-room_ahead.ensures.1 in
-    let place = configuration_of g.W.CountedWrite.contents g.W.CountedWrite.failure_count in
-    let e = environment_of c.args.state.now in
-    let chain = chain_value (answers_with (g.H.NamedFilters.named c.args.host.now)) (chain_view c.args.chain.now) in
-    let fault = c.in_err-room_ahead.field-0.0 in
-    rw (p.1, p.2) (meets_from {V = ValueCow} cow_view (Err fault) (evaluate chain) _ _ e (place c.room_ahead.new.out c.args.state.now) c.loop-stored.invariant.same_sink
-    (may_not_meet {V = ValueCow} cow_view fault (evaluate chain) (place c.loop-stored.out c.args.state.now) (place c.room_ahead.new.out c.args.state.now) c.in_err-room_ahead.ensures.refused))
-
-pub returns-in_err-next-clause-value : goal.returns-in_err-next-clause-value
-returns-in_err-next-clause-value g c =
-    let p = err_from_is_err_and c.from_residual-in_err-next.result c.from_residual-in_err-next.ensures.1 in
-    let place = configuration_of g.W.CountedWrite.contents g.W.CountedWrite.failure_count in
-    let e = environment_of c.args.state.now in
-    let answers = answers_with (g.H.NamedFilters.named c.args.host.now) in
-    let chain = chain_value answers (chain_view c.args.chain.now) in
-    let fault = c.in_err-next.field-0.0 in
-    rw (p.1, p.2) (meets_from {V = ValueCow} cow_view (Err fault) (evaluate chain) _ _ e (place c.room_ahead.new.out c.args.state.now) (c.in_ok-room_ahead.ensures.goes_on ∙ c.loop-stored.invariant.same_sink)
-    (no_value_met {V = ValueCow} cow_view fault chain (place c.room_ahead.new.out c.args.state.now)
-    (filters_stop (answers_in e.missing answers) chain_filter_view (chain e) e c.deref-stored-items.result.now c.loop-stored.stored-index c.stored-item.result (cow_view c.loop-stored.value)
-    fault.kind c.loop-stored-test.true c.stored-item.is (rw c.as_value-input.ensures at c.in_err-next.ensures.value) c.loop-stored.invariant.value)))
-
-pub returns-in_err-take_value-clause-value : goal.returns-in_err-take_value-clause-value
-returns-in_err-take_value-clause-value g c =
-    let p = err_from_is_err_and c.from_residual-in_err-take_value.result c.from_residual-in_err-take_value.ensures.1 in
-    let place = configuration_of g.W.CountedWrite.contents g.W.CountedWrite.failure_count in
-    let e = environment_of c.args.state.now in
-    let chain = chain_value (answers_with (g.H.NamedFilters.named c.args.host.now)) (chain_view c.args.chain.now) in
-    let fault = c.in_err-take_value.field-0.0 in
-    rw (p.1, p.2) (meets_from {V = ValueCow} cow_view (Err fault) (evaluate chain) _ _ e (place c.take_value.new.self c.args.state.now) (c.in_ok-room_ahead.ensures.goes_on ∙ c.loop-stored.invariant.same_sink)
-    (may_not_meet {V = ValueCow} cow_view fault (evaluate chain) (place c.room_ahead.new.out c.args.state.now) (place c.take_value.new.self c.args.state.now) c.in_err-take_value.ensures.refused))
-
-pub loop-stored-preserved : goal.loop-stored-preserved
-loop-stored-preserved g c =
-    let e = environment_of c.args.state.now in
-    let answers = answers_with (g.H.NamedFilters.named c.args.host.now) in
-    let d = cow_view c.loop-stored.value in
-    let a = view c.in_ok-next.next in
-    let is = rw c.as_value-input.ensures at c.in_ok-next.ensures.value in
-    record {
-      value = filters_more (answers_in e.missing answers) chain_filter_view (chain_value answers (chain_view c.args.chain.now) e) e c.deref-stored-items.result.now c.loop-stored.stored-index c.stored-item.result d a
-          c.loop-stored-test.true c.stored-item.is is c.loop-stored.invariant.value;
-      same_sink = c.in_ok-take_value.ensures.goes_on ∙ (c.in_ok-room_ahead.ensures.goes_on ∙ c.loop-stored.invariant.same_sink);
-      taken = taken_more _ (answers_in e.missing answers) chain_filter_view e c.deref-stored-items.result.now c.loop-stored.stored-index c.stored-item.result d a _ _ _ _
-          c.loop-stored-test.true c.stored-item.is is c.in_ok-room_ahead.ensures.kept c.in_ok-take_value.ensures.takes c.loop-stored.invariant.taken;
-      same_writer = search rules;
-    }
+    rw (p.1, p.2) (no_value_met {V = ValueCow} cow_view c.in_err-entry.field-0.0 (chain_value answers (chain_view c.args.chain.now)) (place c.args.out.now c.args.state.now)
+    (chain_faulted answers (chain_view c.args.chain.now) (environment_of c.args.state.now) c.in_err-entry.field-0.0.kind c.in_err-entry.ensures.value))
 
 pub returns-clause-value : goal.returns-clause-value
 returns-clause-value g c =
     let place = configuration_of g.W.CountedWrite.contents g.W.CountedWrite.failure_count in
     let e = environment_of c.args.state.now in
     let answers = answers_with (g.H.NamedFilters.named c.args.host.now) in
-    let chain = chain_value answers (chain_view c.args.chain.now) in
-    meets_from {V = ValueCow} cow_view _ (evaluate chain) _ _ e (place c.loop-stored.out c.args.state.now) c.loop-stored.invariant.same_sink
-    (value_met {V = ValueCow} cow_view c.loop-stored.value chain (place c.loop-stored.out c.args.state.now)
-    (filters_end (answers_in e.missing answers) chain_filter_view (chain e) e c.deref-stored-items.result.now c.loop-stored.stored-index
-    (cow_view c.loop-stored.value) c.loop-stored-test.false c.loop-stored.invariant.value))
+    let chain = chain_view c.args.chain.now in
+    let d = cow_view c.in_ok-entry.entry in
+    evaluated_as {V = ValueCow} cow_view c.filters_within.result (chain_value answers chain) (through answers (map chain_filter_view c.deref.result.now) d) (place c.args.out.now c.args.state.now) (place c.filters_within.new.out c.args.state.now)
+    (chain_from answers chain e d c.in_ok-entry.ensures.value ∙ ap (λ (xs : List ChainFilter). through answers (map chain_filter_view xs) d e) (sym c.deref.ensures.value))
+    c.filters_within.ensures.value
 
 pub returns-clause-takes : goal.returns-clause-takes
 returns-clause-takes g c =
     let e = environment_of c.args.state.now in
-    let answers = answers_in e.missing (answers_with (g.H.NamedFilters.named c.args.host.now)) in
-    taken_all _ answers chain_filter_view e c.deref-stored-items.result.now c.loop-stored.stored-index (cow_view c.loop-stored.value) _ _ c.loop-stored-test.false c.loop-stored.invariant.taken
+    let answers = answers_with (g.H.NamedFilters.named c.args.host.now) in
+    let d = cow_view c.in_ok-entry.entry in
+    chain_taken c.filters_within.result answers (chain_view c.args.chain.now) e d _ _ c.in_ok-entry.ensures.value
+    (subst (λ (xs : List ChainFilter). OnOk c.filters_within.result (TakesBytes (through_bytes answers (map chain_filter_view xs) d e) (g.W.CountedWrite.left c.args.out.now.writer.now) (g.W.CountedWrite.left c.filters_within.new.out.writer.now))) c.deref.ensures.value c.filters_within.ensures.takes)

@@ -17,9 +17,9 @@ use Rattle.liquid_core.specs.LoopFrames.{frame_map, without_innermost}
 use Rattle.liquid_core.proofs.States.{interrupt_set, turn_off}
 use Rattle.liquid_evaluation.specs.ItemLists.{all_items}
 use Rattle.liquid_evaluation.proofs.ItemPlaces.{item_by_place}
-use Rattle.liquid_evaluation.specs.ChainView.{chain_view}
+use Rattle.liquid_evaluation.specs.ChainView.{chain_filter_view, chain_view}
 use Rattle.liquid_evaluation.specs.ConditionView.{condition_view}
-use Rattle.liquid_evaluation.specs.Names.{node_names}
+use Rattle.liquid_evaluation.specs.Names.{filters_names, node_names, nodes_names}
 use Rattle.liquid_evaluation.specs.Tree as tree
 use Rattle.liquid_syntax.specs.Flats.{Maker, IsForestAt, IsNodeRange, bindings_view, each_view, flats, nodes_of, window_view}
 use Rattle.liquid_syntax.specs.Forest.{Forest}
@@ -29,8 +29,10 @@ use Rattle.liquid_meaning.specs.Effects.{assigned_to, interrupted_by}
 use Rattle.liquid_meaning.specs.Meaning.{node_meaning, deeper_meaning, render_apart}
 use Rattle.liquid_meaning.specs.Runs.{buffered, change}
 use Rattle.liquid_meaning.proofs.Law.{within_found}
-use Rattle.liquid_meaning.proofs.Rules.{comment_rule, break_rule, continue_rule, capture_rule, ifchanged_rule}
+use Rattle.liquid_meaning.proofs.Rules.{comment_rule, break_rule, continue_rule, capture_rule, ifchanged_rule, filtered_rule}
+use Rattle.liquid_meaning.proofs.Within.{right}
 use Rattle.liquid_engine.specs.inside.Changed.{shown_if_changed}
+use Rattle.liquid_engine.specs.inside.Filtered.{written_through}
 use Rattle.liquid_engine.specs.inside.Choices.{CaseStands, HasCaseAt, Chosen, NodeComesTo}
 use Rattle.liquid_engine.specs.Failures.{raised}
 use Rattle.liquid_engine.specs.inside.Engine.{setting_of, node_meant, nodes_meant}
@@ -51,7 +53,7 @@ use Rattle.liquid_engine.proofs.ItemRuns.{items_left, item_on, item_breaks, item
 use Rattle.liquid_engine.proofs.RenderEach.{item_run, name_refused, items_refused, items_met}
 use Rattle.liquid_engine.proofs.SameKindOrMemory.{fault_again, met_again}
 use Rattle.liquid_engine.proofs.Silent.{leaf_loud, one_loud, two_loud, silent_done, silent_next}
-use Rattle.liquid_engine.proofs.Sinks.{Around}
+use Rattle.liquid_engine.proofs.Sinks.{around_buffer}
 use Rattle.liquid_engine.proofs.Whole.{stood_in}
 use Rattle.liquid_syntax.specs.declared.loop_nodes.For as heads_For
 use Rattle.liquid_syntax.specs.declared.loop_nodes.TableRow as heads_TableRow
@@ -399,12 +401,12 @@ pub run_node-returns-in-Include-clause-performs : goal.run_node-returns-in-Inclu
 run_node-returns-in-Include-clause-performs g t c =
     let place = configuration_of g.W.CountedWrite.contents g.W.CountedWrite.failure_count in
     leaf_performs (setting_of g.H.NamedFilters.named c.args.context.now) c.args.context.now.depth c.args.nodes.now c.args.at c.args.to c.index-nodes-at.result _ (tree.include (expression_view c.in-Include.name) (bindings_view c.in-Include.bindings.items)) c.run_include.result (place c.args.out.now c.args.state.now) (place c.run_include.new.out c.run_include.new.state) c.requires c.index-nodes-at.is c.in-Include.is refl
-    (subst (λ x. Performs c.run_include.result (node_meant (setting_of g.H.NamedFilters.named c.args.context.now) c.args.context.now.depth (tree.include (expression_view c.in-Include.name) (bindings_view x))) (place c.args.out.now c.args.state.now) (place c.run_include.new.out c.run_include.new.state)) c.deref.ensures.value c.run_include.ensures.performs)
+    (subst (λ x. Performs c.run_include.result (node_meant (setting_of g.H.NamedFilters.named c.args.context.now) c.args.context.now.depth (tree.include (expression_view c.in-Include.name) (bindings_view x))) (place c.args.out.now c.args.state.now) (place c.run_include.new.out c.run_include.new.state)) c.deref-in-Include.ensures.value c.run_include.ensures.performs)
 
 pub run_node-returns-in-Include-clause-kept : goal.run_node-returns-in-Include-clause-kept
 run_node-returns-in-Include-clause-kept g t c =
     leaf_keeps (setting_of g.H.NamedFilters.named c.args.context.now) c.args.nodes.now c.args.at c.args.to c.index-nodes-at.result _ (tree.include (expression_view c.in-Include.name) (bindings_view c.in-Include.bindings.items)) c.args.state.now c.run_include.new.state c.requires c.index-nodes-at.is c.in-Include.is refl
-    (subst (λ x. Keeps (node_names (tree.include (expression_view c.in-Include.name) (bindings_view x))) (setting_of g.H.NamedFilters.named c.args.context.now) c.args.state.now c.run_include.new.state) c.deref.ensures.value c.run_include.ensures.kept)
+    (subst (λ x. Keeps (node_names (tree.include (expression_view c.in-Include.name) (bindings_view x))) (setting_of g.H.NamedFilters.named c.args.context.now) c.args.state.now c.run_include.new.state) c.deref-in-Include.ensures.value c.run_include.ensures.kept)
 
 pub run_node-run_jekyll_include-requires : goal.run_node-run_jekyll_include-requires
 run_node-run_jekyll_include-requires g t c κs within =
@@ -450,68 +452,47 @@ run_node-returns-in-RenderEach-clause-performs g t c =
     leaf_performs (setting_of g.H.NamedFilters.named c.args.context.now) c.args.context.now.depth c.args.nodes.now c.args.at c.args.to c.index-nodes-at.result _ (tree.render (expression_view c.in-RenderEach.name) (Some (each_view c.in-RenderEach.each)) (bindings_view c.in-RenderEach.bindings.items)) c.run_render_each.result (place c.args.out.now c.args.state.now) (place c.run_render_each.new.out c.args.state.now) c.requires c.index-nodes-at.is c.in-RenderEach.is refl
     (subst (λ x. Performs c.run_render_each.result (node_meant (setting_of g.H.NamedFilters.named c.args.context.now) c.args.context.now.depth (tree.render (expression_view c.in-RenderEach.name) (Some (each_view c.in-RenderEach.each)) (bindings_view x))) (place c.args.out.now c.args.state.now) (place c.run_render_each.new.out c.args.state.now)) c.deref-in-RenderEach.ensures.value c.run_render_each.ensures.performs)
 
-pub run_capture-overflow_add-at : goal.run_capture-overflow_add-at
-run_capture-overflow_add-at g t c =
+pub buffers::run_capture-overflow_add-at : goal.buffers::run_capture-overflow_add-at
+buffers::run_capture-overflow_add-at g t c =
     let body : IsNodeRange c.args.nodes.now (c.args.at + 1) c.args.end = search rules in
     let (b, here) = body in
     let le : c.args.at + 1 ≤ c.args.end = Stands-le (flats c.args.nodes.now) (c.args.at + 1) b c.args.end here in
     search rules
 
-pub run_capture-run_range-answer-requires : goal.run_capture-run_range-answer-requires
-run_capture-run_range-answer-requires g t c κs within =
+pub buffers::run_capture-run_range-answer-requires : goal.buffers::run_capture-run_range-answer-requires
+buffers::run_capture-run_range-answer-requires g t c κs within =
     let body : IsNodeRange c.args.nodes.now (c.args.at + 1) c.args.end = search rules in
     let (b, here) = body in
     let le : c.args.at + 1 ≤ c.args.end = Stands-le (flats c.args.nodes.now) (c.args.at + 1) b c.args.end here in
     (let lt : 4 * (c.args.end - (c.args.at + 1)) + 1 + reserve c.args.context.now.depth c.args.context.now.partials.now < t = omega arith in lt, (within.0, (within.1, body)))
 
-pub run_capture-returns-in_err-answer-clause-performs : goal.run_capture-returns-in_err-answer-clause-performs
-run_capture-returns-in_err-answer-clause-performs g t c b here =
+pub buffers::run_capture-returns-in_err-answer-clause-performs : goal.buffers::run_capture-returns-in_err-answer-clause-performs
+buffers::run_capture-returns-in_err-answer-clause-performs g t c b here =
     let sink = sink_of g.W.CountedWrite.contents g.W.CountedWrite.failure_count in
-    let around : Around (sink c.args.out.now) (sink c.open-outer.new.self) (sink c.run_range-answer.new.out) (sink c.close-text.new.self) (string_bytes c.close-text.result) = record {
-      opened = c.open-outer.ensures.empty;
-      closed = ap (option_map string_bytes) c.close-text.ensures.text;
-      back = ap (option_map string_bytes) (c.close-text.ensures.outer ∙ c.open-outer.ensures.outer);
-      contents_in = ap (λ w. g.W.CountedWrite.contents w.now) c.open-outer.ensures.writer;
-      contents_out = ap (λ w. g.W.CountedWrite.contents w.now) c.close-text.ensures.writer;
-      failures_in = ap (λ w. g.W.CountedWrite.failure_count w.now) c.open-outer.ensures.writer;
-      failures_out = ap (λ w. g.W.CountedWrite.failure_count w.now) c.close-text.ensures.writer;
-    } in
+    let around = around_buffer g.W.CountedWrite.contents g.W.CountedWrite.failure_count c.args.out.now c.open-outer.new.self c.run_range-answer.new.out c.close-text.new.self c.open-outer.result c.close-text.result
+    c.open-outer.ensures.outer c.open-outer.ensures.empty c.open-outer.ensures.writer c.close-text.ensures.text c.close-text.ensures.outer c.close-text.ensures.writer in
     let m = nodes_meant (setting_of g.H.NamedFilters.named c.args.context.now) c.args.context.now.depth (nodes_of b) in
     let e = environment_of c.args.state.now in
     let mid = environment_of c.run_range-answer.new.state in
     let p = err_from_is_err_and c.from_residual.result c.from_residual.ensures.1 in
     rw (p.1, p.2) (by_rule (capture_rule (setting_of g.H.NamedFilters.named c.args.context.now) (deeper_meaning (setting_of g.H.NamedFilters.named c.args.context.now) c.args.context.now.depth) c.args.name.now (nodes_of b)) (bind_faulted (λ x. x) unit _ (buffered m) (λ x. change (assigned_to c.args.name.now (text x))) _ _ (buffered_faulted unit (λ x. x) _ m (sink c.args.out.now) (sink c.open-outer.new.self) (sink c.run_range-answer.new.out) (sink c.close-text.new.self) (string_bytes c.close-text.result) e mid around (c.in_err-answer.ensures.performs b here))))
 
-pub run_capture-returns-in_err-from_str-clause-performs : goal.run_capture-returns-in_err-from_str-clause-performs
-run_capture-returns-in_err-from_str-clause-performs g t c b here =
+pub buffers::run_capture-returns-in_err-from_str-clause-performs : goal.buffers::run_capture-returns-in_err-from_str-clause-performs
+buffers::run_capture-returns-in_err-from_str-clause-performs g t c b here =
     let sink = sink_of g.W.CountedWrite.contents g.W.CountedWrite.failure_count in
-    let around : Around (sink c.args.out.now) (sink c.open-outer.new.self) (sink c.run_range-answer.new.out) (sink c.close-text.new.self) (string_bytes c.close-text.result) = record {
-      opened = c.open-outer.ensures.empty;
-      closed = ap (option_map string_bytes) c.close-text.ensures.text;
-      back = ap (option_map string_bytes) (c.close-text.ensures.outer ∙ c.open-outer.ensures.outer);
-      contents_in = ap (λ w. g.W.CountedWrite.contents w.now) c.open-outer.ensures.writer;
-      contents_out = ap (λ w. g.W.CountedWrite.contents w.now) c.close-text.ensures.writer;
-      failures_in = ap (λ w. g.W.CountedWrite.failure_count w.now) c.open-outer.ensures.writer;
-      failures_out = ap (λ w. g.W.CountedWrite.failure_count w.now) c.close-text.ensures.writer;
-    } in
+    let around = around_buffer g.W.CountedWrite.contents g.W.CountedWrite.failure_count c.args.out.now c.open-outer.new.self c.run_range-answer.new.out c.close-text.new.self c.open-outer.result c.close-text.result
+    c.open-outer.ensures.outer c.open-outer.ensures.empty c.open-outer.ensures.writer c.close-text.ensures.text c.close-text.ensures.outer c.close-text.ensures.writer in
     let m = nodes_meant (setting_of g.H.NamedFilters.named c.args.context.now) c.args.context.now.depth (nodes_of b) in
     let e = environment_of c.args.state.now in
     let mid = environment_of c.run_range-answer.new.state in
     let p = err_from_is_err_and c.from_residual-in_err-from_str.result c.from_residual-in_err-from_str.ensures.1 in
     rw p.1 (buffered_memory unit unit _ _ m _ (sink c.args.out.now) (sink c.open-outer.new.self) (sink c.run_range-answer.new.out) (sink c.close-text.new.self) (string_bytes c.close-text.result) e mid _ around (c.in_ok-answer.ensures.performs b here) p.2)
 
-pub run_capture-returns-clause-performs : goal.run_capture-returns-clause-performs
-run_capture-returns-clause-performs g t c b here =
+pub buffers::run_capture-returns-clause-performs : goal.buffers::run_capture-returns-clause-performs
+buffers::run_capture-returns-clause-performs g t c b here =
     let sink = sink_of g.W.CountedWrite.contents g.W.CountedWrite.failure_count in
-    let around : Around (sink c.args.out.now) (sink c.open-outer.new.self) (sink c.run_range-answer.new.out) (sink c.close-text.new.self) (string_bytes c.close-text.result) = record {
-      opened = c.open-outer.ensures.empty;
-      closed = ap (option_map string_bytes) c.close-text.ensures.text;
-      back = ap (option_map string_bytes) (c.close-text.ensures.outer ∙ c.open-outer.ensures.outer);
-      contents_in = ap (λ w. g.W.CountedWrite.contents w.now) c.open-outer.ensures.writer;
-      contents_out = ap (λ w. g.W.CountedWrite.contents w.now) c.close-text.ensures.writer;
-      failures_in = ap (λ w. g.W.CountedWrite.failure_count w.now) c.open-outer.ensures.writer;
-      failures_out = ap (λ w. g.W.CountedWrite.failure_count w.now) c.close-text.ensures.writer;
-    } in
+    let around = around_buffer g.W.CountedWrite.contents g.W.CountedWrite.failure_count c.args.out.now c.open-outer.new.self c.run_range-answer.new.out c.close-text.new.self c.open-outer.result c.close-text.result
+    c.open-outer.ensures.outer c.open-outer.ensures.empty c.open-outer.ensures.writer c.close-text.ensures.text c.close-text.ensures.outer c.close-text.ensures.writer in
     let m = nodes_meant (setting_of g.H.NamedFilters.named c.args.context.now) c.args.context.now.depth (nodes_of b) in
     let e = environment_of c.args.state.now in
     let mid = environment_of c.run_range-answer.new.state in
@@ -520,21 +501,21 @@ run_capture-returns-clause-performs g t c b here =
     (buffered_met unit _ m (sink c.args.out.now) (sink c.open-outer.new.self) (sink c.run_range-answer.new.out) (sink c.close-text.new.self) (string_bytes c.close-text.result) e mid around (c.in_ok-answer.ensures.performs b here))
     (change_met c.set_global.result (assigned_to c.args.name.now (text (string_bytes c.close-text.result))) _ mid _ (gives_merged c.set_global.result _ _ stored)))
 
-pub run_capture-returns-clause-kept : goal.run_capture-returns-clause-kept
+pub buffers::run_capture-returns-clause-kept : goal.buffers::run_capture-returns-clause-kept
 unfolding node_names
-run_capture-returns-clause-kept g t c b here N names inside =
+buffers::run_capture-returns-clause-kept g t c b here N names inside =
     let stored : IsValueOrMemory (λ _. layers_of c.set_global.new.self) c.set_global.result (with_assigned c.args.name.now (text (string_bytes c.close-text.result)) (layers_of c.run_range-answer.new.state)) = search (rules, view-Text) in
     kept_after N _ _ _ (c.run_range-answer.ensures.kept b here N names.1 inside)
     (kept_assigned N c.args.name.now (text (string_bytes c.close-text.result)) (layers_of c.run_range-answer.new.state) (layers_of c.set_global.new.self) c.set_global.result names.0 stored c.set_global.ensures.unchanged)
 
-pub run_capture-returns-in_err-answer-clause-kept : goal.run_capture-returns-in_err-answer-clause-kept
+pub buffers::run_capture-returns-in_err-answer-clause-kept : goal.buffers::run_capture-returns-in_err-answer-clause-kept
 unfolding node_names
-run_capture-returns-in_err-answer-clause-kept g t c b here N names inside =
+buffers::run_capture-returns-in_err-answer-clause-kept g t c b here N names inside =
     c.run_range-answer.ensures.kept b here N names.1 inside
 
-pub run_capture-returns-in_err-from_str-clause-kept : goal.run_capture-returns-in_err-from_str-clause-kept
+pub buffers::run_capture-returns-in_err-from_str-clause-kept : goal.buffers::run_capture-returns-in_err-from_str-clause-kept
 unfolding node_names
-run_capture-returns-in_err-from_str-clause-kept g t c b here N names inside =
+buffers::run_capture-returns-in_err-from_str-clause-kept g t c b here N names inside =
     c.run_range-answer.ensures.kept b here N names.1 inside
 
 pub run_include-returns-in_err-called-clause-performs : goal.run_include-returns-in_err-called-clause-performs
@@ -863,50 +844,36 @@ run_node-returns-in-IfChanged-clause-kept g t c =
 pub run_node-returns-in-IfChanged-clause-alone : goal.run_node-returns-in-IfChanged-clause-alone
 run_node-returns-in-IfChanged-clause-alone g t c = one_other c.args.nodes.now c.args.at c.in-IfChanged.end c.args.to c.index-nodes-at.result _ tree.ifchanged c.args.state.now c.run_ifchanged.new.state c.requires c.index-nodes-at.is c.in-IfChanged.is refl (λ b no. absurd no)
 
-pub run_ifchanged-overflow_add-at : goal.run_ifchanged-overflow_add-at
-run_ifchanged-overflow_add-at g t c =
+pub buffers::run_ifchanged-overflow_add-at : goal.buffers::run_ifchanged-overflow_add-at
+buffers::run_ifchanged-overflow_add-at g t c =
     let body : IsNodeRange c.args.nodes.now (c.args.at + 1) c.args.end = c.requires in
     let (b, here) = body in
     let le : c.args.at + 1 ≤ c.args.end = Stands-le (flats c.args.nodes.now) (c.args.at + 1) b c.args.end here in
     search rules
 
-pub run_ifchanged-run_range-ended-requires : goal.run_ifchanged-run_range-ended-requires
-run_ifchanged-run_range-ended-requires g t c κs within =
+pub buffers::run_ifchanged-run_range-ended-requires : goal.buffers::run_ifchanged-run_range-ended-requires
+buffers::run_ifchanged-run_range-ended-requires g t c κs within =
     let body : IsNodeRange c.args.nodes.now (c.args.at + 1) c.args.end = c.requires in
     let (b, here) = body in
     let le : c.args.at + 1 ≤ c.args.end = Stands-le (flats c.args.nodes.now) (c.args.at + 1) b c.args.end here in
     (let lt : 4 * (c.args.end - (c.args.at + 1)) + 1 + reserve c.args.context.now.depth c.args.context.now.partials.now < t = omega arith in lt, (within.0, (within.1, body)))
 
-pub run_ifchanged-returns-in_err-ended-clause-performs : goal.run_ifchanged-returns-in_err-ended-clause-performs
-run_ifchanged-returns-in_err-ended-clause-performs g t c b here =
+pub buffers::run_ifchanged-returns-in_err-ended-clause-performs : goal.buffers::run_ifchanged-returns-in_err-ended-clause-performs
+buffers::run_ifchanged-returns-in_err-ended-clause-performs g t c b here =
     let sink = sink_of g.W.CountedWrite.contents g.W.CountedWrite.failure_count in
-    let around : Around (sink c.args.out.now) (sink c.open-outer.new.self) (sink c.run_range-ended.new.out) (sink c.close-text.new.self) (string_bytes c.close-text.result) = record {
-      opened = c.open-outer.ensures.empty;
-      closed = ap (option_map string_bytes) c.close-text.ensures.text;
-      back = ap (option_map string_bytes) (c.close-text.ensures.outer ∙ c.open-outer.ensures.outer);
-      contents_in = ap (λ w. g.W.CountedWrite.contents w.now) c.open-outer.ensures.writer;
-      contents_out = ap (λ w. g.W.CountedWrite.contents w.now) c.close-text.ensures.writer;
-      failures_in = ap (λ w. g.W.CountedWrite.failure_count w.now) c.open-outer.ensures.writer;
-      failures_out = ap (λ w. g.W.CountedWrite.failure_count w.now) c.close-text.ensures.writer;
-    } in
+    let around = around_buffer g.W.CountedWrite.contents g.W.CountedWrite.failure_count c.args.out.now c.open-outer.new.self c.run_range-ended.new.out c.close-text.new.self c.open-outer.result c.close-text.result
+    c.open-outer.ensures.outer c.open-outer.ensures.empty c.open-outer.ensures.writer c.close-text.ensures.text c.close-text.ensures.outer c.close-text.ensures.writer in
     let m = nodes_meant (setting_of g.H.NamedFilters.named c.args.context.now) c.args.context.now.depth (nodes_of b) in
     let e = environment_of c.args.state.now in
     let mid = environment_of c.run_range-ended.new.state in
     let p = err_from_is_err_and c.from_residual.result c.from_residual.ensures.1 in
     rw (p.1, p.2) (by_rule (ifchanged_rule (setting_of g.H.NamedFilters.named c.args.context.now) (deeper_meaning (setting_of g.H.NamedFilters.named c.args.context.now) c.args.context.now.depth) (nodes_of b)) (bind_faulted (λ x. x) unit _ (buffered m) shown_if_changed _ _ (buffered_faulted unit (λ x. x) _ m (sink c.args.out.now) (sink c.open-outer.new.self) (sink c.run_range-ended.new.out) (sink c.close-text.new.self) (string_bytes c.close-text.result) e mid around (c.in_err-ended.ensures.performs b here))))
 
-pub run_ifchanged-returns-clause-performs : goal.run_ifchanged-returns-clause-performs
-run_ifchanged-returns-clause-performs g t c b here =
+pub buffers::run_ifchanged-returns-clause-performs : goal.buffers::run_ifchanged-returns-clause-performs
+buffers::run_ifchanged-returns-clause-performs g t c b here =
     let sink = sink_of g.W.CountedWrite.contents g.W.CountedWrite.failure_count in
-    let around : Around (sink c.args.out.now) (sink c.open-outer.new.self) (sink c.run_range-ended.new.out) (sink c.close-text.new.self) (string_bytes c.close-text.result) = record {
-      opened = c.open-outer.ensures.empty;
-      closed = ap (option_map string_bytes) c.close-text.ensures.text;
-      back = ap (option_map string_bytes) (c.close-text.ensures.outer ∙ c.open-outer.ensures.outer);
-      contents_in = ap (λ w. g.W.CountedWrite.contents w.now) c.open-outer.ensures.writer;
-      contents_out = ap (λ w. g.W.CountedWrite.contents w.now) c.close-text.ensures.writer;
-      failures_in = ap (λ w. g.W.CountedWrite.failure_count w.now) c.open-outer.ensures.writer;
-      failures_out = ap (λ w. g.W.CountedWrite.failure_count w.now) c.close-text.ensures.writer;
-    } in
+    let around = around_buffer g.W.CountedWrite.contents g.W.CountedWrite.failure_count c.args.out.now c.open-outer.new.self c.run_range-ended.new.out c.close-text.new.self c.open-outer.result c.close-text.result
+    c.open-outer.ensures.outer c.open-outer.ensures.empty c.open-outer.ensures.writer c.close-text.ensures.text c.close-text.ensures.outer c.close-text.ensures.writer in
     let m = nodes_meant (setting_of g.H.NamedFilters.named c.args.context.now) c.args.context.now.depth (nodes_of b) in
     let e = environment_of c.args.state.now in
     let mid = environment_of c.run_range-ended.new.state in
@@ -914,15 +881,85 @@ run_ifchanged-returns-clause-performs g t c b here =
     (buffered_met unit _ m (sink c.args.out.now) (sink c.open-outer.new.self) (sink c.run_range-ended.new.out) (sink c.close-text.new.self) (string_bytes c.close-text.result) e mid around (c.in_ok-ended.ensures.performs b here))
     c.show_if_changed.ensures.performs)
 
-pub run_ifchanged-returns-clause-kept : goal.run_ifchanged-returns-clause-kept
+pub buffers::run_ifchanged-returns-clause-kept : goal.buffers::run_ifchanged-returns-clause-kept
 unfolding node_names
-run_ifchanged-returns-clause-kept g t c b here N names inside =
+buffers::run_ifchanged-returns-clause-kept g t c b here N names inside =
     kept_after N _ _ _ (c.run_range-ended.ensures.kept b here N names inside) (c.show_if_changed.ensures.kept N)
 
-pub run_ifchanged-returns-in_err-ended-clause-kept : goal.run_ifchanged-returns-in_err-ended-clause-kept
+pub buffers::run_ifchanged-returns-in_err-ended-clause-kept : goal.buffers::run_ifchanged-returns-in_err-ended-clause-kept
 unfolding node_names
-run_ifchanged-returns-in_err-ended-clause-kept g t c b here N names inside =
+buffers::run_ifchanged-returns-in_err-ended-clause-kept g t c b here N names inside =
     c.run_range-ended.ensures.kept b here N names inside
+
+pub run_node-run_filtered-requires : goal.run_node-run_filtered-requires
+run_node-run_filtered-requires g t c κs within =
+    let (body, past, inside) = one c.args.nodes.now c.args.at c.in-Filtered.end c.args.to c.index-nodes-at.result _ (tree.filtered (map chain_filter_view c.in-Filtered.filters.items)) c.requires c.index-nodes-at.is c.in-Filtered.is refl in
+    (let lt : 4 * (c.in-Filtered.end - c.args.at) - 1 + reserve c.args.context.now.depth c.args.context.now.partials.now < t = omega arith in lt, (within.0, (within.1, body)))
+
+pub run_node-returns-in-Filtered-clause-performs : goal.run_node-returns-in-Filtered-clause-performs
+run_node-returns-in-Filtered-clause-performs g t c =
+    let place = configuration_of g.W.CountedWrite.contents g.W.CountedWrite.failure_count in
+    one_performs (setting_of g.H.NamedFilters.named c.args.context.now) c.args.context.now.depth c.args.nodes.now c.args.at c.in-Filtered.end c.args.to c.index-nodes-at.result _ (tree.filtered (map chain_filter_view c.in-Filtered.filters.items)) c.run_filtered.result (place c.args.out.now c.args.state.now) (place c.run_filtered.new.out c.run_filtered.new.state) c.requires c.index-nodes-at.is c.in-Filtered.is refl
+    (subst (λ xs. (b : Forest Maker) → IsForestAt c.args.nodes.now (c.args.at + 1) b c.in-Filtered.end → Performs c.run_filtered.result (node_meant (setting_of g.H.NamedFilters.named c.args.context.now) c.args.context.now.depth (tree.filtered (map chain_filter_view xs) (nodes_of b))) (place c.args.out.now c.args.state.now) (place c.run_filtered.new.out c.run_filtered.new.state)) c.deref.ensures.value c.run_filtered.ensures.performs)
+
+pub run_node-returns-in-Filtered-clause-kept : goal.run_node-returns-in-Filtered-clause-kept
+run_node-returns-in-Filtered-clause-kept g t c =
+    one_keeps (setting_of g.H.NamedFilters.named c.args.context.now) c.args.nodes.now c.args.at c.in-Filtered.end c.args.to c.index-nodes-at.result _ (tree.filtered (map chain_filter_view c.in-Filtered.filters.items)) c.args.state.now c.run_filtered.new.state c.requires c.index-nodes-at.is c.in-Filtered.is refl
+    (subst (λ xs. (b : Forest Maker) → IsForestAt c.args.nodes.now (c.args.at + 1) b c.in-Filtered.end → Keeps (node_names (tree.filtered (map chain_filter_view xs) (nodes_of b))) (setting_of g.H.NamedFilters.named c.args.context.now) c.args.state.now c.run_filtered.new.state) c.deref.ensures.value c.run_filtered.ensures.kept)
+
+pub run_node-returns-in-Filtered-clause-alone : goal.run_node-returns-in-Filtered-clause-alone
+run_node-returns-in-Filtered-clause-alone g t c = one_other c.args.nodes.now c.args.at c.in-Filtered.end c.args.to c.index-nodes-at.result _ (tree.filtered (map chain_filter_view c.in-Filtered.filters.items)) c.args.state.now c.run_filtered.new.state c.requires c.index-nodes-at.is c.in-Filtered.is refl (λ b no. absurd no)
+
+pub buffers::run_filtered-overflow_add-at : goal.buffers::run_filtered-overflow_add-at
+buffers::run_filtered-overflow_add-at g t c =
+    let body : IsNodeRange c.args.nodes.now (c.args.at + 1) c.args.end = c.requires in
+    let (b, here) = body in
+    let le : c.args.at + 1 ≤ c.args.end = Stands-le (flats c.args.nodes.now) (c.args.at + 1) b c.args.end here in
+    search rules
+
+pub buffers::run_filtered-run_range-ran-requires : goal.buffers::run_filtered-run_range-ran-requires
+buffers::run_filtered-run_range-ran-requires g t c κs within =
+    let body : IsNodeRange c.args.nodes.now (c.args.at + 1) c.args.end = c.requires in
+    let (b, here) = body in
+    let le : c.args.at + 1 ≤ c.args.end = Stands-le (flats c.args.nodes.now) (c.args.at + 1) b c.args.end here in
+    (let lt : 4 * (c.args.end - (c.args.at + 1)) + 1 + reserve c.args.context.now.depth c.args.context.now.partials.now < t = omega arith in lt, (within.0, (within.1, body)))
+
+pub buffers::run_filtered-returns-in_err-ran-clause-performs : goal.buffers::run_filtered-returns-in_err-ran-clause-performs
+buffers::run_filtered-returns-in_err-ran-clause-performs g t c b here =
+    let sink = sink_of g.W.CountedWrite.contents g.W.CountedWrite.failure_count in
+    let around = around_buffer g.W.CountedWrite.contents g.W.CountedWrite.failure_count c.args.out.now c.open-outer.new.self c.run_range-ran.new.out c.close-text.new.self c.open-outer.result c.close-text.result
+    c.open-outer.ensures.outer c.open-outer.ensures.empty c.open-outer.ensures.writer c.close-text.ensures.text c.close-text.ensures.outer c.close-text.ensures.writer in
+    let m = nodes_meant (setting_of g.H.NamedFilters.named c.args.context.now) c.args.context.now.depth (nodes_of b) in
+    let filters = map chain_filter_view c.args.filters.now in
+    let rest = written_through (setting_of g.H.NamedFilters.named c.args.context.now).answers filters in
+    let e = environment_of c.args.state.now in
+    let mid = environment_of c.run_range-ran.new.state in
+    let p = err_from_is_err_and c.from_residual.result c.from_residual.ensures.1 in
+    rw (p.1, p.2) (by_rule (filtered_rule (setting_of g.H.NamedFilters.named c.args.context.now) (deeper_meaning (setting_of g.H.NamedFilters.named c.args.context.now) c.args.context.now.depth) filters (nodes_of b)) (bind_faulted (λ x. x) unit _ (buffered m) rest _ _ (buffered_faulted unit (λ x. x) _ m (sink c.args.out.now) (sink c.open-outer.new.self) (sink c.run_range-ran.new.out) (sink c.close-text.new.self) (string_bytes c.close-text.result) e mid around (c.in_err-ran.ensures.performs b here))))
+
+pub buffers::run_filtered-returns-clause-performs : goal.buffers::run_filtered-returns-clause-performs
+buffers::run_filtered-returns-clause-performs g t c b here =
+    let sink = sink_of g.W.CountedWrite.contents g.W.CountedWrite.failure_count in
+    let around = around_buffer g.W.CountedWrite.contents g.W.CountedWrite.failure_count c.args.out.now c.open-outer.new.self c.run_range-ran.new.out c.close-text.new.self c.open-outer.result c.close-text.result
+    c.open-outer.ensures.outer c.open-outer.ensures.empty c.open-outer.ensures.writer c.close-text.ensures.text c.close-text.ensures.outer c.close-text.ensures.writer in
+    let m = nodes_meant (setting_of g.H.NamedFilters.named c.args.context.now) c.args.context.now.depth (nodes_of b) in
+    let filters = map chain_filter_view c.args.filters.now in
+    let rest = written_through (setting_of g.H.NamedFilters.named c.args.context.now).answers filters in
+    let e = environment_of c.args.state.now in
+    let mid = environment_of c.run_range-ran.new.state in
+    by_rule (filtered_rule (setting_of g.H.NamedFilters.named c.args.context.now) (deeper_meaning (setting_of g.H.NamedFilters.named c.args.context.now) c.args.context.now.depth) filters (nodes_of b)) (bind_met (λ x. x) unit (string_bytes c.close-text.result) c.write_filtered.result (buffered m) rest _ (record { sink = sink c.close-text.new.self; environment = mid }) _
+    (buffered_met unit _ m (sink c.args.out.now) (sink c.open-outer.new.self) (sink c.run_range-ran.new.out) (sink c.close-text.new.self) (string_bytes c.close-text.result) e mid around (c.in_ok-ran.ensures.performs b here))
+    c.write_filtered.ensures.performs)
+
+pub buffers::run_filtered-returns-clause-kept : goal.buffers::run_filtered-returns-clause-kept
+unfolding node_names
+buffers::run_filtered-returns-clause-kept g t c b here N names inside =
+    c.run_range-ran.ensures.kept b here N (right N (filters_names (map chain_filter_view c.args.filters.now)) (nodes_names (nodes_of b)) names) inside
+
+pub buffers::run_filtered-returns-in_err-ran-clause-kept : goal.buffers::run_filtered-returns-in_err-ran-clause-kept
+unfolding node_names
+buffers::run_filtered-returns-in_err-ran-clause-kept g t c b here N names inside =
+    c.run_range-ran.ensures.kept b here N (right N (filters_names (map chain_filter_view c.args.filters.now)) (nodes_names (nodes_of b)) names) inside
 
 -- ---- loops
 
@@ -1493,6 +1530,9 @@ run_node-returns-in-Cycle-clause-silent g t c n next there silent = absurd (leaf
 
 pub run_node-returns-in-IfChanged-clause-silent : goal.run_node-returns-in-IfChanged-clause-silent
 run_node-returns-in-IfChanged-clause-silent g t c n next there silent = absurd (one_loud c.args.nodes.now c.args.at c.in-IfChanged.end c.args.to c.index-nodes-at.result _ tree.ifchanged c.requires c.index-nodes-at.is c.in-IfChanged.is refl (λ b no. absurd no) n next there silent)
+
+pub run_node-returns-in-Filtered-clause-silent : goal.run_node-returns-in-Filtered-clause-silent
+run_node-returns-in-Filtered-clause-silent g t c n next there silent = absurd (one_loud c.args.nodes.now c.args.at c.in-Filtered.end c.args.to c.index-nodes-at.result _ (tree.filtered (map chain_filter_view c.in-Filtered.filters.items)) c.requires c.index-nodes-at.is c.in-Filtered.is refl (λ b no. absurd no) n next there silent)
 
 pub run_node-returns-in-For-clause-silent : goal.run_node-returns-in-For-clause-silent
 run_node-returns-in-For-clause-silent g t c n next there silent = absurd (two_loud c.args.nodes.now c.args.at c.in-For.bodies.first_end c.in-For.bodies.last_end c.args.to c.index-nodes-at.result _ (tree.for_each (string_bytes c.in-For.head.value.variable) (source_view c.in-For.head.value.source) (window_view c.in-For.head.value.window)) c.requires c.index-nodes-at.is c.in-For.is refl (λ b d no. absurd no) n next there silent)

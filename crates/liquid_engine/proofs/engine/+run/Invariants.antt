@@ -31,11 +31,14 @@ decreases-run_node g l = 4 * (l.to - l.at) + reserve l.context.now.depth l.conte
 abbrev pub decreases-run_chosen : goal.decreases-run_chosen
 decreases-run_chosen g l = 4 * (l.to - l.at) - 1 + reserve l.context.now.depth l.context.now.partials.now
 
-abbrev pub decreases-run_capture : goal.decreases-run_capture
-decreases-run_capture g l = 4 * (l.end - l.at) - 1 + reserve l.context.now.depth l.context.now.partials.now
+abbrev pub decreases-buffers::run_capture : goal.decreases-buffers::run_capture
+decreases-buffers::run_capture g l = 4 * (l.end - l.at) - 1 + reserve l.context.now.depth l.context.now.partials.now
 
-abbrev pub decreases-run_ifchanged : goal.decreases-run_ifchanged
-decreases-run_ifchanged g l = 4 * (l.end - l.at) - 1 + reserve l.context.now.depth l.context.now.partials.now
+abbrev pub decreases-buffers::run_ifchanged : goal.decreases-buffers::run_ifchanged
+decreases-buffers::run_ifchanged g l = 4 * (l.end - l.at) - 1 + reserve l.context.now.depth l.context.now.partials.now
+
+abbrev pub decreases-buffers::run_filtered : goal.decreases-buffers::run_filtered
+decreases-buffers::run_filtered g l = 4 * (l.end - l.at) - 1 + reserve l.context.now.depth l.context.now.partials.now
 
 abbrev pub decreases-run_include : goal.decreases-run_include
 decreases-run_include g l = reserve l.context.now.depth l.context.now.partials.now + 2

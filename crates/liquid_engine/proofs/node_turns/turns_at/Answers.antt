@@ -24,6 +24,13 @@ returns-in-Assign c n next there =
     turns_leaf c.args.nodes.now c.args.at c.args.to c.index-nodes-at.result _ (tree.assign (string_bytes c.in-Assign.field-0) (chain_view c.in-Assign.chain)) _ c.requires c.index-nodes-at.is c.in-Assign.is refl
     (c.one_and-in-Assign.ensures (length (map chain_filter_view (c.in-Assign.chain.filters.items))) (counted_small c.len-in-Assign.result fits ∙ ap counted_turns (count ∙ sym (length-map (c.in-Assign.chain.filters.items) chain_filter_view)))) n next there
 
+pub returns-in-Filtered : goal.returns-in-Filtered
+returns-in-Filtered c n next there =
+    let fits : c.len-in-Filtered.result ≤ 2 ^ 64 - 1 = search rules in
+    let count : c.len-in-Filtered.result ≡ length (c.in-Filtered.filters.items) = search rules in
+    turns_one c.args.nodes.now c.args.at _ c.args.to c.index-nodes-at.result _ (tree.filtered (map chain_filter_view (c.in-Filtered.filters.items))) _ c.requires c.index-nodes-at.is c.in-Filtered.is refl
+    (λ b. c.one_and-in-Filtered.ensures (length (map chain_filter_view (c.in-Filtered.filters.items))) (counted_small c.len-in-Filtered.result fits ∙ ap counted_turns (count ∙ sym (length-map (c.in-Filtered.filters.items) chain_filter_view)))) n next there
+
 pub returns-in-Include : goal.returns-in-Include
 returns-in-Include c n next there =
     let fits : c.len-in-Include.result ≤ 2 ^ 64 - 1 = search rules in

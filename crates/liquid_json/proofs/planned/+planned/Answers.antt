@@ -23,6 +23,7 @@ use Rattle.liquid_model.proofs.Skipping.{put_in_both, put_in_one}
 use Rattle.liquid_model.specs.UseViews.{use_view, members_view, turns_view}
 use Rattle.liquid_json.specs.PlainUses.{is_plain_use}
 use Rattle.liquid_json.specs.inside.Tokens.{datum_of, datum_at}
+use Rattle.liquid_json.specs.declared.tokens.Numbers.TheVariants.{Integers}
 use Rattle.liquid_model.specs.Lists.{list_of}
 use Rattle.liquid_json.specs.Under.{KeysUnder, Under, is_same, is_unread, is_beginning, has_some_members, are_left}
 use Rattle.liquid_json.proofs.After.{after, after_none, after_next}
@@ -36,13 +37,13 @@ pub read_parts-returns-in_default-token-clause-ok : goal.read_parts-returns-in_d
 read_parts-returns-in_default-token-clause-ok t c =
     let first : c.args.reader.now ≡ token_of c.in-Some.token ∷ c.next.new.self = grind arith in
     IfOk-weaker c.scalar.result _ _
-    (λ v e. (view v, ap (datum_at c.args.depth) first ∙ scalar_read c.args.depth (token_of c.in-Some.token) _ (view v) e, alike_equal (parts (members_view c.args.members.now.entries) (turns_view c.args.items.now)) _ _ refl, is_same))
-    c.scalar.ensures
+    (λ v e. (view v, ap (datum_at Integers c.args.depth) first ∙ scalar_read Integers c.args.depth (token_of c.in-Some.token) _ (view v) e, alike_equal (parts (members_view c.args.members.now.entries) (turns_view c.args.items.now)) _ _ refl, is_same))
+    c.scalar.ensures.ok
 
 pub read_parts-returns-in-None-clause-ok : goal.read_parts-returns-in-None-clause-ok
 read_parts-returns-in-None-clause-ok t c =
     let first : c.args.reader.now ≡ token_of c.in-Some.token ∷ c.next.new.self = grind arith in
-    let opened = ap (converted datum_of) (ap (value c.args.depth) (first ∙ ap (λ k. token_of k ∷ c.next.new.self) c.in-BeginArray.is) ∙ value-begin_array c.args.depth c.next.new.self (omega arith)) ∙ converted-array (items (value (c.args.depth - 1)) (length c.next.new.self) c.next.new.self) in
+    let opened = ap (converted (datum_of Integers)) (ap (value c.args.depth) (first ∙ ap (λ k. token_of k ∷ c.next.new.self) c.in-BeginArray.is) ∙ value-begin_array c.args.depth c.next.new.self (omega arith)) ∙ converted-array Integers (items (value (c.args.depth - 1)) (length c.next.new.self) c.next.new.self) in
     let M = members_view c.args.members.now.entries in
     IfOk-weaker c.without_items.result _ _
     (λ v both. let found = both.0 in (
@@ -57,7 +58,7 @@ read_parts-returns-in-None-clause-ok t c =
 pub read_parts-returns-in_ok-asked_items-in-Some-items-clause-ok : goal.read_parts-returns-in_ok-asked_items-in-Some-items-clause-ok
 read_parts-returns-in_ok-asked_items-in-Some-items-clause-ok t c =
     let first : c.args.reader.now ≡ token_of c.in-Some.token ∷ c.next.new.self = grind arith in
-    let opened = ap (converted datum_of) (ap (value c.args.depth) (first ∙ ap (λ k. token_of k ∷ c.next.new.self) c.in-BeginArray.is) ∙ value-begin_array c.args.depth c.next.new.self (omega arith)) ∙ converted-array (items (value (c.args.depth - 1)) (length c.next.new.self) c.next.new.self) in
+    let opened = ap (converted (datum_of Integers)) (ap (value c.args.depth) (first ∙ ap (λ k. token_of k ∷ c.next.new.self) c.in-BeginArray.is) ∙ value-begin_array c.args.depth c.next.new.self (omega arith)) ∙ converted-array Integers (items (value (c.args.depth - 1)) (length c.next.new.self) c.next.new.self) in
     let M = members_view c.args.members.now.entries in
     let w = c.in-Some-items.asked in
     let built = c.in_ok-asked_items-in-Some-items in
@@ -85,7 +86,7 @@ asked_items-returns-in-Some-clause-ok t c =
 pub read_parts-returns-in_ok-planned_pairs-in-None-items-clause-ok : goal.read_parts-returns-in_ok-planned_pairs-in-None-items-clause-ok
 read_parts-returns-in_ok-planned_pairs-in-None-items-clause-ok t c =
     let first : c.args.reader.now ≡ token_of c.in-Some.token ∷ c.next.new.self = grind arith in
-    let opened = ap (converted datum_of) (ap (value c.args.depth) (first ∙ ap (λ k. token_of k ∷ c.next.new.self) c.in-BeginObject.is) ∙ value-begin_object c.args.depth c.next.new.self (omega arith)) ∙ converted-object (members (value (c.args.depth - 1)) (length c.next.new.self) c.next.new.self) in
+    let opened = ap (converted (datum_of Integers)) (ap (value c.args.depth) (first ∙ ap (λ k. token_of k ∷ c.next.new.self) c.in-BeginObject.is) ∙ value-begin_object c.args.depth c.next.new.self (omega arith)) ∙ converted-object Integers (members (value (c.args.depth - 1)) (length c.next.new.self) c.next.new.self) in
     let M = members_view c.args.members.now.entries in
     let built = c.in_ok-planned_pairs-in-None-items in
     let found = built.ensures.ok in (
@@ -99,7 +100,7 @@ read_parts-returns-in_ok-planned_pairs-in-None-items-clause-ok t c =
 pub read_parts-returns-in-Some-items-2-clause-ok : goal.read_parts-returns-in-Some-items-2-clause-ok
 read_parts-returns-in-Some-items-2-clause-ok t c =
     let first : c.args.reader.now ≡ token_of c.in-Some.token ∷ c.next.new.self = grind arith in
-    let opened = ap (converted datum_of) (ap (value c.args.depth) (first ∙ ap (λ k. token_of k ∷ c.next.new.self) c.in-BeginObject.is) ∙ value-begin_object c.args.depth c.next.new.self (omega arith)) ∙ converted-object (members (value (c.args.depth - 1)) (length c.next.new.self) c.next.new.self) in
+    let opened = ap (converted (datum_of Integers)) (ap (value c.args.depth) (first ∙ ap (λ k. token_of k ∷ c.next.new.self) c.in-BeginObject.is) ∙ value-begin_object c.args.depth c.next.new.self (omega arith)) ∙ converted-object Integers (members (value (c.args.depth - 1)) (length c.next.new.self) c.next.new.self) in
     IfOk-weaker c.whole_map.result _ _
     (λ v e. (view v, opened ∙ e, alike_equal (parts (members_view c.args.members.now.entries) (turns_view c.args.items.now)) _ _ refl, is_same)) c.whole_map.ensures.ok
 
@@ -121,7 +122,7 @@ planned_items-items-preserved t c =
     let v = c.in_ok-item.item in
     let r = c.read_item.new.reader in
     let less : length r < length l.reader = rw (← going.1) done.shorter in
-    let turn = item_read p n l.reader r done.ok.0 (omega (arith, l.invariant.1)) going.0 (rw (← going.1) done.ok.1) in (
+    let turn = item_read Integers p n l.reader r done.ok.0 (omega (arith, l.invariant.1)) going.0 (rw (← going.1) done.ok.1) in (
       n - 1,
       omega (arith, l.invariant.1),
       (λ cs ds s e a.
@@ -136,7 +137,7 @@ planned_items-returns-clause-ok t c =
     let l = c.items in
     let n = l.invariant.0 in
     let r = c.take_end_array.new.self in
-    let all = l.invariant.2 no_items no_items r (items_over p n l.reader r l.invariant.1 (grind arith)) tt in
+    let all = l.invariant.2 no_items no_items r (items_over Integers p n l.reader r l.invariant.1 (grind arith)) tt in
     let U = use_view c.args.asked.now in
     let built = subst (λ xs. BuiltLists U (list_of all.0) (list_of xs)) (after_none l.found.items) all.2 in
     (all.0, all.1, built_alike U (list_of all.0) _ built, built_under U (list_of all.0) _ built)
@@ -159,7 +160,7 @@ first_items-items-preserved-in-Continue-branch-2 t c =
     let v = c.in_ok-item.item in
     let r = c.read_planned.new.reader in
     let less : length r < length l.reader = rw (← going.1) done.shorter in
-    let turn = item_read p n l.reader r done.ok.0 (omega (arith, l.invariant.1)) going.0 (rw (← going.1) done.ok.1) in
+    let turn = item_read Integers p n l.reader r done.ok.0 (omega (arith, l.invariant.1)) going.0 (rw (← going.1) done.ok.1) in
     let few : length l.found.items < c.args.limit = omega arith in
     let some : 0 < l.room = omega arith in (
       n - 1,
@@ -180,7 +181,7 @@ first_items-items-preserved t c =
     let done = c.in_ok-skipped.ensures in
     let r = c.skipped.new.reader in
     let less : length r < length l.reader = rw (← going.1) done.shorter in
-    let turn = item_read p n l.reader r done.ok.0 (omega (arith, l.invariant.1)) going.0 (rw (← going.1) done.ok.1) in
+    let turn = item_read Integers p n l.reader r done.ok.0 (omega (arith, l.invariant.1)) going.0 (rw (← going.1) done.ok.1) in
     let full : c.args.limit ≤ length l.found.items = omega arith in
     let some : 0 < l.room = omega arith in (
       n - 1,
@@ -197,7 +198,7 @@ first_items-returns-clause-ok t c =
     let l = c.items in
     let n = l.invariant.0 in
     let r = c.take_end_array.new.self in
-    let all = l.invariant.2 no_items no_items r (items_over p n l.reader r l.invariant.1 (grind arith)) (none_left (use_view c.args.asked.now) (c.args.limit - length l.found.items)) in
+    let all = l.invariant.2 no_items no_items r (items_over Integers p n l.reader r l.invariant.1 (grind arith)) (none_left (use_view c.args.asked.now) (c.args.limit - length l.found.items)) in
     let built = subst (λ xs. BuiltLists (use_view c.args.asked.now) (take c.args.limit (list_of all.0)) (list_of xs)) (after_none l.found.items) all.2 in (
       all.0,
       all.1,
@@ -227,13 +228,13 @@ planned_pairs-pairs-preserved-in-Continue-branch-4 t c =
     let r = c.read_planned.new.reader in
     let less = read_key-shorter l.reader (Some k) s named in
     let lesser = done.shorter in
-    let inserted : pairs_view c.put_member.new.found.entries ≡ put k (view v) (pairs_view l.found.entries) = c.in_ok-put_member-in-Some-get.ensures in
+    let inserted : pairs_view c.put_member.new.found.entries ≡ put k (view v) (pairs_view l.found.entries) = c.in_ok-put_member-in-Some-get.ensures.put in
     let asks = found_use k c.args.members.now.entries (Some c.in-Some-get.asked) c.in-Some-get.ensures.value in (
       n - 1,
       omega (arith, l.invariant.1),
       (
         put k done.ok.0 now.0,
-        now.1 ∙ pair_read p now.0 n k l.reader s r done.ok.0 (omega (arith, l.invariant.1)) named done.ok.1,
+        now.1 ∙ pair_read Integers p now.0 n k l.reader s r done.ok.0 (omega (arith, l.invariant.1)) named done.ok.1,
         subst (λ qs. AlikeKeys (pairs_wanted M uncounted) (put k done.ok.0 now.0) qs) (sym inserted)
             (put_in_both (pairs_wanted M uncounted) now.0 (pairs_view l.found.entries) k done.ok.0 (view v) now.2
             (seen M k c.requires.plain (Some done.ok.0) (Some (view v)) (subst (λ u. Alike u (Some done.ok.0) (Some (view v))) (sym asks) done.ok.2))),
@@ -261,7 +262,7 @@ planned_pairs-pairs-preserved t c =
       omega (arith, l.invariant.1),
       (
         put k done.ok.0 now.0,
-        now.1 ∙ pair_read p now.0 n k l.reader s r done.ok.0 (omega (arith, l.invariant.1)) named done.ok.1,
+        now.1 ∙ pair_read Integers p now.0 n k l.reader s r done.ok.0 (omega (arith, l.invariant.1)) named done.ok.1,
         put_in_one (pairs_wanted M uncounted) now.0 (pairs_view l.found.entries) k done.ok.0 now.2 (unseen M k c.requires.plain (found_use k c.args.members.now.entries None c.in-None.ensures.value)),
         under_in_one now.0 (pairs_view l.found.entries) k done.ok.0 now.3 (now.4 k (sym c.in-None.ensures.value)),
         now.4,
@@ -275,7 +276,7 @@ planned_pairs-returns-clause-ok t c =
     let l = c.pairs in
     let n = l.invariant.0 in
     let now = l.invariant.2 in
-    (now.0, now.1 ∙ pairs_over p now.0 n l.reader c.next_key.new.self l.invariant.1 (grind arith), now.2, now.3)
+    (now.0, now.1 ∙ pairs_over Integers p now.0 n l.reader c.next_key.new.self l.invariant.1 (grind arith), now.2, now.3)
 
 pub read_planned-returns-in-Nothing-clause-ok : goal.read_planned-returns-in-Nothing-clause-ok
 read_planned-returns-in-Nothing-clause-ok t c =

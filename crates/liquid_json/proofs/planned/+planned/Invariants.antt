@@ -9,6 +9,7 @@ use Rattle.liquid_model.specs.Projected.{pairs_wanted}
 use Rattle.liquid_model.specs.Skipping.{AlikeKeys}
 use Rattle.liquid_model.specs.UseViews.{use_view, members_view}
 use Rattle.liquid_json.specs.inside.Tokens.{list_items_at, pairs_at}
+use Rattle.liquid_json.specs.declared.tokens.Numbers.TheVariants.{Integers}
 use Rattle.liquid_json.specs.Under.{KeysUnder}
 use Rattle.liquid_json.proofs.After.{after}
 use Rattle.liquid_json.proofs.Under.{BuiltLists, NamedAlone}
@@ -39,8 +40,8 @@ decreases-planned_pairs l = 5 * l.depth + 3
 abbrev pub invariant-planned_items-items : goal.invariant-planned_items-items
 invariant-planned_items-items l =
     (n : ℕ) × (length l.reader ≤ n)
-    × ((cs ds : Items) (r : List Token) → list_items_at l.depth n l.reader ≡ Some (cs, r) → BuiltLists (use_view l.asked) (list_of cs) (list_of ds)
-    → (all : Items) × (list_items_at l.depth (length l.initial.reader) l.initial.reader ≡ Some (all, r)) × BuiltLists (use_view l.asked) (list_of all) (list_of (after l.found.items ds)))
+    × ((cs ds : Items) (r : List Token) → list_items_at Integers l.depth n l.reader ≡ Some (cs, r) → BuiltLists (use_view l.asked) (list_of cs) (list_of ds)
+    → (all : Items) × (list_items_at Integers l.depth (length l.initial.reader) l.initial.reader ≡ Some (all, r)) × BuiltLists (use_view l.asked) (list_of all) (list_of (after l.found.items ds)))
     × (length l.reader ≤ length l.initial.reader)
 
 abbrev pub decreases-planned_items-items : goal.decreases-planned_items-items
@@ -50,8 +51,8 @@ decreases-planned_items-items l = length l.reader
 abbrev pub invariant-first_items-items : goal.invariant-first_items-items
 invariant-first_items-items l =
     (n : ℕ) × (length l.reader ≤ n)
-    × ((cs ds : Items) (r : List Token) → list_items_at l.depth n l.reader ≡ Some (cs, r) → BuiltLists (use_view l.asked) (take (l.limit - length l.found.items) (list_of cs)) (list_of ds)
-    → (all : Items) × (list_items_at l.depth (length l.initial.reader) l.initial.reader ≡ Some (all, r)) × BuiltLists (use_view l.asked) (take l.limit (list_of all)) (list_of (after l.found.items ds))
+    × ((cs ds : Items) (r : List Token) → list_items_at Integers l.depth n l.reader ≡ Some (cs, r) → BuiltLists (use_view l.asked) (take (l.limit - length l.found.items) (list_of cs)) (list_of ds)
+    → (all : Items) × (list_items_at Integers l.depth (length l.initial.reader) l.initial.reader ≡ Some (all, r)) × BuiltLists (use_view l.asked) (take l.limit (list_of all)) (list_of (after l.found.items ds))
     × (items_len all + l.room ≡ items_len cs + 9223372036854775807))
     × (length l.reader ≤ length l.initial.reader)
 
@@ -61,7 +62,7 @@ decreases-first_items-items l = length l.reader
 abbrev pub invariant-planned_pairs-pairs : goal.invariant-planned_pairs-pairs
 invariant-planned_pairs-pairs l =
     (n : ℕ) × (length l.reader ≤ n)
-    × ((now : Pairs) × (pairs_at l.depth no_pairs (length l.initial.reader) l.initial.reader ≡ pairs_at l.depth now n l.reader) × AlikeKeys (pairs_wanted (members_view l.members.entries) uncounted) now (pairs_view l.found.entries) × KeysUnder now (pairs_view l.found.entries) × NamedAlone l.members.entries (pairs_view l.found.entries))
+    × ((now : Pairs) × (pairs_at Integers l.depth no_pairs (length l.initial.reader) l.initial.reader ≡ pairs_at Integers l.depth now n l.reader) × AlikeKeys (pairs_wanted (members_view l.members.entries) uncounted) now (pairs_view l.found.entries) × KeysUnder now (pairs_view l.found.entries) × NamedAlone l.members.entries (pairs_view l.found.entries))
     × (length l.reader ≤ length l.initial.reader)
 
 abbrev pub decreases-planned_pairs-pairs : goal.decreases-planned_pairs-pairs

@@ -19,7 +19,7 @@ decreases-read_pairs l = 2 * l.depth + 1
 abbrev pub invariant-read_items-items : goal.invariant-read_items-items
 invariant-read_items-items l =
     (n : ℕ) × (length l.reader ≤ n)
-    × (list_items_at l.depth (length l.initial.reader) l.initial.reader ≡ parse_map (after l.found.items) (list_items_at l.depth n l.reader))
+    × (list_items_at l.numbers l.depth (length l.initial.reader) l.initial.reader ≡ parse_map (after l.found.items) (list_items_at l.numbers l.depth n l.reader))
     × (length l.reader ≤ length l.initial.reader)
 
 abbrev pub decreases-read_items-items : goal.decreases-read_items-items
@@ -28,7 +28,7 @@ decreases-read_items-items l = length l.reader
 abbrev pub invariant-read_pairs-pairs : goal.invariant-read_pairs-pairs
 invariant-read_pairs-pairs l =
     (n : ℕ) × (length l.reader ≤ n)
-    × (pairs_at l.depth no_pairs (length l.initial.reader) l.initial.reader ≡ pairs_at l.depth (pairs_view l.found.entries) n l.reader)
+    × (pairs_at l.numbers l.depth no_pairs (length l.initial.reader) l.initial.reader ≡ pairs_at l.numbers l.depth (pairs_view l.found.entries) n l.reader)
     × (length l.reader ≤ length l.initial.reader)
 
 abbrev pub decreases-read_pairs-pairs : goal.decreases-read_pairs-pairs

@@ -1,7 +1,8 @@
-use Rattle.std.proofs.Common.{◌≡◌, drop, get_or, true, false, Some, IfSome, option_and_then, ◌==◌, sym, ap, subst, ◌∙◌, arith, take_all, length-drop}
+use Rattle.std.proofs.Common.{◌≡◌, drop, get_or, true, false, option_and_then, ◌==◌, sym, ap, ◌∙◌, arith, take_all, length-drop}
 use Rattle.fast_float.specs.Text.{scan}
 use Rattle.serde_json.specs.Find.{as_i64}
 use Rattle.serde_json.specs.Read.{number_of, number_from}
+use Rattle.liquid_json.specs.Json as spec
 use Rattle.liquid_json.proofs.whole.integer_of.Goals as goal
 
 pub returns-then-has_minus : goal.returns-then-has_minus
@@ -11,7 +12,7 @@ returns-then-has_minus c =
     let signed : (get_or s 0 0 == 45) ≡ true = sym c.if-has_minus.ensures.value in
     let parts : c.scan.result ≡ scan (drop 1 s) = c.scan.ensures.parts ∙ ap scan (take_all _ (drop 1 s) (omega (arith, length-drop 1 s))) in
     let read : number_from true (scan (drop 1 s)) ≡ number_of s = rw signed in
-    subst (λ n. IfSome c.below_zero.result (λ z. option_and_then as_i64 n ≡ Some z)) (ap (number_from true) parts ∙ read ∙ ap number_of c.as_bytes-bytes.ensures.value) c.below_zero.ensures
+    c.below_zero.ensures ∙ ap (λ p. option_and_then as_i64 (number_from true p)) parts ∙ ap (option_and_then as_i64) read ∙ ap spec.integer_of_json_number c.as_bytes-bytes.ensures.value
 
 pub returns-else-has_minus : goal.returns-else-has_minus
 unfolding number_of
@@ -19,4 +20,4 @@ returns-else-has_minus c =
     let s = c.as_bytes-bytes.result.now in
     let unsigned : (get_or s 0 0 == 45) ≡ false = sym c.if-has_minus.ensures.value in
     let read : number_from false (scan s) ≡ number_of s = rw unsigned in
-    subst (λ n. IfSome c.from_zero.result (λ z. option_and_then as_i64 n ≡ Some z)) (ap (number_from false) c.scan-else-has_minus.ensures.parts ∙ read ∙ ap number_of c.as_bytes-bytes.ensures.value) c.from_zero.ensures
+    c.from_zero.ensures ∙ ap (λ p. option_and_then as_i64 (number_from false p)) c.scan-else-has_minus.ensures.parts ∙ ap (option_and_then as_i64) read ∙ ap spec.integer_of_json_number c.as_bytes-bytes.ensures.value

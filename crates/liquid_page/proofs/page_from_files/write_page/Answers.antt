@@ -2,7 +2,7 @@
 use Rattle.std.proofs.Common.{◌≡◌, [], false, sym, subst, ◌∙◌}
 use Rattle.liquid_engine.specs.Performs.{is_refused}
 use Rattle.std.specs.Io.KnownBytes.{Keeps, append_known}
-use Rattle.liquid_page.specs.Buffering.{buffered_contents}
+use Rattle.liquid_files.specs.Buffering.{buffered_contents}
 use Rattle.liquid_page.specs.Written.{IsBegun, IsPageWritten}
 use Rattle.liquid_page_texts.specs.Page.{PageTexts, sources_of}
 use Rattle.liquid_page.proofs.Begun.{after_begun, after_success, after_written, refused_write}

@@ -12,5 +12,5 @@ pub returns-in-Tag-clause-statement : goal.returns-in-Tag-clause-statement
 returns-in-Tag-clause-statement c =
     let role = role_of c.args.language.now c.args.context c.in-Tag.name.now in
     let is = c.in-Tag.items.items in
-    let classified = subst (λ (ts : List Token). Classifies (tag_statement c.args.language.now (lexed_items_view is) ts role) c.read_tag.result) (sym (seen_tokens is)) c.read_tag.ensures.statement in
+    let classified = subst (λ (ts : List Token). Classifies (tag_statement c.args.language.now c.args.context (lexed_items_view is) ts role) c.read_tag.result) (sym (seen_tokens is)) c.read_tag.ensures.statement in
     subst (λ (p : Piece). Classifies (reads c.args.language.now c.args.context (piece_view p)) c.read_tag.result) (sym c.in-Tag.is) classified

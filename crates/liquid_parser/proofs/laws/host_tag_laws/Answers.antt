@@ -1,7 +1,8 @@
 use Rattle.std.proofs.Common.{◌∙◌, sym}
 use Rattle.liquid_lexer.specs.Pieces as pieces
+use Rattle.liquid_language.specs.declared.host_tags.HostKind.TheVariants.{Tag}
 use Rattle.liquid_parser.specs.Nesting.{leaf}
-use Rattle.liquid_parser.proofs.HostTagLaws.{tag_is_output, no_host_tag}
+use Rattle.liquid_parser.proofs.HostTagLaws.{tag_is_output, no_host_role}
 use Rattle.liquid_parser.proofs.StatementLaws.{statement_says, statement_stands, stands_of}
 use Rattle.liquid_parser.proofs.laws.host_tag_laws.Goals as goal
 
@@ -14,4 +15,4 @@ returns-clause-outputs c = λ l x w n called xs is os node role at values spelle
     )
 
 pub returns-clause-none : goal.returns-clause-none
-returns-clause-none c = no_host_tag
+returns-clause-none c = λ l x w n. no_host_role l x w (Tag n)

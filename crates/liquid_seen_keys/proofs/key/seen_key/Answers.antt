@@ -9,7 +9,7 @@ use Rattle.liquid_seen_keys.proofs.key.seen_key.Goals as goal
 pub returns-then-is_read_back : goal.returns-then-is_read_back
 returns-then-is_read_back c =
     let d = c.in_ok-data_for.field-0 in
-    record { key = key_written (uses_view c.args.uses.now) c.args.text.now (pairs_view d.entries) _ c.json_of.result c.in_ok-data_for.ensures.alike (view-Object d) (c.is_read_back.ensures.read c.if-is_read_back.true) c.json_of.ensures }
+    record { key = key_written (uses_view c.args.uses.now) c.args.text.now (pairs_view d.entries) _ c.json_of.result c.in_ok-data_for.ensures.alike (view-Object d) (c.is_read_back.ensures.json c.if-is_read_back.true) c.json_of.ensures }
 
 pub returns : goal.returns
 returns c =

@@ -3,7 +3,7 @@ use Rattle.liquid_syntax.specs.Flats.{flats}
 use Rattle.liquid_syntax.specs.Forest.{Forest}
 use Rattle.liquid_syntax.specs.Laid.{IsLaidOut}
 use Rattle.liquid_syntax.specs.declared.node.Node.{Node}
-use Rattle.liquid_syntax.specs.inside.BlankNodes.{AreSameOutside, IsOwnRange, own_flats, tidied}
+use Rattle.liquid_syntax.specs.inside.BlankNodes.{AreSameOutside, IsOwnRange, own_flats, tidied_all}
 use Rattle.liquid_syntax.proofs.Tidied.{Agree}
 use Rattle.liquid_syntax.proofs.blanks.+empty_blanks.Given as goal
 
@@ -17,7 +17,7 @@ invariant-loop-at l =
       begun : l.from ≤ l.at;
       left : IsOwnRange l.initial.nodes l.at l.to;
       whole : (f : Forest Node) → IsLaidOut (own_flats l.initial.nodes) l.from f l.to → (g : Forest Node) × IsLaidOut (own_flats l.initial.nodes) l.at g l.to
-          × ((ms : _) → Agree (flats l.nodes) ms l.from l.at → IsLaidOut ms l.at (tidied l.in_silence g) l.to → IsLaidOut ms l.from (tidied l.in_silence f) l.to);
+          × ((ms : _) → Agree (flats l.nodes) ms l.from l.at → IsLaidOut ms l.at (tidied_all l.in_silence l.with_elsif g) l.to → IsLaidOut ms l.from (tidied_all l.in_silence l.with_elsif f) l.to);
       same : AreSameOutside l.from l.at l.initial.nodes l.nodes;
       long : length l.nodes ≡ length l.initial.nodes;
     }

@@ -1,6 +1,6 @@
 use Rattle.std.proofs.Common.{inl, inr}
 use Rattle.liquid_warnings.proofs.AddedRemarks.{found_of}
-use Rattle.liquid_warnings.specs.Sorts.{IsDoubt, IsPastEnd, IsUndated, IsUnlisted}
+use Rattle.liquid_warnings.specs.Sorts.{IsDoubt, IsNumberText, IsPastEnd, IsUndated, IsUnlisted}
 use Rattle.liquid_warnings.proofs.doubts.remark_of.Goals as goal
 
 pub returns-in-NoList : goal.returns-in-NoList
@@ -9,5 +9,8 @@ returns-in-NoList c = found_of IsUnlisted IsDoubt _ (λ s is. inr (inl is)) c.no
 pub returns-in-PastEnd : goal.returns-in-PastEnd
 returns-in-PastEnd c = found_of IsPastEnd IsDoubt _ (λ s is. inr (inr (inl is))) c.past_end_in.ensures
 
+pub returns-in-NoDate : goal.returns-in-NoDate
+returns-in-NoDate c = found_of IsUndated IsDoubt _ (λ s is. inr (inr (inr (inl is)))) c.no_date_in.ensures
+
 pub returns : goal.returns
-returns c = found_of IsUndated IsDoubt _ (λ s is. inr (inr (inr is))) c.no_date_in.ensures
+returns c = found_of IsNumberText IsDoubt _ (λ s is. inr (inr (inr (inr is)))) c.number_text_in.ensures

@@ -85,7 +85,8 @@ fn escape_once_answer(alloc: Global, input: &Value, _args: &[Value]) -> Result<V
     }
 }
 
-fn escaped(alloc: Global, text: &str) -> Result<String>
+/// The text with the escapes of `escape`. `Memory` alone where it can't be made.
+pub fn escaped(alloc: Global, text: &str) -> Result<String>
     ensures { IsValueOrMemory (λ s. string_bytes s) result (escaped_bytes text.now) }
 {
     let mut out = String::with_capacity(alloc, text.len())?;

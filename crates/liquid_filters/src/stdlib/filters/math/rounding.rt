@@ -1,9 +1,11 @@
 //! Decimal texts brought to whole numbers.
 ghost use Rattle.std.specs.Prelude.{IsTrue, ◌||◌, length, map, nat_eq};
 ghost use Rattle.liquid_model.specs.Answer.{Answers, TakesNoMemory};
+ghost use Rattle.liquid_model.specs.ErrorKinds.{IsKindOrMemory};
 ghost use Rattle.liquid_model.specs.View.{view};
 ghost use Rattle.liquid_model.specs.Whole.{whole};
 ghost use Rattle.liquid_model.specs.Satisfies.{Satisfies};
+ghost use Rattle.liquid_model.specs.declared.error.ErrorKind.TheVariants.{Float};
 ghost use Rattle.liquid_filters.specs.Numbers.{of_none};
 ghost use Rattle.liquid_filters.specs.declared.stdlib.filters.math.decimal.Rounding.TheVariants.{Up};
 ghost use Rattle.liquid_filters.specs.declared.stdlib.filters.math.decimal.Rounding.TheVariants.{Down};
@@ -11,8 +13,10 @@ ghost use Rattle.liquid_filters.specs.Rounding.{round, rounded, rounded_by, roun
 ghost use Rattle.liquid_filters.specs.RoundingLaws.{IsRounded, Rounds};
 
 use super::decimal::{Decimal, Rounding};
-use super::operands::{decimal_refused, is_decimal_text, within_range};
-use liquid_model::{Error, ErrorKind, Filter, Result, Value, invalid_input, whole_argument};
+use super::operands::{is_decimal_text, within_range};
+use liquid_model::{
+    Error, ErrorKind, Filter, Quoted, Result, Value, invalid_input, whole_argument,
+};
 use std::alloc::Global;
 
 /// The most places to which `round` is asked to round.
@@ -180,7 +184,26 @@ fn rounded_to(alloc: Global, input: &Value, places: i64) -> Result<Value>
         return Ok(Value::Integer(number));
     }
     if is_decimal_text(input) {
-        return Err(decimal_refused(alloc, input));
+        return Err(places_refused(alloc, input));
     }
     Err(invalid_input(alloc, "a whole or decimal number", input))
+}
+
+/// A decimal text of which places are to be kept.
+fn places_refused(alloc: Global, decimal: &Value) -> Error
+    ensures { IsKindOrMemory Float result.kind }
+{
+    let text = match decimal {
+        Value::Text(text) => text.as_str(),
+        _ => "",
+    };
+    let quoted = Quoted { text };
+    Error::formatted(
+        alloc,
+        ErrorKind::Float,
+        format_args!(
+            "`{quoted}` is rounded to a whole number alone; leave the places out, or count in a \
+            smaller unit, as cents"
+        ),
+    )
 }

@@ -184,8 +184,8 @@ fn remove_first_answer(alloc: Global, input: &Value, args: &[Value]) -> Result<V
     Ok(Value::Text(replaced_first(alloc, text.as_str(), search.as_str(), "")?))
 }
 
-/// The text with each occurrence of another replaced.
-fn replaced(alloc: Global, text: &str, search: &str, replacement: &str) -> Result<String>
+/// The text with each occurrence of another replaced. `Memory` alone where it can't be made.
+pub fn replaced(alloc: Global, text: &str, search: &str, replacement: &str) -> Result<String>
     ensures { IsValueOrMemory (λ s. string_bytes s) result
         (replaced search.now replacement.now text.now) }
 {
