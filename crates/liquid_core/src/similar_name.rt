@@ -41,9 +41,9 @@ pub fn more_similar<'n>(
     Ok(Some(SimilarName { name, edits }))
 }
 
-/// Whether a name's length and letters leave it open that it is more similar to `meant` than the one
-/// that was found before. This costs a small part of what counting the edits does, and few pairs of
-/// names pass it.
+/// Whether a name's length and letters leave it open that it is more similar to `meant` than the
+/// one that was found before. This costs a small part of what counting the edits does, and few
+/// pairs of names pass it.
 pub(crate) fn may_be_more_similar(
     name: &str,
     meant: &str,
