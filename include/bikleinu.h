@@ -161,8 +161,9 @@ typedef struct {
     uint32_t levels; /* how many levels it may reach: fewer on a smaller stack, and more on a larger one; 0 for BIKLEINU_LEVELS */
     uint32_t missing; /* what becomes of a value that is missing: BIKLEINU_MISSING_IS_FAULT or BIKLEINU_MISSING_IS_NIL */
     uint64_t bytes;  /* how many bytes it may take, or BIKLEINU_ANY: those of each text that it writes, also into the body of a capture or
-                      * an ifchanged, of each answer of a filter and of each value that assign stores; a list or a map takes the bytes of
-                      * its parts, and 32 more for each item or pair */
+                      * an ifchanged, of each answer of a filter, of each value that assign stores or a pair of a partial passes, and of
+                      * each list beyond the data that a loop goes over; a list or a map takes the bytes of its parts, and 32 more for
+                      * each item or pair */
     uint64_t turns;  /* how many turns it may take, or BIKLEINU_ANY: a node takes one each time that it runs, and one more for each filter,
                       * comparison, value of a when and pair of a partial in it; a body without nodes takes one */
 } bikleinu_limits;
