@@ -1,0 +1,15 @@
+use Rattle.std.proofs.Common.{rules}
+use Rattle.liquid_c.specs.HostTags.{AsksForTag}
+use Rattle.liquid_c.proofs.tags.register_asked.Goals as goal
+
+pub returns-in_default-from_utf8 : goal.returns-in_default-from_utf8
+returns-in_default-from_utf8 c = no_text c.in-Some.style (search rules) (search rules) (search rules) (search rules)
+
+pub returns-in_default-from_utf8-2 : goal.returns-in_default-from_utf8-2
+returns-in_default-from_utf8-2 c = no_text c.in-Some.style (search rules) (search rules) (search rules) (search rules)
+
+pub returns-in-Tag : goal.returns-in-Tag
+returns-in-Tag c = added c.in-Some.style (search rules) (search rules) (search rules) (search rules)
+
+pub returns-in-Block : goal.returns-in-Block
+returns-in-Block c = added c.in-Some.style (search rules) (search rules) (search rules) (search rules)
