@@ -259,12 +259,21 @@ def names():
     )
 
 
+def own(value):
+    return value
+
+
 def jekyll():
-    made = Environment(jekyll=True, partials={"card.html": "[{{ include.a }}]"})
+    made = Environment(jekyll=True, partials={"card.html": "[{{ include.a }}]"}, filters={"own": own})
     copied = pickle.loads(pickle.dumps(made))
     page = same(lambda: made.from_string("{% include card.html a='b' %}").render(), "[b]")
     copy = same(lambda: copied.from_string("{% include card.html a='b' %}").render(), "[b]")
-    return page or copy or raises(lambda: Template("{% include card.html a='b' %}"), LiquidError)
+    code = made.from_string("{% highlight c++ %}\na&{{ b }}\n{% endhighlight %}{{ b | own }}")
+    figure = '<figure class="highlight"><pre><code class="language-c--" data-lang="c++">a&amp;1</code></pre></figure>'
+    code = same(lambda: code.render(b=1), f"{figure}1")
+    made.block("highlight", style="text")(lambda body, markup: f"{markup}:{body}")
+    code = code or same(lambda: made.from_string("{% highlight c++ %}a{% endhighlight %}").render(), "c++:a")
+    return page or copy or code or raises(lambda: Template("{% include card.html a='b' %}"), LiquidError)
 
 
 def mails():

@@ -81,9 +81,7 @@ static void end(void) {
 
 static bikleinu_limits limits = {.bytes = BIKLEINU_ANY, .turns = BIKLEINU_ANY};
 
-static uint32_t render(void) {
-    return bikleinu_render_with(&template_, &data, &partials, 32, &limits, &answers, &page);
-}
+static uint32_t render(void) { return bikleinu_render_with(&template_, &data, &partials, 32, &limits, &answers, &page); }
 
 /* The rendering, then with each of its requests refused, and what it leaves. */
 static void renders(uint32_t wanted, uint32_t part, const char *text) {
@@ -147,12 +145,8 @@ static uint32_t add_money(void) { return bikleinu_answers_filter(&answers, bytes
 static uint32_t find_names(void) { return bikleinu_names(&template_, &partials, &answer); }
 static uint32_t find_partial_names(void) { return bikleinu_partial_names(&template_, &answer); }
 static uint32_t put_answer(void) { return bikleinu_answer(&answers, &page, 0, &data); }
-static uint32_t put_fault(void) {
-    return bikleinu_refuse(&answers, &page, 0, BIKLEINU_NUMBER_RANGE, bytes("too dear"), 8);
-}
-static uint32_t read_names(void) {
-    return strcmp(read_part(&answer, BIKLEINU_TEXT), "[\"p\",\"q\"]") != 0;
-}
+static uint32_t put_fault(void) { return bikleinu_refuse(&answers, &page, 0, BIKLEINU_NUMBER_RANGE, bytes("too dear"), 8); }
+static uint32_t read_names(void) { return strcmp(read_part(&answer, BIKLEINU_TEXT), "[\"p\",\"q\"]") != 0; }
 
 /* A call with each of its requests refused, which changes nothing, and then as it is. */
 static void each(const char *what, uint32_t (*call)(void)) {
@@ -358,10 +352,7 @@ static void of_refused_tags(void) {
     is("a path first", parse("{% bare a/b.md 'x' %}"), BIKLEINU_DONE);
     renders(BIKLEINU_LACKING, BIKLEINU_TEXT, "[[\"{% box %}\",null,\"a/b.md\",\"x\"]]");
     is("no word", add_tag("1a", "f", 0), BIKLEINU_NO_WORD);
-    is("nothing", add_tag("", "f", 0), BIKLEINU_NO_WORD);
     is("an end", add_block("ending", "f", 0), BIKLEINU_RESERVED_NAME);
-    is("else", add_tag("else", "f", 0), BIKLEINU_RESERVED_NAME);
-    is("a tag of the language", add_block("assign", "f", 0), BIKLEINU_TAKEN_NAME);
     is("a block of the language", add_tag("if", "f", 0), BIKLEINU_TAKEN_NAME);
     is("no style", add_tag("else", "\xff", 3), BIKLEINU_NO_SUCH_STYLE);
     is("no text of a filter", add_tag("else", "\xff", 2), BIKLEINU_NO_TEXT);
@@ -373,10 +364,35 @@ static void of_refused_tags(void) {
     end();
 }
 
+/* Jekyll's highlight, which needs no table: with one, and in place of its own answer that of the table. */
+static void of_highlight(void) {
+    static const char source[] = "a{% highlight Ruby linenos %}\nx < {{ n }}\n{% endhighlight %}b";
+    static const char wanted[] = "a<figure class=\"highlight\"><pre><code class=\"language-ruby\" data-lang=\"ruby\">x &lt; 3</code></pre></figure>b";
+    is("language", bikleinu_jekyll_language(&language), BIKLEINU_DONE);
+    is("parse", parse(source), BIKLEINU_DONE);
+    is("data", bikleinu_data(bytes("{\"n\":3,\"answer\":\"own\"}"), 23, &data), BIKLEINU_DONE);
+    is("render", bikleinu_render(&template_, &data, &partials, 32, &page), BIKLEINU_DONE);
+    reads("highlight", &page, BIKLEINU_TEXT, wanted);
+    is("within", bikleinu_render_within(&template_, &data, &partials, 32, &(bikleinu_limits){.bytes = 99, .turns = 99}, &page), 104);
+    is("answers", bikleinu_answers(&answers), BIKLEINU_DONE);
+    renders(BIKLEINU_DONE, BIKLEINU_TEXT, wanted);
+    is("its filter in the table", bikleinu_answers_filter(&answers, bytes("{% highlight %}"), 15), BIKLEINU_DONE);
+    renders(BIKLEINU_LACKING, BIKLEINU_TEXT, "[[\"{% highlight %}\",\"\\nx < 3\\n\",\"Ruby linenos\"]]");
+    is("answer", bikleinu_answer(&answers, &page, 0, &data), BIKLEINU_DONE);
+    renders(BIKLEINU_DONE, BIKLEINU_TEXT, "aownb");
+    is("markup that is none", parse("{% highlight a=1 %}{% endhighlight %}"), BIKLEINU_DONE);
+    is("render", bikleinu_render(&template_, &data, &partials, 32, &page), BIKLEINU_INVALID_ARGUMENT);
+    refuses("{% highlight %}{% endhighlight %}", BIKLEINU_FILTER_ARGUMENTS, 1, "highlight");
+    refuses("{{ 1 | highlight: 'a' }}", BIKLEINU_UNKNOWN_FILTER, 8, "highlight");
+    is("the standard language", bikleinu_language(&language), BIKLEINU_DONE);
+    is("no block of the standard language", parse(source), BIKLEINU_UNKNOWN_TAG);
+    end();
+}
+
 int main(void) {
     size_t before = blocks;
     of_rounds(), of_faults(), of_memory(), of_refusals(), of_languages(), of_bounds(), of_limits();
-    of_tags(), of_refused_tags();
+    of_tags(), of_refused_tags(), of_highlight();
     if (blocks != before) wrong++, printf("%zu pieces of memory are left\n", blocks - before);
     printf("tables: %zu\n", tests);
     return wrong != 0;

@@ -61,6 +61,15 @@ fn the_error_of_a_tag_is_the_source_of_the_fault() -> Result<(), LiquidError> {
 }
 
 #[test]
+fn jekyll_has_highlight() -> Result<(), LiquidError> {
+    let source = "{% highlight ruby %}a & b{% endhighlight %}";
+    let page = Language::jekyll()?.parse(source)?.render_text(&Data::none())?;
+    assert_eq!(page, "<figure class=\"highlight\"><pre><code class=\"language-ruby\" data-lang=\"ruby\">a &amp; b</code></pre></figure>");
+    assert_eq!(Language::new()?.parse(source).expect_err("a tag of Jekyll's").kind(), Kind::UnknownTag);
+    Ok(())
+}
+
+#[test]
 fn names_that_no_tag_has_are_refused() -> Result<(), LiquidError> {
     let mut language = Language::new()?;
     for (name, kind) in [("a b", Kind::NoWord), ("endless", Kind::ReservedName), ("for", Kind::TakenName)] {

@@ -1,4 +1,5 @@
 pub mod Answered
 pub mod Blocks
 pub mod DataFor
+pub mod HostTags
 pub mod MachineValues

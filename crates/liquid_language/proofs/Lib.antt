@@ -1,2 +1,3 @@
+pub mod FreeName
 pub mod Inserted
 pub mod ItemsAlone

@@ -54,6 +54,9 @@ same('a style', /\AArgumentError: style: is :words, and :items, :path or :text i
 same('no function', 'ArgumentError: the tag `x` has no function') { made.register_tag('x') }
 same('a class', 'TypeError: the tag `x` is a value of the class Class') { made.register_tag('x', Class.new) }
 same('a block without its text', /\AArgumentError: the tag `x` takes its input/) { made.register_block('x') { 'x' } }
+code = '<figure class="highlight"><pre><code class="language-ruby" data-lang="ruby">&lt;1&gt;</code></pre></figure>'
+same("Jekyll's highlight", code) { template('{% highlight ruby %} <{{ n }}> {% endhighlight %}', jekyll: true).render!(n: 1) }
+same('none elsewhere', /UnknownTag/) { template('{% highlight ruby %}{% endhighlight %}') }
 Bikleinu::Template.register_tag('hi') { 'Hi' }
 Bikleinu::Template.register_block('loud') { |body| "#{body}!" }
 same('of all templates', 'Hi!') { Bikleinu::Template.parse('{% loud %}{% hi %}{% endloud %}').render! }

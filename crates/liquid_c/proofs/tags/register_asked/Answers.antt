@@ -1,5 +1,5 @@
 use Rattle.std.proofs.Common.{rules}
-use Rattle.liquid_c.specs.HostTags.{AsksForTag}
+use Rattle.liquid_c.specs.HostTags.{added, no_text}
 use Rattle.liquid_c.proofs.tags.register_asked.Goals as goal
 
 pub returns-in_default-from_utf8 : goal.returns-in_default-from_utf8

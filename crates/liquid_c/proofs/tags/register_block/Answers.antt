@@ -1,5 +1,5 @@
 use Rattle.std.proofs.Common.{rules}
-use Rattle.liquid_c.specs.HostTags.{AddsTag}
+use Rattle.liquid_c.specs.HostTags.{refused}
 use Rattle.liquid_c.proofs.tags.register_block.Goals as goal
 
 pub returns-in-Err-Refused : goal.returns-in-Err-Refused

@@ -1,0 +1,12 @@
+-- A tag in the language of a handle.
+use Rattle.std.proofs.Common.{◌≡◌, ℕ, List, Option, Some, sym, subst}
+use Rattle.liquid_language.specs.declared.registry.Language.{Language}
+use Rattle.liquid_c.specs.HostTags.{AsksForTag, IsTagRegistration}
+use Rattle.liquid_c.specs.declared.content.Content.TheVariants as content
+use Rattle.liquid_c.specs.declared.handle_content.HandleContent.{HandleContent}
+use Rattle.liquid_c.specs.declared.handle_content.HandleContent.TheVariants.{Own}
+use Rattle.liquid_c.specs.declared.tags.TagForm.{TagForm}
+
+-- what is registered in the language is registered in the handle
+pub in_language : (what : TagForm) (old : Option HandleContent) (name filter : List ℕ) (asked n : ℕ) (left : Option HandleContent) (l : Language) → old ≡ Some (Own (content.Language l)) → AsksForTag what l name filter asked n left → IsTagRegistration what old name filter asked n left
+in_language what old name filter asked n left l is_old asks = subst (λ o. IsTagRegistration what o name filter asked n left) (sym is_old) asks
