@@ -102,8 +102,9 @@ enum {
 /* Makes the standard language. */
 uint32_t bikleinu_language(bikleinu_handle *made);
 
-/* Makes Jekyll's language: the standard one with Jekyll's include and sort in place of its own, and without the white space of blocks
-   that write nothing. */
+/* Makes Jekyll's language: the standard one with Jekyll's include and sort in place of its own, with its block highlight (as it is where no
+ * highlighter is set), and without the white space of blocks that write nothing. The filter of highlight is "{% highlight %}", which the
+ * library answers itself, unless a table has a filter of this name. */
 uint32_t bikleinu_jekyll_language(bikleinu_handle *made);
 
 /* Registers a filter of the caller's in a language, by its name, with the least and the greatest number of arguments that a template may

@@ -50,8 +50,8 @@ impl Language {
         made.settled(number).map(Language::of)
     }
 
-    /// The standard language with the tag `include` and the filter `sort` of Jekyll in place of its own, and without the white space of
-    /// blocks that write nothing.
+    /// The standard language with the tag `include` and the filter `sort` of Jekyll in place of its own, with its block `highlight`, and
+    /// without the white space of blocks that write nothing.
     ///
     /// # Errors
     ///

@@ -13,4 +13,4 @@ mod own;
 pub use answered_page::{Answered, render_page_answered};
 pub use answers::{Answer, Answers};
 pub use lacking::Lacking;
-pub use own::{HIGHLIGHT, OwnFilters};
+pub use own::{OwnFilters, highlight_name};

@@ -1,7 +1,8 @@
 //! Filters that need no table.
+ghost use Rattle.std.specs.Prelude.{◌≡◌};
 ghost use Rattle.liquid_model.specs.ErrorKinds.{IsKindOrMemory};
 ghost use Rattle.liquid_model.specs.declared.error.ErrorKind.TheVariants.{Unsupported};
-ghost use Rattle.liquid_answers.specs.Own.{own_answers};
+ghost use Rattle.liquid_answers.specs.Own.{highlight_name, own_answers};
 
 use liquid_core::{Error, ErrorKind, NamedFilters, Result, Value};
 use liquid_jekyll_host_filters::Highlight;
@@ -10,10 +11,14 @@ use std::alloc::Global;
 
 /// The name of the filter of Jekyll's block `highlight`. It is no word, so that a template calls it
 /// by the block alone.
-pub const HIGHLIGHT: &str = "{% highlight %}";
+pub fn highlight_name() -> &'static str
+    ensures { result.now ≡ highlight_name }
+{
+    "{% highlight %}"
+}
 
-/// Jekyll's `highlight`, by the name `HIGHLIGHT`. It is given the markup of the block as its
-/// argument. A call of any other name, or with other arguments, is `Unsupported`.
+/// Jekyll's `highlight`, by its name. It is given the markup of the block as its argument. A call
+/// of any other name, or with other arguments, is `Unsupported`.
 #[derive(Clone, Copy, Drop)]
 pub struct OwnFilters;
 
@@ -27,7 +32,7 @@ impl NamedFilters for OwnFilters {
         input: &Value,
         args: &[Value],
     ) -> Result<Value> {
-        if name == HIGHLIGHT && args.len() == 1 {
+        if name == highlight_name() && args.len() == 1 {
             return Highlight.evaluate(alloc, input, args);
         }
         Err(unsupported(alloc))

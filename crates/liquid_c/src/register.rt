@@ -14,7 +14,7 @@ use crate::content::Content;
 use crate::handle::Handle;
 use crate::handle_content::HandleContent;
 use crate::refusal::{Refusal, store_result};
-use liquid_answers::HIGHLIGHT;
+use liquid_answers::highlight_name;
 use liquid_core::{Error, ErrorKind, Result as Answer};
 use liquid_filters::FilterKind;
 use liquid_language::{HostBlock, Language, Style, TagError, TagKind, language};
@@ -50,7 +50,7 @@ fn jekyll_language(alloc: Global) -> Answer<Language>
     language.drops_blanks = true;
     let sort = String::from_str(alloc, "sort")?;
     language.filters.register(sort, FilterKind::JekyllSort)?;
-    let highlight = String::from_str(alloc, HIGHLIGHT)?;
+    let highlight = String::from_str(alloc, highlight_name())?;
     language.filters.register_host(highlight, 1, 1)?;
     register_highlight(alloc, &mut language)?;
     Ok(language)
@@ -70,7 +70,7 @@ fn register_highlight(alloc: Global, language: &mut Language) -> Answer<()>
     ensures drops_blanks { language.new.drops_blanks ≡ language.old.drops_blanks }
 {
     let name = String::from_str(alloc, "highlight")?;
-    let filter = String::from_str(alloc, HIGHLIGHT)?;
+    let filter = String::from_str(alloc, highlight_name())?;
     let style = Style::Text;
     match language.register_block(alloc, name, HostBlock { filter, style }) {
         Ok(()) => Ok(()),

@@ -8,8 +8,8 @@ module Bikleinu
   #   environment.parse("{{ 1999 | money }}, {% render 'end' %}").render
   #
   # partials: is a Hash of sources, the path of a folder, or an object that has read_template_file(name). filters: is a Hash of
-  # functions, or a module. missing: is :fault or :nil. jekyll: takes the include and the sort of Jekyll, and drops the white space
-  # of blocks that write nothing. depth: says how many partials may stand in one another, levels: how many blocks and partials;
+  # functions, or a module. missing: is :fault or :nil. jekyll: takes the include, the highlight and the sort of Jekyll, and drops the
+  # white space of blocks that write nothing. depth: says how many partials may stand in one another, levels: how many blocks and partials;
   # bytes: and turns: bound a page, and rounds: how often it may ask its filters. decimals: :text makes texts of floats, and
   # times: true, or an offset, of times and dates.
   #
