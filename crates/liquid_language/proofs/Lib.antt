@@ -1,3 +1,2 @@
-pub mod FreeName
 pub mod Inserted
 pub mod ItemsAlone

@@ -3,7 +3,7 @@ use Rattle.liquid_model.specs.Bytes.{in_word}
 use Rattle.liquid_model.specs.Front.{word_at}
 use Rattle.liquid_model.specs.Maps.{insert, listed}
 use Rattle.liquid_core.specs.Environment.{bind_each}
-use Rattle.liquid_language.proofs.FreeName.{is_free}
+use Rattle.liquid_c.proofs.FreeName.{is_free}
 use Rattle.liquid_language.specs.Languages.{kinds_of}
 use Rattle.liquid_language.specs.Standard.{standard_blocks, standard_tags}
 use Rattle.liquid_language.specs.declared.registry.TagKind.TheVariants.{JekyllInclude}

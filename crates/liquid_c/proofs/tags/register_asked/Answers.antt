@@ -10,7 +10,7 @@ pub returns-in_default-from_utf8-2 : goal.returns-in_default-from_utf8-2
 returns-in_default-from_utf8-2 c = no_text c.in-Some.style (search rules) (search rules) (search rules) (search rules)
 
 pub returns-in-Tag : goal.returns-in-Tag
-returns-in-Tag c = added c.in-Some.style (search rules) (search rules) (search rules) (as_asked _ _ _ _ _ _ _ _ c.in-Tag.is c.register_tag.ensures)
+returns-in-Tag c = added c.in-Some.style (search rules) (search rules) (search rules) (as_asked _ _ _ _ _ _ _ _ _ _ c.in-Tag.is (search rules) (search rules) c.register_tag.ensures)
 
 pub returns-in-Block : goal.returns-in-Block
-returns-in-Block c = added c.in-Some.style (search rules) (search rules) (search rules) (as_asked _ _ _ _ _ _ _ _ c.in-Block.is c.register_block.ensures)
+returns-in-Block c = added c.in-Some.style (search rules) (search rules) (search rules) (as_asked _ _ _ _ _ _ _ _ _ _ c.in-Block.is (search rules) (search rules) c.register_block.ensures)

@@ -6,7 +6,7 @@ use Rattle.liquid_core.specs.Environment.{bind_each}
 use Rattle.liquid_language.specs.Languages.{kinds_of}
 use Rattle.liquid_language.specs.Standard.{standard_blocks, standard_tags}
 use Rattle.liquid_language.specs.declared.registry.TagKind.TheVariants.{JekyllInclude}
-use Rattle.liquid_language.proofs.FreeName.{is_free}
+use Rattle.liquid_filter_sets.proofs.FreeName.{is_free}
 use Rattle.liquid_filter_sets.proofs.languages.jekyll_language.Goals as goal
 
 pub register_highlight-requires-clause-allowed : goal.register_highlight-requires-clause-allowed
