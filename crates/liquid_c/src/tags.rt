@@ -51,9 +51,13 @@ pub extern "C" fn bikleinu_register_tag(
     ensures { Regaining (λ was. IsTagRegistration form.Tag was name.now filter.now style result
         language.new.held) language.old.held }
 {
-    let form = TagForm::Tag;
     let mut held = language.take_to_change(alloc);
-    let asked = AskedTag { form, name, filter, style };
+    let asked = AskedTag {
+        form: TagForm::Tag,
+        name,
+        filter,
+        style,
+    };
     let number = register_in_handle(alloc, &mut held, asked);
     language.put(alloc, held);
     number
@@ -71,9 +75,13 @@ pub extern "C" fn bikleinu_register_block(
     ensures { Regaining (λ was. IsTagRegistration form.Block was name.now filter.now style result
         language.new.held) language.old.held }
 {
-    let form = TagForm::Block;
     let mut held = language.take_to_change(alloc);
-    let asked = AskedTag { form, name, filter, style };
+    let asked = AskedTag {
+        form: TagForm::Block,
+        name,
+        filter,
+        style,
+    };
     let number = register_in_handle(alloc, &mut held, asked);
     language.put(alloc, held);
     number
@@ -147,8 +155,12 @@ fn register_tag(
     let Ok(filter) = String::from_str(alloc, filter) else {
         return u32::from(ErrorKind::Memory.number());
     };
-    let input = Expression::Literal(Value::Nil);
-    match language.register_tag(name, HostCall { filter, input, style }) {
+    let call = HostCall {
+        filter,
+        input: Expression::Literal(Value::Nil),
+        style,
+    };
+    match language.register_tag(name, call) {
         Ok(()) => 0,
         Err(TagError::Memory) => u32::from(ErrorKind::Memory.number()),
         Err(TagError::Refused(reason)) => refusal_of_name(reason).number(),
