@@ -370,7 +370,7 @@ static void of_highlight(void) {
     static const char wanted[] = "a<figure class=\"highlight\"><pre><code class=\"language-ruby\" data-lang=\"ruby\">x &lt; 3</code></pre></figure>b";
     is("language", bikleinu_jekyll_language(&language), BIKLEINU_DONE);
     is("parse", parse(source), BIKLEINU_DONE);
-    is("data", bikleinu_data(bytes("{\"n\":3,\"answer\":\"own\"}"), 23, &data), BIKLEINU_DONE);
+    is("data", bikleinu_data(bytes("{\"n\":3,\"answer\":\"own\"}"), 22, &data), BIKLEINU_DONE);
     is("render", bikleinu_render(&template_, &data, &partials, 32, &page), BIKLEINU_DONE);
     reads("highlight", &page, BIKLEINU_TEXT, wanted);
     is("within", bikleinu_render_within(&template_, &data, &partials, 32, &(bikleinu_limits){.bytes = 99, .turns = 99}, &page), 104);
