@@ -30,7 +30,7 @@ use Rattle.liquid_c.specs.declared.refusal.Refusal.TheVariants.{SharedHandle, No
 
 -- the one name of the host is that of a block, `highlight`: its markup is one text, and the
 -- library's own filter is called with it on the body's text
-pub record HasHighlight (l : Language) : Type 0 where
+pub record HasOwnHighlight (l : Language) : Type 0 where
   pub number : ℕ
   pub name : listed (numbers_of l.host_tags) ≡
       insert (listed []) (codes "highlight") (kinds.Block number)
@@ -49,7 +49,7 @@ pub record IsJekylls (l : Language) : Type 0 where
       highlight_name (Host 1 1)
   pub include_paths : l.include_paths ≡ true
   pub drops_blanks : l.drops_blanks ≡ true
-  pub highlight : HasHighlight l
+  pub highlight : HasOwnHighlight l
 
 -- that language, or memory ran out
 abbrev pub MakesJekylls : Result Content Refusal → Type 0

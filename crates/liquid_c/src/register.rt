@@ -2,8 +2,8 @@
 ghost use Rattle.std.specs.Prelude.{◌≡◌, [], IfErr, IfOk, None, OnOk, codes, option_map};
 ghost use Rattle.liquid_language.specs.HostNames.{name_refusal};
 ghost use Rattle.liquid_language.specs.HostTags.{numbers_of};
-ghost use Rattle.liquid_c.specs.Languages.{HasHighlight, IsJekylls, IsRegistration, MakesJekylls};
-ghost use Rattle.liquid_c.specs.Languages.{RegistersFilter};
+ghost use Rattle.liquid_c.specs.Languages.{HasOwnHighlight, IsJekylls, IsRegistration};
+ghost use Rattle.liquid_c.specs.Languages.{MakesJekylls, RegistersFilter};
 ghost use Rattle.liquid_c.specs.ResultStored.{ResultStored};
 ghost use Rattle.liquid_c.specs.Shared.{Regaining};
 ghost use Rattle.std.specs.Prelude.{Some};
@@ -61,7 +61,7 @@ fn jekyll_language(alloc: Global) -> Answer<Language>
 fn register_highlight(alloc: Global, language: &mut Language) -> Answer<()>
     requires allowed { name_refusal language.old (codes "highlight") ≡ None }
     requires alone { numbers_of language.old.host_tags ≡ [] }
-    ensures highlight { OnOk result (HasHighlight language.new) }
+    ensures highlight { OnOk result (HasOwnHighlight language.new) }
     ensures memory { IfErr result (λ e. e.kind ≡ ErrorKind.Memory) }
     ensures tags { language.new.tags ≡ language.old.tags }
     ensures blocks { language.new.blocks ≡ language.old.blocks }
