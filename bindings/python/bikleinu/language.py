@@ -40,8 +40,8 @@ class Functions(Mapping[str, Function]):
 
 class Language(Owner):
     """The standard language: its tags, blocks and filters. With jekyll=True it has the tag include and the filter sort of Jekyll in
-    place of the standard ones and its block highlight, and drops the white space of blocks that write nothing. filters are functions in Python by their names,
-    which templates call as any other."""
+    place of the standard ones and its block highlight, and drops the white space of blocks that write nothing. filters are functions in
+    Python by their names, which templates call as any other."""
 
     def __init__(self, *, jekyll: bool = False, filters: Mapping[str, Function] | None = None) -> None:
         super().__init__()

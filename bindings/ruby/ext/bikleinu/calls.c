@@ -4,7 +4,9 @@
 /* From so many bytes on Ruby's lock is released while they are read, and a byte of a text takes some so many of what is made of it. */
 enum { LONG_TEXT = 65536, WEIGHT = 4 };
 
-typedef enum { LANGUAGE, JEKYLL, REGISTER, TAG, BLOCK, PARSE, DATA, DATA_FOR, PARTIALS, INSERT, NAMES, PATHS, ANSWERS, FILTER, ANSWER, REFUSE } which;
+typedef enum {
+    LANGUAGE, JEKYLL, REGISTER, TAG, BLOCK, PARSE, DATA, DATA_FOR, PARTIALS, INSERT, NAMES, PATHS, ANSWERS, FILTER, ANSWER, REFUSE
+} which;
 
 /* A call with all that one may be given, and what it answers: that there is no memory, where it isn't made. */
 typedef struct {
