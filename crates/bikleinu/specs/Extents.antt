@@ -15,13 +15,13 @@ seconds_left passed done whole = min (passed * (whole - done)) 18446744073709551
 
 -- after so many records in so many seconds: nothing where the whole isn't known; else its part, of
 -- the records or of the file, and how long the rest takes
-abbrev pub IsReached : Extent → ℕ → ℕ → Option Reached → Type 0
-IsReached Unknown records seconds reached = reached ≡ None
-IsReached (Records count) records seconds reached = reached ≡ Some (record {
+abbrev pub IsProgress : Extent → ℕ → ℕ → Option Reached → Type 0
+IsProgress Unknown records seconds reached = reached ≡ None
+IsProgress (Records count) records seconds reached = reached ≡ Some (record {
   done = records;
   whole = count;
   unit = unit.Records;
   seconds_left = seconds_left seconds records count;
 })
-IsReached (Bytes file size) records seconds reached = IfSome reached (λ r. (r.whole ≡ size)
+IsProgress (Bytes file size) records seconds reached = IfSome reached (λ r. (r.whole ≡ size)
     × (r.unit ≡ unit.File) × (r.seconds_left ≡ seconds_left seconds r.done size))
