@@ -41,6 +41,20 @@ pub fn more_similar<'n>(
     Ok(Some(SimilarName { name, edits }))
 }
 
+/// The same, where at least three letters of `meant` stand for each edit: a name that is likely
+/// meant.
+pub fn more_likely<'n>(
+    alloc: Global,
+    name: &'n str,
+    meant: &str,
+    likely: Option<SimilarName<'n>>,
+) -> Result<Option<SimilarName<'n>>, AllocError> {
+    match more_similar(alloc, name, meant, likely)? {
+        Some(found) if found.edits.saturating_mul(3) <= meant.len() => Ok(Some(found)),
+        _ => Ok(None),
+    }
+}
+
 /// Whether a name's length and letters leave it open that it is more similar to `meant` than the
 /// one that was found before. This costs a small part of what counting the edits does, and few
 /// pairs of names pass it.
