@@ -43,7 +43,9 @@ pub fn difference_of(
             Ok(any_shows_order(&values).then_some(Difference::KeyOrder))
         }
         Want::Searched => Ok(path_to_nil(data, path).then_some(Difference::NilSearched)),
-        Want::Present | Want::Perhaps | Want::Date | Want::Number => Ok(None),
+        Want::Present | Want::Perhaps | Want::Tested => Ok(None),
+        Want::Date | Want::Number | Want::Truth => Ok(None),
+        Want::NumberWord | Want::TruthWord => Ok(None),
     }
 }
 
