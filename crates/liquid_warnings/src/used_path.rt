@@ -3,8 +3,8 @@ ghost use Rattle.std.specs.Prelude.{◌≡◌, IfErr};
 
 use crate::data_path::copy_of;
 use crate::wants::{
-    WHOLE, is_date_filter, item_key, keep_items, keeps_items, literal_steps, number_of,
-    want_before, want_beside, want_of_target,
+    WHOLE, item_key, keep_items, keeps_items, literal_steps, number_of, want_after, want_before,
+    want_of_entry, want_of_target,
 };
 use crate::{DataPath, Span, Step, Want};
 use liquid_core::{ErrorKind, Expression, Result, Value, Variable};
@@ -185,14 +185,8 @@ impl<'t> Asking<'t> {
         self.ask_optional(&window.offset)
     }
 
-    /// An entry before a filter is nil where it is missing.
     fn ask_chain(&mut self, chain: &'t FilterChain) -> Done {
-        let want = match chain.filters.first() {
-            None => Want::Present,
-            Some(filter) if is_date_filter(filter.filter.name()) => Want::Date,
-            Some(_) => Want::Perhaps,
-        };
-        self.ask(&chain.entry, want)?;
+        self.ask(&chain.entry, want_of_entry(&chain.filters))?;
         self.ask_keys(chain)?;
         self.ask_arguments(&chain.filters)
     }
@@ -269,7 +263,7 @@ impl<'t> Asking<'t> {
             Atom::Bare(value) => self.ask(value, Want::Tested),
             Atom::Compared(left, operator, right) => {
                 self.ask(left, want_before(*operator, right))?;
-                self.ask(right, want_beside(left))
+                self.ask(right, want_after(*operator, left))
             }
         }
     }
