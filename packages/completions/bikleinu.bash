@@ -17,10 +17,10 @@ _bikleinu() {
       case ${COMP_WORDS[1]} in
         render) words='--text --data --define --partials --filters --assets --out --quiet --missing --max-bytes --max-turns --decimals --dates --now --help' ;;
         merge) words='--text --out --into --data --define --partials --filters --assets --records-format --delimiter --cells --names --separator --missing --max-bytes --max-turns --from --count --dry-run --no-flush --progress --quiet --decimals --dates --now --help' ;;
-        check) words='--data --define --partials --filters --format --warn --quiet --decimals --dates --now --help' ;;
+        check) words='--data --define --partials --filters --format --warn --strict --ext --exclude --quiet --decimals --dates --now --help' ;;
         paths) words='--partials --filters --format --help' ;;
       esac
-      if [ "$COMP_CWORD" -eq 1 ]; then mapfile -t COMPREPLY < <(compgen -W 'render merge check paths --help --version' -- "$word"); return; fi
+      if [ "$COMP_CWORD" -eq 1 ]; then mapfile -t COMPREPLY < <(compgen -W 'render merge check paths help --help --version' -- "$word"); return; fi
       case ${COMP_WORDS[1]}:$before in
         render:--filters) values='decimals jekyll shopify' ;;
         render:--missing) values='fault nil' ;;

@@ -8,6 +8,7 @@ mod filters;
 mod host_merge;
 mod merge;
 mod page_output;
+mod page_templates;
 mod parts;
 mod paths;
 mod progress;
@@ -18,6 +19,7 @@ mod report;
 mod silent;
 mod target;
 mod tips;
+mod watch;
 
 use crate::filters::language_with;
 use crate::merge::merge;

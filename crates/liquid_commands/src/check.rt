@@ -9,6 +9,7 @@ use crate::inputs::{
     WordFault, check_standard_input, count_from_standard_input, data_of, is_standard_input,
     partials_of,
 };
+use crate::selection::{Selection, selection_of};
 use crate::values::{NamedValue, values_of};
 use crate::words::{DataFile, FilterSet, filter_set};
 use clap::{ArgMatches, Command};
@@ -19,6 +20,8 @@ use std::alloc::{AllocError, Global};
 pub struct CheckCall<'w> {
     /// Files, and folders of files.
     pub paths: Vec<&'w str>,
+    /// Which files below those folders.
+    pub selection: Selection<'w>,
     /// In the order in which the later wins.
     pub data: Vec<DataFile<'w>>,
     /// After the files, in the order in which the later wins.
@@ -32,6 +35,8 @@ pub struct CheckCall<'w> {
     pub format: DiagnosticFormat,
     /// Whether outputs in attributes are looked at.
     pub attributes: bool,
+    /// Whether warnings count.
+    pub is_strict: bool,
     /// Whether the counts are left out.
     pub is_quiet: bool,
 }
@@ -46,6 +51,9 @@ const ARGUMENTS: &[Argument] = &[
     Argument::Filters,
     Argument::ReportFormat,
     Argument::Warn,
+    Argument::Strict,
+    Argument::Ext,
+    Argument::Exclude,
     Argument::Quiet,
     Argument::Decimals,
     Argument::Dates,
@@ -60,6 +68,7 @@ pub(crate) fn check_command<'a>(alloc: Global) -> Result<Command<'a>, AllocError
 /// What the words of `check` ask for.
 pub fn check_call<'w>(alloc: Global, given: &ArgMatches<'w>) -> Result<CheckCall<'w>, WordFault> {
     let paths = paths_of(alloc, given)?;
+    let selection = selection_of(alloc, given)?;
     let data = data_of(alloc, given, None)?;
     let values = values_of(alloc, given)?;
     let partials = partials_of(alloc, given)?;
@@ -67,6 +76,7 @@ pub fn check_call<'w>(alloc: Global, given: &ArgMatches<'w>) -> Result<CheckCall
     check_standard_input(count)?;
     Ok(CheckCall {
         paths,
+        selection,
         data,
         values,
         forms: Forms::given(given),
@@ -74,6 +84,7 @@ pub fn check_call<'w>(alloc: Global, given: &ArgMatches<'w>) -> Result<CheckCall
         filters: filter_set(given.get_str("filters")),
         format: format_of(given.get_str("format")),
         attributes: given.get_str("warn").is_some(),
+        is_strict: given.get_flag("strict"),
         is_quiet: given.get_flag("quiet"),
     })
 }

@@ -15,7 +15,7 @@ use Rattle.liquid_syntax.specs.declared.positions.Position.{Position}
 use Rattle.liquid_syntax.specs.declared.template.Template.{Template}
 use Rattle.liquid_warnings.specs.Differences.{AreOfData}
 use Rattle.liquid_warnings.specs.Modes.{unknown_mode}
-use Rattle.liquid_warnings.specs.Nodes.{no_clock, no_list}
+use Rattle.liquid_warnings.specs.Nodes.{no_clock, no_list, no_pattern, sure_said}
 use Rattle.liquid_warnings.specs.Remarks.{Said, all_said}
 use Rattle.liquid_warnings.specs.Sorts.{InOrder, IsElseIf, IsMissingPartial, IsRecursive}
 use Rattle.liquid_warnings.specs.Sorts.{IsUnescaped, IsUnknownName, IsUnusedPartial, IsUnusedName}
@@ -39,7 +39,9 @@ said_or_else (Some s) other = Some s
 
 -- the one that a tag or an output has, whatever engine it is written for
 abbrev pub node_said : Position → Node → Option Said
-node_said position node = said_or_else (no_clock position node) (no_list position node)
+node_said position node = said_or_else (no_clock position node)
+    (said_or_else (no_list position node)
+    (said_or_else (no_pattern position node) (sure_said position node)))
 
 abbrev pub with_said : Option Said → List Said → List Said
 with_said None more = more
