@@ -8,7 +8,7 @@ use Rattle.liquid_model.specs.Data.{Datum, text, text_of}
 use Rattle.liquid_model.specs.Texts.{Text}
 use Rattle.liquid_model.specs.Arguments.{Answer, first_of}
 use Rattle.liquid_model.specs.declared.error.ErrorKind.TheVariants.{InvalidArgument}
-use Rattle.liquid_shopify_host_filters.specs.Lookups.{map_property}
+use Rattle.liquid_filters.specs.Sequences.{property}
 
 -- where a form goes, and its attributes before and after those that all forms have
 pub record FormParts : Type 0 where
@@ -103,7 +103,7 @@ plain_form kind body None = Err InvalidArgument
 
 -- the member of what the form is for
 abbrev pub subject_member : Text → Option Datum → Option Datum
-subject_member name subject = option_and_then (map_property name) subject
+subject_member name subject = option_and_then (property name) subject
 
 abbrev pub form_of : Text → Text → Option Datum → Answer
 form_of kind body subject =

@@ -7,8 +7,8 @@ use Rattle.liquid_model.specs.Lists.{list_of}
 use Rattle.liquid_model.specs.Texts.{Text}
 use Rattle.liquid_model.specs.Arguments.{Answer}
 use Rattle.liquid_model.specs.declared.error.ErrorKind.TheVariants.{InvalidInput}
+use Rattle.liquid_filters.specs.Sequences.{property}
 use Rattle.liquid_shopify_host_filters.specs.Html.{link}
-use Rattle.liquid_shopify_host_filters.specs.Lookups.{map_property}
 use Rattle.liquid_shopify_host_filters.specs.Tags.{in_class_span}
 
 -- the text of a member, where there is one
@@ -23,7 +23,7 @@ is_truthy None = false
 -- a link by the members `title` and `url`
 abbrev pub page_link : Datum → Text
 page_link d =
-    link (shown (map_property (codes "title") d)) (shown (map_property (codes "url") d)) []
+    link (shown (property (codes "title") d)) (shown (property (codes "url") d)) []
 
 -- a title that is no link: that of the page itself, or another
 abbrev pub title_class : Text → Text → Text
@@ -36,9 +36,9 @@ title_span current title = in_class_span (title_class current title) title
 -- a part, where the page has this number
 unfoldable pub part_span : Text → Datum → Text
 part_span current d =
-    if is_truthy (map_property (codes "is_link") d)
+    if is_truthy (property (codes "is_link") d)
     then in_class_span (codes "page") (page_link d)
-    else title_span current (shown (map_property (codes "title") d))
+    else title_span current (shown (property (codes "title") d))
 
 -- one more, after a space where one stands before it
 unfoldable pub spaced : Text → Text → Text
@@ -57,9 +57,9 @@ with_neighbour class out (Some d) =
 
 abbrev pub page_links : Datum → List Datum → Text
 page_links d parts = with_neighbour (codes "next")
-    (with_parts (shown (map_property (codes "current_page") d))
-    (with_neighbour (codes "prev") [] (map_property (codes "previous") d)) parts)
-    (map_property (codes "next") d)
+    (with_parts (shown (property (codes "current_page") d))
+    (with_neighbour (codes "prev") [] (property (codes "previous") d)) parts)
+    (property (codes "next") d)
 
 abbrev pub links_of : Datum → Option Datum → Answer
 links_of d (Some (array parts)) = Ok (text (page_links d (list_of parts)))
@@ -67,4 +67,4 @@ links_of d _ = Err InvalidInput
 
 -- `default_pagination`
 abbrev pub pagination_answer : Datum → Answer
-pagination_answer d = links_of d (map_property (codes "parts") d)
+pagination_answer d = links_of d (property (codes "parts") d)

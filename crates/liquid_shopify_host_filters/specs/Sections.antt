@@ -5,7 +5,7 @@ use Rattle.liquid_model.specs.Data.{Datum, text, text_of}
 use Rattle.liquid_model.specs.Texts.{Text}
 use Rattle.liquid_model.specs.Arguments.{Answer, text_or}
 use Rattle.liquid_model.specs.declared.error.ErrorKind.TheVariants.{InvalidArgument}
-use Rattle.liquid_shopify_host_filters.specs.Lookups.{map_property}
+use Rattle.liquid_filters.specs.Sequences.{property}
 
 -- `style`: an element around the rules
 abbrev pub style_element : Text → Text
@@ -25,4 +25,4 @@ section_text _ = Err InvalidArgument
 
 -- `section`: of the sections in the input, that of the name
 abbrev pub section_answer : Datum → List Datum → Answer
-section_answer d args = section_text (map_property (text_or [] args) d)
+section_answer d args = section_text (property (text_or [] args) d)

@@ -10,7 +10,7 @@ ghost use Rattle.liquid_shopify_host_filters.specs.Forms.{form_parts, plain_form
 ghost use Rattle.liquid_shopify_host_filters.specs.Forms.{product_element, product_form};
 ghost use Rattle.liquid_shopify_host_filters.specs.Forms.{subject_member};
 
-use crate::lists::property;
+use liquid_filters::property;
 use liquid_model::{Error, ErrorKind, Quoted, Result, Value, text_of};
 use std::alloc::Global;
 

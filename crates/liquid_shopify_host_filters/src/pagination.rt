@@ -4,7 +4,7 @@ ghost use Rattle.std.specs.Cow.{cow_str_bytes};
 ghost use Rattle.liquid_model.specs.Answer.{Answers, IsValueOrMemory};
 ghost use Rattle.liquid_model.specs.Lists.{list_of};
 ghost use Rattle.liquid_model.specs.View.{items_view, view};
-ghost use Rattle.liquid_shopify_host_filters.specs.Lookups.{map_property};
+ghost use Rattle.liquid_filters.specs.Sequences.{property};
 ghost use Rattle.liquid_shopify_host_filters.specs.Pagination.{page_link, page_links};
 ghost use Rattle.liquid_shopify_host_filters.specs.Pagination.{pagination_answer, part_span, shown};
 ghost use Rattle.liquid_shopify_host_filters.specs.Pagination.{spaced, title_class, title_span};
@@ -12,7 +12,7 @@ ghost use Rattle.liquid_shopify_host_filters.specs.Pagination.{with_neighbour, w
 ghost use Rattle.liquid_shopify_host_filters.specs.Tags.{in_class_span};
 
 use crate::html::link;
-use crate::lists::property;
+use liquid_filters::property;
 use liquid_model::{Error, ErrorKind, Result, Value, text_of};
 use std::alloc::Global;
 use std::borrow::CowStr;
@@ -125,7 +125,7 @@ fn page_link(alloc: Global, page: &Value) -> Result<String>
 /// The text of a map's member, where there is one.
 fn shown<'a>(alloc: Global, map: &'a Value, name: &str) -> Result<CowStr<'a>>
     ensures { IsValueOrMemory cow_str_bytes result
-        (shown (map_property name.now (view map.now))) }
+        (shown (property name.now (view map.now))) }
 {
     match property(map, name) {
         Some(value) => text_of(alloc, value),

@@ -5,8 +5,7 @@ ghost use Rattle.liquid_model.specs.View.{view};
 ghost use Rattle.liquid_shopify_host_filters.specs.Sections.{no_text, section_answer, style_answer};
 ghost use Rattle.liquid_shopify_host_filters.specs.Sections.{style_element};
 
-use crate::argument::text_or;
-use crate::lists::property;
+use liquid_filters::{property, text_or};
 use liquid_model::{Error, ErrorKind, Quoted, Result, Value, text_of};
 use std::alloc::Global;
 
