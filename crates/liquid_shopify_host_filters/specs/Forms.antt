@@ -97,22 +97,22 @@ abbrev pub comment_form : Text → Option Datum → Answer
 comment_form body (Some url) = Ok (text (comment_element body (text_of url)))
 comment_form body None = Err InvalidArgument
 
-abbrev pub plain_form : Text → Text → Option FormParts → Answer
-plain_form kind body (Some parts) = Ok (text (form_element kind parts body))
-plain_form kind body None = Err InvalidArgument
+abbrev pub bare_form : Text → Text → Option FormParts → Answer
+bare_form kind body (Some parts) = Ok (text (form_element kind parts body))
+bare_form kind body None = Err InvalidArgument
 
 -- the member of what the form is for
 abbrev pub subject_member : Text → Option Datum → Option Datum
 subject_member name subject = option_and_then (property name) subject
 
-abbrev pub form_of : Text → Text → Option Datum → Answer
-form_of kind body subject =
+abbrev pub shop_form : Text → Text → Option Datum → Answer
+shop_form kind body subject =
     if bytes_eq kind (codes "product") then product_form body (subject_member (codes "id") subject)
     else (if bytes_eq kind (codes "new_comment")
     then comment_form body (subject_member (codes "url") subject)
-    else plain_form kind body (plain_parts kind))
+    else bare_form kind body (plain_parts kind))
 
 -- `form`
 abbrev pub form_answer : Datum → List Datum → Answer
 form_answer d [] = Err InvalidArgument
-form_answer d (kind ∷ args) = form_of (text_of kind) (text_of d) (first_of args)
+form_answer d (kind ∷ args) = shop_form (text_of kind) (text_of d) (first_of args)

@@ -12,9 +12,9 @@ use Rattle.liquid_shopify_host_filters.specs.Html.{link}
 use Rattle.liquid_shopify_host_filters.specs.Tags.{in_class_span}
 
 -- the text of a member, where there is one
-abbrev pub shown : Option Datum → Text
-shown (Some d) = text_of d
-shown None = []
+abbrev pub shown_member : Option Datum → Text
+shown_member (Some d) = text_of d
+shown_member None = []
 
 abbrev pub is_truthy : Option Datum → Bool
 is_truthy (Some d) = truthy d
@@ -23,7 +23,7 @@ is_truthy None = false
 -- a link by the members `title` and `url`
 abbrev pub page_link : Datum → Text
 page_link d =
-    link (shown (property (codes "title") d)) (shown (property (codes "url") d)) []
+    link (shown_member (property (codes "title") d)) (shown_member (property (codes "url") d)) []
 
 -- a title that is no link: that of the page itself, or another
 abbrev pub title_class : Text → Text → Text
@@ -38,16 +38,16 @@ unfoldable pub part_span : Text → Datum → Text
 part_span current d =
     if is_truthy (property (codes "is_link") d)
     then in_class_span (codes "page") (page_link d)
-    else title_span current (shown (property (codes "title") d))
+    else title_span current (shown_member (property (codes "title") d))
 
 -- one more, after a space where one stands before it
 unfoldable pub spaced : Text → Text → Text
 spaced [] span = span
 spaced (b ∷ out) span = (b ∷ out) ++ (codes " " ++ span)
 
-abbrev pub with_parts : Text → Text → List Datum → Text
-with_parts current out [] = out
-with_parts current out (d ∷ ds) = with_parts current (spaced out (part_span current d)) ds
+abbrev pub with_page_parts : Text → Text → List Datum → Text
+with_page_parts current out [] = out
+with_page_parts current out (d ∷ ds) = with_page_parts current (spaced out (part_span current d)) ds
 
 -- the page before this one or after it, where it is there
 abbrev pub with_neighbour : Text → Text → Option Datum → Text
@@ -57,7 +57,7 @@ with_neighbour class out (Some d) =
 
 abbrev pub page_links : Datum → List Datum → Text
 page_links d parts = with_neighbour (codes "next")
-    (with_parts (shown (property (codes "current_page") d))
+    (with_page_parts (shown_member (property (codes "current_page") d))
     (with_neighbour (codes "prev") [] (property (codes "previous") d)) parts)
     (property (codes "next") d)
 

@@ -5,8 +5,8 @@ ghost use Rattle.liquid_model.specs.ErrorKinds.{IsKindOrMemory};
 ghost use Rattle.liquid_model.specs.View.{view};
 ghost use Rattle.liquid_model.specs.declared.error.ErrorKind.TheVariants.{InvalidArgument};
 ghost use Rattle.liquid_shopify_host_filters.specs.Forms.{comment_element, comment_form};
-ghost use Rattle.liquid_shopify_host_filters.specs.Forms.{form_answer, form_element, form_of};
-ghost use Rattle.liquid_shopify_host_filters.specs.Forms.{form_parts, plain_form, plain_parts};
+ghost use Rattle.liquid_shopify_host_filters.specs.Forms.{form_answer, form_element, shop_form};
+ghost use Rattle.liquid_shopify_host_filters.specs.Forms.{form_parts, bare_form, plain_parts};
 ghost use Rattle.liquid_shopify_host_filters.specs.Forms.{product_element, product_form};
 ghost use Rattle.liquid_shopify_host_filters.specs.Forms.{subject_member};
 
@@ -32,18 +32,18 @@ pub(crate) fn form_answer(alloc: Global, input: &Value, args: &[Value]) -> Resul
 {
     let kind = text_of(alloc, &args[0])?;
     let body = text_of(alloc, input)?;
-    form_of(alloc, kind.as_str(), body.as_str(), args.get(1))
+    shop_form(alloc, kind.as_str(), body.as_str(), args.get(1))
 }
 
 /// The form of a kind, for what it is for.
-fn form_of(alloc: Global, kind: &str, body: &str, subject: Option<&Value>) -> Result<Value>
-    ensures { Answers view result (form_of kind.now body.now
+fn shop_form(alloc: Global, kind: &str, body: &str, subject: Option<&Value>) -> Result<Value>
+    ensures { Answers view result (shop_form kind.now body.now
         (option_map (λ v. view v.now) subject.entry)) }
 {
     match kind {
         "product" => product_form(alloc, body, member(subject, "id")),
         "new_comment" => comment_form(alloc, body, member(subject, "url")),
-        _ => plain_form(alloc, kind, body),
+        _ => bare_form(alloc, kind, body),
     }
 }
 
@@ -117,8 +117,8 @@ fn without_subject(alloc: Global, message: &str) -> Error
 }
 
 /// The form of a kind that is for nothing.
-fn plain_form(alloc: Global, kind: &str, body: &str) -> Result<Value>
-    ensures { Answers view result (plain_form kind.now body.now (plain_parts kind.now)) }
+fn bare_form(alloc: Global, kind: &str, body: &str) -> Result<Value>
+    ensures { Answers view result (bare_form kind.now body.now (plain_parts kind.now)) }
 {
     let Some(parts) = plain_parts(kind) else {
         return Err(Error::formatted(

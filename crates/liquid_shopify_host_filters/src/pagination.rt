@@ -6,9 +6,9 @@ ghost use Rattle.liquid_model.specs.Lists.{list_of};
 ghost use Rattle.liquid_model.specs.View.{items_view, view};
 ghost use Rattle.liquid_filters.specs.Sequences.{property};
 ghost use Rattle.liquid_shopify_host_filters.specs.Pagination.{page_link, page_links};
-ghost use Rattle.liquid_shopify_host_filters.specs.Pagination.{pagination_answer, part_span, shown};
-ghost use Rattle.liquid_shopify_host_filters.specs.Pagination.{spaced, title_class, title_span};
-ghost use Rattle.liquid_shopify_host_filters.specs.Pagination.{with_neighbour, with_parts};
+ghost use Rattle.liquid_shopify_host_filters.specs.Pagination.{pagination_answer, part_span};
+ghost use Rattle.liquid_shopify_host_filters.specs.Pagination.{shown_member, spaced, title_class};
+ghost use Rattle.liquid_shopify_host_filters.specs.Pagination.{with_neighbour, with_page_parts};
 ghost use Rattle.liquid_shopify_host_filters.specs.Tags.{in_class_span};
 
 use crate::html::link;
@@ -38,7 +38,7 @@ fn page_links(alloc: Global, paginate: &Value, parts: &[Value]) -> Result<String
     ensures { IsValueOrMemory (λ s. string_bytes s) result
         (page_links (view paginate.now) (list_of (items_view parts.now))) }
 {
-    let current = shown(alloc, paginate, "current_page")?;
+    let current = shown_member(alloc, paginate, "current_page")?;
     let mut out = String::new(alloc);
     push_neighbour(alloc, &mut out, "prev", property(paginate, "previous"))?;
     push_parts(alloc, &mut out, current.as_str(), parts)?;
@@ -49,7 +49,7 @@ fn page_links(alloc: Global, paginate: &Value, parts: &[Value]) -> Result<String
 /// Appends each of the parts.
 fn push_parts(alloc: Global, out: &mut String, current: &str, parts: &[Value]) -> Result<()>
     ensures { IsValueOrMemory (λ _. string_bytes out.new) result
-        (with_parts current.now (string_bytes out.old) (list_of (items_view parts.now))) }
+        (with_page_parts current.now (string_bytes out.old) (list_of (items_view parts.now))) }
 {
     for part in parts {
         let span = part_span(alloc, current, part)?;
@@ -98,7 +98,7 @@ fn part_span(alloc: Global, current: &str, part: &Value) -> Result<String>
         let link = page_link(alloc, part)?;
         return class_span(alloc, "page", link.as_str());
     }
-    let title = shown(alloc, part, "title")?;
+    let title = shown_member(alloc, part, "title")?;
     let title = title.as_str();
     class_span(alloc, title_class(current, title), title)
 }
@@ -117,15 +117,15 @@ fn title_class(current: &str, title: &str) -> &'static str
 fn page_link(alloc: Global, page: &Value) -> Result<String>
     ensures { IsValueOrMemory (λ s. string_bytes s) result (page_link (view page.now)) }
 {
-    let title = shown(alloc, page, "title")?;
-    let url = shown(alloc, page, "url")?;
+    let title = shown_member(alloc, page, "title")?;
+    let url = shown_member(alloc, page, "url")?;
     link(alloc, title.as_str(), url.as_str(), "")
 }
 
 /// The text of a map's member, where there is one.
-fn shown<'a>(alloc: Global, map: &'a Value, name: &str) -> Result<CowStr<'a>>
+fn shown_member<'a>(alloc: Global, map: &'a Value, name: &str) -> Result<CowStr<'a>>
     ensures { IsValueOrMemory cow_str_bytes result
-        (shown (property name.now (view map.now))) }
+        (shown_member (property name.now (view map.now))) }
 {
     match property(map, name) {
         Some(value) => text_of(alloc, value),

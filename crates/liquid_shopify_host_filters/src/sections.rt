@@ -45,7 +45,7 @@ pub(crate) fn section_answer(alloc: Global, input: &Value, args: &[Value]) -> Re
             alloc,
             ErrorKind::InvalidArgument,
             format_args!(
-                "section `{}` has no text; give it in the data, as `sections['{}']`",
+                "`{}` has no text; give it in the data, as `sections['{}']`",
                 Quoted { text: name },
                 Quoted { text: name }
             ),
