@@ -1,8 +1,8 @@
 """Which tags and filters a language has: the standard one, and those with a set of filters of a host."""
-from dataclasses import dataclass, field
+from dataclasses import dataclass, field, replace
 from typing import Callable
 
-from . import jekyll_filters, shopify_filters
+from . import jekyll_filters, shopify_blocks, shopify_filters
 from .filters import FILTERS
 from .tags import TAGS, jekyll_include
 
@@ -11,7 +11,7 @@ from .tags import TAGS, jekyll_include
 class Language:
     """The readers of tags by their names, how many arguments each filter takes, from the data the filters of a run, and the names of tags
     that begin with a path without quotes. It drops the white space of blocks that write nothing, or doesn't. By their names it has the
-    filters of blocks whose tag is one text."""
+    filters of blocks whose tag is one text or has items, and those of tags of a host, with the variable that is the input of one with items."""
 
     tags: dict
     counts: dict
@@ -19,6 +19,9 @@ class Language:
     path_tags: tuple = ()
     drops_blanks: bool = False
     text_blocks: dict = field(default_factory=dict)
+    text_tags: dict = field(default_factory=dict)
+    item_blocks: dict = field(default_factory=dict)
+    item_tags: dict = field(default_factory=dict)
 
 
 def counts_of(filters):
@@ -42,5 +45,11 @@ STANDARD_FUNCTIONS = functions_of(FILTERS)
 LANGUAGES = {
     None: STANDARD,
     "jekyll": language_with({"include": jekyll_include}, jekyll_filters.filters_over, ("include",), {"highlight": "highlight"}),
-    "shopify": language_with({}, shopify_filters.filters_over),
+    "shopify": replace(
+        language_with({}, shopify_filters.filters_over),
+        text_blocks=shopify_blocks.TEXT_BLOCKS,
+        text_tags=shopify_blocks.TEXT_TAGS,
+        item_blocks=shopify_blocks.ITEM_BLOCKS,
+        item_tags=shopify_blocks.ITEM_TAGS,
+    ),
 }
