@@ -17,7 +17,7 @@ use Rattle.liquid_shopify_host_filters.specs.Lookups.{has_answer}
 use Rattle.liquid_shopify_host_filters.specs.Lookups.{reject_answer}
 use Rattle.liquid_shopify_host_filters.specs.Money.{amount_answer, money_answer, trimmed_answer}
 use Rattle.liquid_shopify_host_filters.specs.Pagination.{pagination_answer}
-use Rattle.liquid_shopify_host_filters.specs.Sections.{no_text, section_answer, style_answer}
+use Rattle.liquid_shopify_host_filters.specs.Sections.{no_text_answer, section_answer, style_answer}
 use Rattle.liquid_shopify_host_filters.specs.Sums.{sum_answer}
 use Rattle.liquid_shopify_host_filters.specs.Tags.{highlight_answer, link_to_add_tag_answer}
 use Rattle.liquid_shopify_host_filters.specs.Tags.{link_to_remove_tag_answer, link_to_tag_answer}
@@ -93,7 +93,7 @@ shopify_answer HighlightActiveTag shop d args = highlight_answer (tags_of shop) 
 shopify_answer HmacSha256 shop d args = hmac_sha256_answer d args
 shopify_answer ImgTag shop d args = img_tag_answer d args
 shopify_answer Json shop d args = json_answer d
-shopify_answer Layout shop d args = no_text
+shopify_answer Layout shop d args = no_text_answer
 shopify_answer LinkTo shop d args = link_to_answer d args
 shopify_answer LinkToAddTag shop d args =
     link_to_add_tag_answer (collection_of shop) (tags_of shop) d args
@@ -107,7 +107,7 @@ shopify_answer Money shop d args = money_answer shop.money d
 shopify_answer MoneyWithCurrency shop d args = money_answer shop.money_with_currency d
 shopify_answer MoneyWithoutCurrency shop d args = amount_answer shop.money d
 shopify_answer MoneyWithoutTrailingZeros shop d args = trimmed_answer shop.money d
-shopify_answer NoText shop d args = no_text
+shopify_answer NoText shop d args = no_text_answer
 shopify_answer Paginate shop d args = Ok d
 shopify_answer ProductImgUrl shop d args = product_img_url_answer (string_bytes shop.images) d args
 shopify_answer Reject shop d args = reject_answer d args

@@ -15,8 +15,8 @@ abbrev pub style_answer : Datum → Answer
 style_answer d = Ok (text (style_element (text_of d)))
 
 -- what Shopify keeps for another place has no text here
-abbrev pub no_text : Answer
-no_text = Ok (text [])
+abbrev pub no_text_answer : Answer
+no_text_answer = Ok (text [])
 
 -- the section's text as the data have it
 abbrev pub section_text : Option Datum → Answer

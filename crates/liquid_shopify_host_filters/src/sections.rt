@@ -2,7 +2,8 @@
 ghost use Rattle.std.specs.Prelude.{map, string_bytes};
 ghost use Rattle.liquid_model.specs.Answer.{Answers, IsValueOrMemory};
 ghost use Rattle.liquid_model.specs.View.{view};
-ghost use Rattle.liquid_shopify_host_filters.specs.Sections.{no_text, section_answer, style_answer};
+ghost use Rattle.liquid_shopify_host_filters.specs.Sections.{no_text_answer, section_answer};
+ghost use Rattle.liquid_shopify_host_filters.specs.Sections.{style_answer};
 ghost use Rattle.liquid_shopify_host_filters.specs.Sections.{style_element};
 
 use liquid_filters::{property, text_or};
@@ -25,7 +26,7 @@ fn style_element(alloc: Global, css: &str) -> Result<String>
 
 /// `no_text`: the empty text, whatever the input.
 pub(crate) fn no_text(alloc: Global) -> Result<Value>
-    ensures { Answers view result no_text }
+    ensures { Answers view result no_text_answer }
 {
     Ok(Value::Text(String::new(alloc)))
 }
