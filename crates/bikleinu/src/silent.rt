@@ -1,5 +1,5 @@
 //! What is printed after a page of what it shows silently.
-use crate::filters::language_with;
+use crate::filters::language_for;
 use crate::parts::{PageParts, UsedParts};
 use liquid_check::remarks_of;
 use liquid_commands::{RenderCall, Stop, Tip, print_tip};
@@ -115,7 +115,7 @@ fn warnings_in(
     parts: &PageParts,
     page: &PageFiles<'_>,
 ) -> Result<Warnings> {
-    let language = language_with(alloc, call.inputs.filters)?;
+    let language = language_for(alloc, call.inputs.filters, call.inputs.escapes_html)?;
     let given = given_over(&parts.data, &language);
     let mut warnings = Vec::new(alloc);
     for (place, remarks) in warnings_of(alloc, &page.files, given)?

@@ -29,6 +29,8 @@ pub struct CheckCall<'w> {
     pub partials: Vec<&'w str>,
     /// The set of filters that templates call.
     pub filters: Option<FilterSet>,
+    /// Whether outputs are escaped for HTML.
+    pub escapes_html: bool,
     pub format: DiagnosticFormat,
     /// Whether outputs in attributes are looked at.
     pub attributes: bool,
@@ -44,6 +46,7 @@ const ARGUMENTS: &[Argument] = &[
     Argument::Define,
     Argument::Partials,
     Argument::Filters,
+    Argument::Escape,
     Argument::ReportFormat,
     Argument::Warn,
     Argument::Quiet,
@@ -72,6 +75,7 @@ pub fn check_call<'w>(alloc: Global, given: &ArgMatches<'w>) -> Result<CheckCall
         forms: Forms::given(given),
         partials,
         filters: filter_set(given.get_str("filters")),
+        escapes_html: given.get_str("escape").is_some(),
         format: format_of(given.get_str("format")),
         attributes: given.get_str("warn").is_some(),
         is_quiet: given.get_flag("quiet"),

@@ -66,6 +66,7 @@ pub record IsJekyll (l : Language) : Type 0 where
       (Kind JekyllSort))
   pub include_paths : l.include_paths ≡ true
   pub drops_blanks : l.drops_blanks ≡ true
+  pub escapes_html : l.escapes_html ≡ false
   pub highlight : HasHighlight l
 
 -- ---- Shopify's
@@ -97,6 +98,7 @@ pub record IsShopify (l : Language) : Type 0 where
   pub filters : listed (registered_in l.filters) ≡
       with_shopify_filters (with_filters (listed []) standard_filters)
   pub drops_blanks : l.drops_blanks ≡ true
+  pub escapes_html : l.escapes_html ≡ false
   pub host_tags : numbers_of l.host_tags ≡ []
 
 -- ---- decimals
@@ -121,4 +123,5 @@ pub record HasDecimals (l : Language) : Type 0 where
   pub filters : listed (registered_in l.filters) ≡
       with_decimal_filters (with_filters (listed []) standard_filters)
   pub drops_blanks : l.drops_blanks ≡ false
+  pub escapes_html : l.escapes_html ≡ false
   pub host_tags : numbers_of l.host_tags ≡ []

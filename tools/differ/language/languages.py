@@ -1,5 +1,5 @@
 """Which tags and filters a language has: the standard one, and those with a set of filters of a host."""
-from dataclasses import dataclass, field
+from dataclasses import dataclass, field, replace
 from typing import Callable
 
 from . import jekyll_filters, shopify_filters
@@ -11,7 +11,7 @@ from .tags import TAGS, jekyll_include
 class Language:
     """The readers of tags by their names, how many arguments each filter takes, from the data the filters of a run, and the names of tags
     that begin with a path without quotes. It drops the white space of blocks that write nothing, or doesn't. By their names it has the
-    filters of blocks whose tag is one text."""
+    filters of blocks whose tag is one text. It escapes what outputs and `cycle` write, or doesn't."""
 
     tags: dict
     counts: dict
@@ -19,6 +19,7 @@ class Language:
     path_tags: tuple = ()
     drops_blanks: bool = False
     text_blocks: dict = field(default_factory=dict)
+    escapes: bool = False
 
 
 def counts_of(filters):
@@ -41,6 +42,7 @@ STANDARD = Language(TAGS, counts_of(FILTERS), lambda data: STANDARD_FUNCTIONS)
 STANDARD_FUNCTIONS = functions_of(FILTERS)
 LANGUAGES = {
     None: STANDARD,
+    "escaped": replace(STANDARD, escapes=True),
     "jekyll": language_with({"include": jekyll_include}, jekyll_filters.filters_over, ("include",), {"highlight": "highlight"}),
     "shopify": language_with({}, shopify_filters.filters_over),
 }
