@@ -18,7 +18,7 @@ _bikleinu() {
         render) words='--text --data --define --partials --filters --assets --escape --out --quiet --missing --max-bytes --max-turns --decimals --dates --now --help' ;;
         merge) words='--text --out --into --data --define --partials --filters --assets --escape --records-format --delimiter --cells --names --separator --missing --max-bytes --max-turns --from --count --dry-run --no-flush --progress --quiet --decimals --dates --now --help' ;;
         check) words='--data --define --partials --filters --escape --format --warn --quiet --decimals --dates --now --help' ;;
-        paths) words='--partials --filters --format --help' ;;
+        paths) words='--partials --filters --escape --format --help' ;;
       esac
       if [ "$COMP_CWORD" -eq 1 ]; then mapfile -t COMPREPLY < <(compgen -W 'render merge check paths --help --version' -- "$word"); return; fi
       case ${COMP_WORDS[1]}:$before in
@@ -39,6 +39,7 @@ _bikleinu() {
         check:--warn) values='unescaped-attributes' ;;
         check:--decimals) values='fault text' ;;
         paths:--filters) values='decimals jekyll shopify' ;;
+        paths:--escape) values='html' ;;
         paths:--format) values='text json-schema' ;;
       esac
       if [ -n "$values" ]; then mapfile -t COMPREPLY < <(compgen -W "$values" -- "$word"); return; fi

@@ -60,5 +60,6 @@ complete -c bikleinu -n '__fish_seen_subcommand_from check' -l now -r -F -d 'Giv
 complete -c bikleinu -n '__fish_seen_subcommand_from check' -s h -l help -d 'Print help'
 complete -c bikleinu -n '__fish_seen_subcommand_from paths' -s p -l partials -r -F -d 'Partials: the files below DIR by their paths, also without their suffix, or one FILE by NAME; the later wins'
 complete -c bikleinu -n '__fish_seen_subcommand_from paths' -l filters -x -a 'decimals jekyll shopify' -d 'Adds the filters over decimals, or reads templates as those of Jekyll or Shopify'
+complete -c bikleinu -n '__fish_seen_subcommand_from paths' -l escape -x -a 'html' -d 'Escapes what outputs and cycle write, but where an output ends with | raw'
 complete -c bikleinu -n '__fish_seen_subcommand_from paths' -l format -x -a 'text json-schema' -d 'A path on each line, or a JSON Schema that has each path as a property'
 complete -c bikleinu -n '__fish_seen_subcommand_from paths' -s h -l help -d 'Print help'
