@@ -135,8 +135,11 @@ impl Builder {
     fn through(&mut self, filters: Vec<ChainFilter>, node: Node) -> Result<(), ParseError>
         requires { (flat_of node).ends ≡ [] }
         ensures stack { (ls : List Level) (cur : Nodes) → IsBuilding self.old ls cur →
-            AdvancesTo (Some (ls, with_node cur (filtered (map chain_filter_view filters.items)
-            (alone ((flat_of node).head []))))) self.new result }
+            AdvancesTo (Some (
+              ls,
+              with_node cur (filtered (map chain_filter_view filters.items)
+                  (alone ((flat_of node).head []))),
+            )) self.new result }
         ensures fails { IsMemory result }
     {
         let before = self.nodes.len();

@@ -22,10 +22,10 @@ use crate::chain_items::expected_before;
 use blocks::{read_block, read_control};
 use host_tags::{read_host_block, read_host_tag};
 use leaf_tags::read_leaf;
-use outputs::read_output;
 use liquid_language::{Block, BlockContext, Language, Role, role_of, verbatim_body};
 use liquid_lexer::{Body, Expectation, Fault, FaultKind, Item, ParseError, Piece};
 use liquid_syntax::Node;
+use outputs::read_output;
 use std::alloc::Global;
 use std::collections::VecDeque;
 

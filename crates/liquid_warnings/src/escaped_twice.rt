@@ -50,11 +50,8 @@ fn shown_name(node: &Node) -> Option<&str> {
         return None;
     };
     match &chain.entry {
-        Expression::Variable(variable)
-            if variable.indexes.is_empty() && chain.filters.is_empty() =>
-        {
-            Some(variable.name.as_str())
-        }
+        Expression::Variable(variable) if variable.indexes.is_empty() && chain.filters.is_empty() =>
+            { Some(variable.name.as_str()) }
         _ => None,
     }
 }

@@ -182,7 +182,8 @@ impl<'t> Whole<'t> {
         };
         self.add_unknown(alloc, &names.read, data, remarks)?;
         self.add_unused_names(alloc, place, &names.stored, remarks)?;
-        add_escaped_twice(alloc, &names.escaped, remarks)
+        add_escaped_twice(alloc, &names.escaped, remarks)?;
+        Ok(())
     }
 
     /// Adds a warning for each name that neither the data nor a tag has.
