@@ -5,7 +5,7 @@ use crate::expression::{Expression, Variable, expression_value};
 use crate::foreign_name::{filter_meant, is_file_suffix, name_meant};
 use crate::frame::{LoopFrame, LoopKind, Scope};
 use crate::resolved::Resolved;
-use crate::similar_name::{SimilarName, more_similar};
+use crate::similar_name::{SimilarName, more_likely};
 use crate::spelled::{Spelled, SpelledPath};
 use crate::state::State;
 use crate::step_kind::{Kind, kind_of, kind_word};
@@ -59,8 +59,7 @@ impl<'n, 'm> Search<'n, 'm> {
     fn look(&mut self, alloc: Global, name: &'n str) -> Result<(), AllocError> {
         if self.left > 0 {
             self.left -= 1;
-            let similar = more_similar(alloc, name, self.meant, self.similar)?;
-            self.similar = likely(similar, self.meant);
+            self.similar = more_likely(alloc, name, self.meant, self.similar)?;
         }
         Ok(())
     }
@@ -73,14 +72,6 @@ impl<'n, 'm> Search<'n, 'm> {
             self.look(alloc, name.as_str())?;
         }
         Ok(())
-    }
-}
-
-/// A name that is similar to one that is meant, where at most a third of its letters are edited.
-fn likely<'n>(similar: Option<SimilarName<'n>>, meant: &str) -> Option<SimilarName<'n>> {
-    match similar {
-        Some(found) if found.edits.saturating_mul(3) <= meant.len() => Some(found),
-        _ => None,
     }
 }
 

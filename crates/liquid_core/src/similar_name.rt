@@ -44,6 +44,20 @@ pub fn more_similar<'n>(
     Ok(Some(SimilarName { name, edits }))
 }
 
+/// The same, where at least three letters of `meant` stand for each edit: a name that is likely
+/// meant.
+pub fn more_likely<'n>(
+    alloc: Global,
+    name: &'n str,
+    meant: &str,
+    likely: Option<SimilarName<'n>>,
+) -> Result<Option<SimilarName<'n>>, AllocError> {
+    match more_similar(alloc, name, meant, likely)? {
+        Some(found) if found.edits.saturating_mul(3) <= meant.len() => Ok(Some(found)),
+        _ => Ok(None),
+    }
+}
+
 /// The most edits between `meant` and a name that is more similar to it than the one that was found
 /// before: fewer than its bytes, or any name would be similar to it.
 fn most_edits(meant: &str, similar: Option<SimilarName<'_>>) -> usize {

@@ -27,7 +27,7 @@ mod unreadable;
 pub use buffered::Buffered;
 pub use disk::{Disk, DiskFault, Protected};
 pub use entry::{
-    Entry, Target, Way, entry_at, folder_entry, has_byte_zero, is_hidden_name, lies_in,
+    Entry, Target, Way, entry_at, folder_entry, has_byte_zero, is_folder, is_hidden_name, lies_in,
     listed_entry, target_of,
 };
 pub use excerpt::Excerpt;

@@ -25,7 +25,11 @@ module Bikleinu
   # A template, which is rendered any number of times, in any number of threads.
   class Template
     # The template of a source, in an environment, or by itself. A SyntaxError says what the language refuses.
-    def self.parse(source, environment: Environment.default)
+    #
+    # line_numbers: and error_mode: are Liquid's: each fault has its line, and the language is strict.
+    def self.parse(source, environment: Environment.default, line_numbers: true, error_mode: :strict)
+      raise ::ArgumentError, "error_mode is #{error_mode.inspect}, and the language is :strict" unless error_mode == :strict
+
       environment.parse(source)
     end
 
@@ -66,7 +70,8 @@ module Bikleinu
     # The page: its text up to a fault, and the fault.
     #
     # Data are a Hash, a drop, Data or a text of JSON, of which a Hash or a drop are asked for what the template and its partials
-    # use. Options are depth:, levels:, bytes:, turns:, rounds: and missing:, as of an Environment.
+    # use. Options are depth:, levels:, bytes:, turns:, rounds: and missing:, as of an Environment, and Liquid's strict_variables: and
+    # strict_filters:.
     def page(data = nil, options = nil)
       settings = @environment.settings.with(options)
       (0..).each do |round|
