@@ -36,7 +36,7 @@ pub use file_name::{joined_path, named_file, without_suffix};
 pub use full::refuses_every_file;
 pub use host::SystemFiles;
 pub use left_out::{LeftOut, LeftOutLine};
-pub use names::hidden_names;
+pub use names::{hidden_names, written_hidden_names};
 pub use page_files::{Bounds, PageFiles};
 pub use partial_names::PartialNames;
 pub use parts::is_part_path;

@@ -38,6 +38,16 @@ module Bikleinu
       Environment.default.register_filter(methods)
     end
 
+    # Registers a tag, for templates that are parsed from now on without an environment (as Environment#register_tag).
+    def self.register_tag(...)
+      Environment.default.register_tag(...)
+    end
+
+    # Registers a block in the same way.
+    def self.register_block(...)
+      Environment.default.register_block(...)
+    end
+
     # What it was parsed from.
     attr_reader :source
     # The faults of the last call of render or render!.
