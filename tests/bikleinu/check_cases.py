@@ -186,6 +186,8 @@ def attribute_cases():
         warned("what is escaped, literals and a loop's own object", "t --warn unescaped-attributes", {"t": "{% for x in y %}<a b=\"{{ c | escape }}{{ c | url_encode | upcase }}{{ 'x' }}{{ 1 }}{{ forloop.index }}\">{% endfor %}"}, "", 0),
         warned("outside of attributes", "t --warn unescaped-attributes", {"t": "a < b = '{{ c }}' <3 \"{{ d }}\" <p {{ e }}>=\"{{ f }}\"</p {{ g }}><{{ h }} {{ i }}><p q={{ 1 }} {{ j }}>"}, "", 0),
         warned("tags, comments and raw text write nothing", "t --warn unescaped-attributes", {"t": "<a b=\"{% if c %}{{ d }}{% endif %}{% comment %}\">{% endcomment %}{% raw %}\">{% endraw %}{{ e }}\">{{ f }}"}, warning("t", 1, 17, "UnescapedAttribute", QUOTE) + warning("t", 1, 89, "UnescapedAttribute", QUOTE), 2),
+        warned("outputs that the language escapes", "t --warn unescaped-attributes --escape html", {"t": "<a b=\"{{ c }}{{ d | raw }}\">"}, warning("t", 1, 14, "UnescapedAttribute", QUOTE), 1),
+        warned("a captured text that is escaped again", "t --escape html", {"t": "{% capture a %}<b>{{ c }}</b>{% endcapture %}{{ a }}{{ a | raw }}{{ c }}{{ a }}"}, warning("t", 1, 46, "EscapedTwice", "the outputs in the captured `a` are escaped already; end this one with `| raw`"), 1),
         case("another kind", "check t --warn all", {"t": ""}, status=2, errors=("error: invalid value 'all' for '--warn <KIND>'", "  [possible values: unescaped-attributes]")),
     ]
 

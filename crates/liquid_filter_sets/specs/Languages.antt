@@ -67,6 +67,7 @@ pub record IsJekyll (l : Language) : Type 0 where
       (Kind JekyllSort))
   pub include_paths : l.include_paths ≡ true
   pub drops_blanks : l.drops_blanks ≡ true
+  pub escapes_html : l.escapes_html ≡ false
   pub highlight : HasHighlight l
 
 -- ---- Shopify's
@@ -98,6 +99,7 @@ pub record IsShopify (l : Language) : Type 0 where
   pub filters : listed (registered_in l.filters) ≡
       with_shopify_filters (with_filters (listed []) standard_filters)
   pub drops_blanks : l.drops_blanks ≡ true
+  pub escapes_html : l.escapes_html ≡ false
   pub host_tags : HasShopifyTags l
 
 -- ---- decimals
@@ -122,4 +124,5 @@ pub record HasDecimals (l : Language) : Type 0 where
   pub filters : listed (registered_in l.filters) ≡
       with_decimal_filters (with_filters (listed []) standard_filters)
   pub drops_blanks : l.drops_blanks ≡ false
+  pub escapes_html : l.escapes_html ≡ false
   pub host_tags : numbers_of l.host_tags ≡ []

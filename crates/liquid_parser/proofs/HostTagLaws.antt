@@ -35,9 +35,11 @@ use Rattle.liquid_parser.specs.Chains.{Filters, arguments, called_as, none}
 use Rattle.liquid_parser.specs.Classification.{leaf_or, one_or, reads, tag_statement}
 use Rattle.liquid_parser.specs.HostTags.{AreTagValues, no_values, tag_values, IsHostCall, host_call, IsHostChain, host_chain, chain_of_call, call_given, host_call_of, host_chain_of, through_call}
 use Rattle.liquid_parser.specs.Nesting.{Statement, begins, leaf, of_one}
+use Rattle.liquid_parser.specs.Outputs.{as_it_is, output_of}
 use Rattle.liquid_parser.specs.ValueLists.{any_values_of, values_of}
 use Rattle.liquid_parser.specs.declared.value_items.Separators.TheVariants.{OptionalCommas}
 use Rattle.liquid_parser.proofs.ItemLaws.{values_takes, values_again}
+use Rattle.liquid_parser.proofs.OutputLaws.{output_as_it_is}
 use Rattle.liquid_parser.proofs.Printed.{called_again, filters_again}
 
 -- ---- values
@@ -105,18 +107,19 @@ chain_alone : (known : Filters) (v : Expression) (name : Text) (xs : List Expres
 unfolding chain_of
 chain_alone known v name xs = ap (option_map (λ calls. record { entry = v; filters = calls })) (one_call known name xs) ∙ made_alone v (call_given known name xs)
 
-output_read : (l : Language) (x : BlockContext) (v : Expression) (name : Text) (xs : List Expression) (os : List Item) → tokens_of os ≡ value v ∷ symbol Bar ∷ word name ∷ arguments xs
+output_read : (l : Language) (x : BlockContext) (v : Expression) (name : Text) (xs : List Expression) (os : List Item) → tokens_of os ≡ as_it_is l (value v ∷ symbol Bar ∷ word name ∷ arguments xs)
     → reads l x (pieces.output os) ≡ leaf_or (option_map output (option_map (with_entry v) (call_given (registered_in l.filters) name xs)))
 output_read l x v name xs os spelled =
     let known = registered_in l.filters in
-    ap (λ (ts : List Token). leaf_or (option_map output (chain_of known ts))) spelled
+    ap (λ (ts : List Token). leaf_or (output_of l ts)) spelled
+    ∙ ap leaf_or (output_as_it_is l (value v ∷ symbol Bar ∷ word name ∷ arguments xs))
     ∙ ap (λ (o : Option Chain). leaf_or (option_map output o)) (chain_alone known v name xs)
 
 call_read : (known : Filters) (name : Text) (xs : List Expression) (ts : List Token) → AreTagValues xs ts → host_call_of known name ts ≡ call_given known name xs
 call_read known name xs ts values = ap (option_and_then (call_given known name)) (tag_values_again ts xs values)
 
 pub tag_is_output : (l : Language) (x : BlockContext) (w : Text) (n : ℕ) (called : TagCall) (xs : List Expression) (is os : List Item) → role_of l x w ≡ Some (HostTag n) → call_at l n ≡ Some called → AreTagValues xs (tokens_of is)
-    → tokens_of os ≡ value called.input ∷ symbol Bar ∷ word called.filter ∷ arguments xs → reads l x (pieces.tag w is) ≡ reads l x (pieces.output os)
+    → tokens_of os ≡ as_it_is l (value called.input ∷ symbol Bar ∷ word called.filter ∷ arguments xs) → reads l x (pieces.tag w is) ≡ reads l x (pieces.output os)
 unfolding with_entry
 tag_is_output l x w n called xs is os role at values spelled =
     let known = registered_in l.filters in
@@ -163,7 +166,7 @@ as_block n v call None h = absurd cc
 as_block n v call (Some given) h = ap (λ c. begins (of_one (Host n) (through_call c))) (same_output v given call (ap made_of h))
 
 module _ (l : Language) (x : BlockContext) (w : Text) (n : ℕ) (called : BlockCall) (xs : List Expression) (v : Expression) (is os : List Item) (call : FilterCall) (role : role_of l x w ≡ Some (HostBlock n)) (at : block_at l n ≡ Some called)
-    (values : AreTagValues xs (tokens_of is)) (spelled : tokens_of os ≡ value v ∷ symbol Bar ∷ word called.filter ∷ arguments xs) where
+    (values : AreTagValues xs (tokens_of is)) (spelled : tokens_of os ≡ as_it_is l (value v ∷ symbol Bar ∷ word called.filter ∷ arguments xs)) where
   pub block_as_output : reads l x (pieces.tag w is) ≡ begins (of_one (Host n) (through_call call)) → reads l x (pieces.output os) ≡ leaf (output (record { entry = v; filters = call ∷ [] }))
   unfolding with_entry
   block_as_output h = output_read l x v called.filter xs os spelled ∙ as_output n v call (call_given (registered_in l.filters) called.filter xs) (sym (block_read l x w n called xs is role at values) ∙ h)

@@ -18,16 +18,19 @@ use Rattle.liquid_language.specs.declared.registry.Language.{Language}
 use Rattle.liquid_parser.specs.Chains.{arguments}
 use Rattle.liquid_parser.specs.HostTags.{AreTagValues, through_call}
 use Rattle.liquid_parser.specs.Nesting.{begins, ends, leaf, of_one}
+use Rattle.liquid_parser.specs.Outputs.{as_it_is}
 use Rattle.liquid_parser.specs.Statements.{IsStatement}
 
--- `{% w a, b %}` is the node that `{{ input | filter: a, b }}` is, and no node where that is none
+-- `{% w a, b %}` is the node that `{{ input | filter: a, b }}` is, with `| raw` after it where the
+-- language escapes, and no node where that is none
 abbrev pub HostTagsAreOutputs : Type 0
 HostTagsAreOutputs =
     (l : Language) (x : BlockContext) (w : Text) (n : ℕ) (called : TagCall) (xs : List Expression)
     (is os : List Item) (node : Node)
     → role_of l x w ≡ Some (HostTag n) → call_at l n ≡ Some called →
     AreTagValues xs (tokens_of is)
-    → tokens_of os ≡ value called.input ∷ symbol Bar ∷ word called.filter ∷ arguments xs
+    → tokens_of os ≡
+    as_it_is l (value called.input ∷ symbol Bar ∷ word called.filter ∷ arguments xs)
     → IsStatement l x (pieces.tag w is) (leaf node) ↔ IsStatement l x (pieces.output os) (leaf node)
 
 -- where no tag of a host is registered, none is read
@@ -36,14 +39,14 @@ NoHostTags = (l : Language) (x : BlockContext) (w : Text) (n : ℕ) → numbers_
     role_of l x w ≡ Some (HostTag n) → ⊥
 
 -- `{% w a, b %}` begins a block whose text goes through the call that `{{ v | filter: a, b }}` has,
--- and no block where that is no output
+-- with `| raw` after it where the language escapes, and no block where that is no output
 abbrev pub HostBlocksAreCalls : Type 0
 HostBlocksAreCalls =
     (l : Language) (x : BlockContext) (w : Text) (n : ℕ) (called : BlockCall) (xs : List Expression)
     (v : Expression) (is os : List Item) (call : FilterCall)
     → role_of l x w ≡ Some (HostBlock n) → block_at l n ≡ Some called →
     AreTagValues xs (tokens_of is)
-    → tokens_of os ≡ value v ∷ symbol Bar ∷ word called.filter ∷ arguments xs
+    → tokens_of os ≡ as_it_is l (value v ∷ symbol Bar ∷ word called.filter ∷ arguments xs)
     → IsStatement l x (pieces.tag w is) (begins (of_one (Host n) (through_call call))) ↔
     IsStatement l x (pieces.output os) (leaf (output (record { entry = v; filters = call ∷ [] })))
 

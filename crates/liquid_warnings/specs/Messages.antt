@@ -15,6 +15,10 @@ lack_message words name (Some similar) = words ++ (codes " `" ++ (quotation name
 abbrev pub unused_message : Text → Text
 unused_message name = codes "`" ++ (quotation name ++ codes "` is set here, and nothing reads it")
 
+abbrev pub escaped_twice_message : Text → Text
+escaped_twice_message name = codes "the outputs in the captured `" ++ (quotation name
+    ++ codes "` are escaped already; end this one with `| raw`")
+
 abbrev pub recursive_message : Text → Text
 recursive_message name = codes "the partial `" ++ (quotation name
     ++ codes "` runs itself from here; a run ends where partials are 32 deep")

@@ -11,6 +11,7 @@ mod differences;
 mod doubt;
 mod doubts;
 mod else_if;
+mod escaped_twice;
 mod html_place;
 pub mod laws;
 mod literals;

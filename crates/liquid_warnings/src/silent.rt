@@ -58,7 +58,9 @@ fn has_similar(message: &str) -> bool
 /// Whether a filter gets the value of the node that a remark is about.
 fn is_filtered_at(remark: &Remark, nodes: &[Node], positions: &[Position]) -> bool {
     for (node, position) in nodes.iter().zip(positions) {
-        let is_there = position.line as usize == remark.line
+        // an escaped output stands in a node that begins where it does
+        let is_there = !matches!(node, Node::Filtered(_, _))
+            && position.line as usize == remark.line
             && position.column as usize == remark.column;
         if is_there {
             return match printed_chain(node) {

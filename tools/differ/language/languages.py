@@ -11,7 +11,8 @@ from .tags import TAGS, jekyll_include
 class Language:
     """The readers of tags by their names, how many arguments each filter takes, from the data the filters of a run, and the names of tags
     that begin with a path without quotes. It drops the white space of blocks that write nothing, or doesn't. By their names it has the
-    filters of blocks whose tag is one text or has items, and those of tags of a host, with the variable that is the input of one with items."""
+    filters of blocks whose tag is one text or has items, and those of tags of a host, with the variable that is the input of one with items. It escapes what outputs and `cycle`
+    write, or doesn't."""
 
     tags: dict
     counts: dict
@@ -22,6 +23,7 @@ class Language:
     text_tags: dict = field(default_factory=dict)
     item_blocks: dict = field(default_factory=dict)
     item_tags: dict = field(default_factory=dict)
+    escapes: bool = False
 
 
 def counts_of(filters):
@@ -44,6 +46,7 @@ STANDARD = Language(TAGS, counts_of(FILTERS), lambda data: STANDARD_FUNCTIONS)
 STANDARD_FUNCTIONS = functions_of(FILTERS)
 LANGUAGES = {
     None: STANDARD,
+    "escaped": replace(STANDARD, escapes=True),
     "jekyll": language_with({"include": jekyll_include}, jekyll_filters.filters_over, ("include",), {"highlight": "highlight"}),
     "shopify": replace(
         language_with({}, shopify_filters.filters_over),

@@ -3,9 +3,11 @@ from .faults import Fault
 from .items import Items
 from .lexer import Reader
 from .tags import BLOCKS, VERBATIM, when
-from .tree import Chain, Filtered, Literal, Output, Raw, Text, Variable
+from .tree import Call, Chain, Cycle, Filtered, Literal, Output, Raw, Symbol, Text, Variable
 
 MOST_BLOCKS = 200
+# what ends an output that isn't escaped
+RAW = [Symbol("|"), Variable("raw")]
 
 
 def parse(source, language):
@@ -45,9 +47,10 @@ class Parser:
     def node(self, piece, depth):
         items = self.items(piece)
         if piece.opener == "{{":
-            return Output(items.chain())
+            return self.output(piece)
         if piece.name in self.language.tags:
-            return self.language.tags[piece.name](items)
+            node = self.language.tags[piece.name](items)
+            return self.shown(node) if isinstance(node, Cycle) else node
         if piece.name in self.language.text_tags:
             return Output(Chain(Literal(None, "nil"), [items.host_call(piece.name)]))
         if piece.name in self.language.item_tags:
@@ -63,6 +66,16 @@ class Parser:
         node = BLOCKS[piece.name](items)
         getattr(self, f"fill_{piece.name}")(node, depth + 1)
         return node
+
+    def output(self, piece):
+        """A chain, and where the language escapes perhaps `| raw` after it."""
+        if self.language.escapes and piece.items[-2:] == RAW:
+            return Output(Items(piece.items[:-2], self.language.counts).chain())
+        return self.shown(Output(self.items(piece).chain()))
+
+    def shown(self, node):
+        """The node, whose text goes through `escape` where the language escapes."""
+        return Filtered(Call("escape", []), [node]) if self.language.escapes else node
 
     def verbatim(self, name, items, depth):
         """A raw or a comment: its body is read first, where its tag has no items."""

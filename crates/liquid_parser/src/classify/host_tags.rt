@@ -83,7 +83,7 @@ fn read_call(
 }
 
 /// A list of the filter alone.
-fn alone(alloc: Global, filter: ChainFilter) -> Result<Vec<ChainFilter>, ParseError>
+pub(super) fn alone(alloc: Global, filter: ChainFilter) -> Result<Vec<ChainFilter>, ParseError>
     ensures filters { IfOk result (λ filters. filters.items ≡ filter ∷ []) }
     ensures memory { IfErr result (λ e. e ≡ ParseError.Memory) }
 {
