@@ -42,6 +42,7 @@ def calls(folder):
     return {
         "a language": lambda: type(Language()).__name__,
         "jekyll's language": lambda: type(Language(jekyll=True)).__name__,
+        "jekyll's filters": lambda: type(Language(site=("http://x.org", "/b"))).__name__,
         "a template": lambda: Template(SOURCE).source,
         "data": lambda: type(Data(DATA)).__name__,
         "data of other values": lambda: type(Data({"a": 1.5, "b": [{"c": b""}]}, decimals="text", default=repr)).__name__,
