@@ -8,7 +8,7 @@ from typing import Any, TypeVar, overload
 from ._filters import Filters, Function, Site, Tag, arity, filter_of
 from ._library import library
 from ._owner import Owner, listed, utf8
-from .errors import refused
+from .errors import NO_TEXT, refused
 
 # a function that a decorator hands back as it is
 Called = TypeVar("Called", bound=Function)
@@ -185,10 +185,12 @@ def _checked(site: Any) -> Site | None:
         return None
     if not isinstance(site, tuple) or len(site) != 2 or not all(isinstance(it, str) for it in site):
         raise TypeError(f"site is {site!r}, and two texts are wanted: ('https://example.org', '/blog')")
-    for part in site:
-        utf8(part)
-    found: Site = site
-    return found
+    address, base = site
+    try:
+        (address + base).encode()
+    except UnicodeEncodeError:
+        raise refused(NO_TEXT) from None
+    return address, base
 
 
 def _language(jekyll: bool, filters: Mapping[str, Function], tags: Mapping[str, Tag], site: Site | None) -> Language:
