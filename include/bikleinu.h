@@ -233,11 +233,11 @@ uint32_t bikleinu_data_for(const uint8_t *json, size_t length, bikleinu_handle *
  * caller reads the calls, puts the answers into the table and renders again. A table is kept for further pages, which mostly need no
  * second run. So a filter is to be a function of its input and arguments: it isn't asked again what the table has. */
 
-/* Makes a table without filters and answers. */
+/* Makes a table without filters, answers and a site. */
 uint32_t bikleinu_answers(bikleinu_handle *made);
 
 /* Adds a filter to a table by its name, unless it is there. After anything but 0 nothing changed. A page that calls a registered filter
- * which the table hasn't ends by BIKLEINU_UNSUPPORTED. */
+ * which the table hasn't ends by BIKLEINU_UNSUPPORTED, but for Jekyll's own over a site (below). */
 uint32_t bikleinu_answers_filter(bikleinu_handle *answers, const uint8_t *name, size_t length);
 
 /* Puts a site into a table, in place of the one before: its address, as "https://example.org", and its base path, as "/blog", or no bytes.
