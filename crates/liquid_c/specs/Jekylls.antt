@@ -1,5 +1,5 @@
 -- Jekyll's filters, which the library answers itself.
-use Rattle.std.specs.Prelude.{◌≡◌, ℕ, List, [], ◌∷◌, Option, Some, None, ⊤, ⊥}
+use Rattle.std.specs.Prelude.{◌≡◌, ℕ, List, [], ◌∷◌, Option, Some}
 use Rattle.std.specs.Str.{IsUtf8}
 use Rattle.liquid_model.specs.Data.{Datum}
 use Rattle.liquid_model.specs.ErrorKinds.{number_of}
