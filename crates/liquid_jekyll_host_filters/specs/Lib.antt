@@ -4,6 +4,7 @@ pub mod Groups
 pub mod Highlight
 pub mod Json
 pub mod Laws
+pub mod Named
 pub mod Numbers
 pub mod Properties
 pub mod Searches

@@ -8,6 +8,7 @@ mod highlight;
 mod highlight_markup;
 mod json;
 pub mod laws;
+mod named;
 mod numbers;
 mod percent;
 mod properties;
