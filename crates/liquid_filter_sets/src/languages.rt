@@ -62,6 +62,7 @@ fn register_highlight(alloc: Global, language: &mut Language) -> Result<()>
     let block = HostBlock {
         filter,
         style: Style::Text,
+        given: Vec::new(alloc),
     };
     match language.register_block(alloc, name, block) {
         Ok(()) => Ok(()),

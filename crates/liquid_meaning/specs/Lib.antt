@@ -2,6 +2,7 @@ pub mod Assigning
 pub mod Effects
 pub mod FilterNeeds
 pub mod FreeNames
+pub mod GivenValues
 pub mod Isolation
 pub mod Laws
 pub mod Lenient

@@ -12,4 +12,7 @@ returns-clause-standard c = record {
   include_paths = search rules;
   drops_blanks = search rules;
   host_tags = search rules;
+  host_calls = search rules;
+  host_blocks = search rules;
+  host_ends = search rules;
 }
