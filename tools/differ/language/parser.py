@@ -3,7 +3,7 @@ from .faults import Fault
 from .items import Items
 from .lexer import Reader
 from .tags import BLOCKS, VERBATIM, when
-from .tree import Filtered, Output, Raw, Text
+from .tree import Chain, Filtered, Literal, Output, Raw, Text
 
 MOST_BLOCKS = 200
 
@@ -15,7 +15,7 @@ def parse(source, language):
 
 class Parser:
     def __init__(self, source, language):
-        self.reader = Reader(source, language.path_tags, language.text_blocks)
+        self.reader = Reader(source, language.path_tags, {*language.text_blocks, *language.text_tags})
         self.language = language
         # the name of the tag that ended the last list of nodes, with its items
         self.ended_by = None
@@ -49,6 +49,8 @@ class Parser:
             return self.language.tags[piece.name](items)
         if piece.name in VERBATIM:
             return self.verbatim(piece.name, items, depth)
+        if piece.name in self.language.text_tags:
+            return Output(Chain(Literal(None, "nil"), [items.host_call(piece.name, self.language.text_tags[piece.name])]))
         if piece.name not in BLOCKS and piece.name not in self.language.text_blocks:
             raise Fault("UnknownTag")
         require_room(depth)
