@@ -86,6 +86,10 @@ enum {
     BIKLEINU_NO_SUCH_CALL = 107,   /* no call of this number behind the handle */
     BIKLEINU_SHARED_HANDLE = 108,  /* a change of what another handle shares */
     BIKLEINU_NO_SUCH_MISSING = 109, /* a number that says nothing of missing values */
+    BIKLEINU_NO_WORD = 110,        /* a tag's name that is no word: a letter or _, then letters, digits, _ and - */
+    BIKLEINU_RESERVED_NAME = 111,  /* a tag's name that blocks have a use of: else, elsif, when, and what begins with end */
+    BIKLEINU_TAKEN_NAME = 112,     /* a tag's name at which the language has a tag or a block of its own */
+    BIKLEINU_NO_SUCH_STYLE = 113,  /* a number that is no style */
 
     /* of a page that a limit of the caller's ended: it holds the text up to there, and a fault of the kind Write (18) */
     BIKLEINU_BYTES_REACHED = 104,
@@ -98,14 +102,36 @@ enum {
 /* Makes the standard language. */
 uint32_t bikleinu_language(bikleinu_handle *made);
 
-/* Makes Jekyll's language: the standard one with Jekyll's include and sort in place of its own, and without the white space of blocks
-   that write nothing. */
+/* Makes Jekyll's language: the standard one with Jekyll's include and sort in place of its own, with its block highlight (as it is where no
+ * highlighter is set), and without the white space of blocks that write nothing. The filter of highlight is "{% highlight %}", which the
+ * library answers itself, unless a table has a filter of this name. */
 uint32_t bikleinu_jekyll_language(bikleinu_handle *made);
 
 /* Registers a filter of the caller's in a language, by its name, with the least and the greatest number of arguments that a template may
  * give it. What the name stood for before is forgotten. After anything but 0 nothing changed. What the filter answers, a table tells
  * (below): a page without one ends by BIKLEINU_UNSUPPORTED where it calls the filter. */
 uint32_t bikleinu_register(bikleinu_handle *language, const uint8_t *name, size_t length, size_t least, size_t most);
+
+/* How what stands after the name of a tag of the caller's is read. */
+enum {
+    BIKLEINU_STYLE_ITEMS = 0, /* as values, with commas between them or none */
+    BIKLEINU_STYLE_PATH = 1,  /* as a path without quotes, and then values */
+    BIKLEINU_STYLE_TEXT = 2   /* all of it as one text, up to the first closer; as no value where nothing stands there */
+};
+
+/* Registers a tag of the caller's in a language: {% name a, b %} writes what the filter answers to nil as its input and the values a and
+ * b as its arguments. The filter is one of the caller's, which bikleinu_register gives the language under that name, before or after;
+ * where it has none, or one that doesn't take so many arguments, such a tag is refused (BIKLEINU_UNKNOWN_FILTER,
+ * BIKLEINU_FILTER_ARGUMENTS). A filter's name that is no word, as "{% name %}", no template calls but by its tag. What the caller had
+ * registered at the tag's name is forgotten. A bad style is answered first, then bytes that are no UTF-8, then a refused name. After
+ * anything but 0 nothing changed. */
+uint32_t bikleinu_register_tag(bikleinu_handle *language, const uint8_t *name, size_t length, const uint8_t *filter, size_t filter_length,
+                               uint32_t style);
+
+/* Registers a block in the same way: {% name a, b %}body{% endname %} writes what the filter answers to the text that the body writes as
+ * its input, and to the values. A block without its end is BIKLEINU_MISSING_END. */
+uint32_t bikleinu_register_block(bikleinu_handle *language, const uint8_t *name, size_t length, const uint8_t *filter, size_t filter_length,
+                                 uint32_t style);
 
 /* Parses the source of a template in a language. The template doesn't need the language any more, or the source. It keeps a copy of a source
  * of at most 1 MiB, so that the fault of a run stands at its item, and else at the output or the tag. */

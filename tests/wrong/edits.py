@@ -53,6 +53,8 @@ def read_edit(file):
                 raise Unfit("a line new: before its lines file: and old:")
             pairs.append((named["file"], old, line.removeprefix("new:").removeprefix(" ")))
             old = None
+        elif line:
+            raise Unfit(f"a line that begins with none of file:, goal:, by:, old: and new:: {line[:60]}")
     if not pairs:
         raise Unfit("it has no pair of lines old: and new:")
     return Edit(file, tuple(pairs), named["goal"], named["by"])

@@ -63,6 +63,8 @@ def _loaded() -> Any:
         "language": ([handle], number),
         "jekyll_language": ([handle], number),
         "register": ([handle, text, size, size, size], number),
+        "register_tag": ([handle, text, size, text, size, number], number),
+        "register_block": ([handle, text, size, text, size, number], number),
         "parse": ([handle, text, size, handle], number),
         "data": ([text, size, handle], number),
         "partials": ([handle], number),

@@ -7,7 +7,7 @@ from dataclasses import replace
 from datetime import tzinfo
 from typing import Any, Union, overload
 
-from ._filters import Function
+from ._filters import Function, Tag
 from ._folder import FolderPartials
 from ._owner import listed, new_lock, whole
 from ._settings import Missing, Settings, missing_of
@@ -108,6 +108,27 @@ class Environment:
         """Makes a filter of the function that follows, under this name or its own, for what is parsed from now on."""
         return self._language.filter(name)
 
+    @overload
+    def tag(self, name: Called) -> Called: ...
+
+    @overload
+    def tag(self, name: str | None = None, *, style: str = "items") -> Callable[[Called], Called]: ...
+
+    def tag(self, name: Any = None, *, style: str = "items") -> Any:
+        """Makes a tag of the function that follows, under this name or its own (as of Language.add_tag), for what is parsed from now
+        on."""
+        return self._language.tag(name, style=style)
+
+    @overload
+    def block(self, name: Called) -> Called: ...
+
+    @overload
+    def block(self, name: str | None = None, *, style: str = "items") -> Callable[[Called], Called]: ...
+
+    def block(self, name: Any = None, *, style: str = "items") -> Any:
+        """Makes a block of the function that follows, which gets the text of the body first (as of Language.add_block)."""
+        return self._language.block(name, style=style)
+
     def from_string(self, source: str) -> Template:
         """The template of a source."""
         return Template._of(source, self._language, self._with_partials(), self.from_string)
@@ -133,11 +154,14 @@ class Environment:
         named.update(missing=usual.missing, depth=usual.depth, levels=usual.levels, max_bytes=usual.max_bytes)
         named.update(max_turns=usual.max_turns, max_rounds=usual.max_rounds)
         named.update(decimals=how.decimals, dates=how.dates, default=how.default)
-        return _environment, (named,)
+        return _environment, (named, self._language._filters.tags)
 
 
-def _environment(named: dict[str, Any]) -> Environment:
-    return Environment(**named)
+def _environment(named: dict[str, Any], tags: Mapping[str, Tag]) -> Environment:
+    made = Environment(**named)
+    for name, tag in tags.items():
+        made._language._add_tag(name, tag)
+    return made
 
 
 def _checked(partials: Any) -> Any:

@@ -5,13 +5,15 @@ import threading
 from collections.abc import Callable, Iterator, Mapping
 from typing import Any, TypeVar, overload
 
-from ._filters import Filters, Function, arity
+from ._filters import Filters, Function, Tag, arity, filter_of
 from ._library import library
 from ._owner import Owner, listed, utf8
 from .errors import refused
 
 # a function that a decorator hands back as it is
 Called = TypeVar("Called", bound=Function)
+# how what stands after the name of a tag is read, by the numbers of the library for C
+_STYLES = {"items": 0, "path": 1, "text": 2}
 
 
 class Functions(Mapping[str, Function]):
@@ -38,8 +40,8 @@ class Functions(Mapping[str, Function]):
 
 class Language(Owner):
     """The standard language: its tags, blocks and filters. With jekyll=True it has the tag include and the filter sort of Jekyll in
-    place of the standard ones, and drops the white space of blocks that write nothing. filters are functions in Python by their names,
-    which templates call as any other."""
+    place of the standard ones and its block highlight, and drops the white space of blocks that write nothing. filters are functions in
+    Python by their names, which templates call as any other."""
 
     def __init__(self, *, jekyll: bool = False, filters: Mapping[str, Function] | None = None) -> None:
         super().__init__()
@@ -95,15 +97,84 @@ class Language(Owner):
                 raise refused(answer)
             self._filters.add(name, function)
 
+    @overload
+    def tag(self, name: Called) -> Called: ...
+
+    @overload
+    def tag(self, name: str | None = None, *, style: str = "items") -> Callable[[Called], Called]: ...
+
+    def tag(self, name: Any = None, *, style: str = "items") -> Any:
+        """Makes a tag of the function that follows, under this name or its own, which needs no parentheses:
+
+            >>> import bikleinu
+            >>> language = bikleinu.Language()
+            >>> @language.tag
+            ... def link(path, text="here"):
+            ...     return f'<a href="/{path}">{text}</a>'
+            >>> bikleinu.Template("{% link 'tea', 'Tea' %}", language).render()
+            '<a href="/tea">Tea</a>'
+        """
+        return self._decorator(self.add_tag, name, style)
+
+    @overload
+    def block(self, name: Called) -> Called: ...
+
+    @overload
+    def block(self, name: str | None = None, *, style: str = "items") -> Callable[[Called], Called]: ...
+
+    def block(self, name: Any = None, *, style: str = "items") -> Any:
+        """Makes a block of the function that follows, as tag makes a tag: it gets the text of the body first."""
+        return self._decorator(self.add_block, name, style)
+
+    def _decorator(self, add: Callable[..., None], name: Any, style: str) -> Any:
+        if callable(name):
+            return self._decorator(add, None, style)(name)
+
+        def added(function: Called) -> Called:
+            add(function.__name__ if name is None else name, function, style)
+            return function
+
+        return added
+
+    def add_tag(self, name: str, function: Function, style: str = "items") -> None:
+        """Adds a tag, in place of any other of that name that was added, for what is parsed from now on: `{% name a, b %}` writes what
+        the function answers to the values a and b. The rules of functions are those of add_filter.
+
+        In the style "items" there are commas between values, or none; in the style "path" the first one is a path without quotes, and
+        in the style "text" all that stands there is one text, and no value where nothing does. A name that is no word, that a block has
+        a use of (as else, and what begins with end) or that is one of the language's own tags and blocks is refused."""
+        self._add_tag(name, Tag(function, style, False))
+
+    def add_block(self, name: str, function: Function, style: str = "items") -> None:
+        """Adds a block, as add_tag adds a tag, which ends with `end` and its name. The function gets the text of the body, and then the
+        values."""
+        self._add_tag(name, Tag(function, style, True))
+
+    def _add_tag(self, name: str, tag: Tag) -> None:
+        if tag.style not in _STYLES:
+            raise ValueError(f"style is {tag.style!r}, and 'items', 'path' or 'text' is wanted")
+        least, most = arity(tag.function, tag.is_block)
+        text, called = utf8(name), utf8(filter_of(name))
+        register = library.bikleinu_register_block if tag.is_block else library.bikleinu_register_tag
+        with self._lock:
+            answer = library.bikleinu_register(self._handle, called, len(called), least, most)
+            answer = answer or register(self._handle, text, len(text), called, len(called), _STYLES[tag.style])
+            if answer:
+                raise refused(answer)
+            self._filters.add_tag(name, tag)
+
     def __reduce__(self) -> Any:
-        return _language, (self._jekyll, self._filters.functions)
+        return _language, (self._jekyll, self._filters.functions, self._filters.tags)
 
     def __repr__(self) -> str:
         return f"<bikleinu.Language{', jekyll' if self._jekyll else ''}{listed(', filters', self.filters)}>"
 
 
-def _language(jekyll: bool, filters: Mapping[str, Function]) -> Language:
-    return Language(jekyll=jekyll, filters=filters)
+def _language(jekyll: bool, filters: Mapping[str, Function], tags: Mapping[str, Tag]) -> Language:
+    made = Language(jekyll=jekyll, filters=filters)
+    for name, tag in tags.items():
+        made._add_tag(name, tag)
+    return made
 
 
 class _Shared(threading.local):

@@ -114,7 +114,7 @@ class Template(Shared):
                     answer = library.bikleinu_render_with(*given, depth, limits, table._handle, page._handle)
             return answer
 
-        if self._filters and self._filters.functions:
+        if self._filters:
             page = self._asking(render)
         else:
             made = Owner()

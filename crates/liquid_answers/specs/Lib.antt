@@ -1,4 +1,5 @@
 pub mod Answering
 pub mod Lacking
+pub mod Own
 pub mod Tables
 pub mod inside

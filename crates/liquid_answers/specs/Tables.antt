@@ -13,9 +13,9 @@ use Rattle.liquid_model.specs.Order.{order}
 use Rattle.liquid_model.specs.View.{items_of, view}
 use Rattle.liquid_model.specs.declared.error.ErrorKind.{ErrorKind}
 use Rattle.liquid_model.specs.declared.error.ErrorKind.TheVariants.{InvalidInput, Memory}
-use Rattle.liquid_model.specs.declared.error.ErrorKind.TheVariants.{Unsupported}
 use Rattle.liquid_model.specs.declared.value.Value.{Value}
 use Rattle.liquid_model.specs.FilterAnswers.{FilterAnswer}
+use Rattle.liquid_answers.specs.Own.{own_answers}
 use Rattle.liquid_answers.specs.declared.answers.Answer.{Answer}
 use Rattle.liquid_answers.specs.declared.answers.Answer.TheVariants as kept
 use Rattle.liquid_answers.specs.declared.answers.Answers.{Answers}
@@ -69,7 +69,7 @@ abbrev pub table_answer : Bool → Answers → Text → FilterAnswer
 table_answer is_asking table name input args =
     said_or (stand_in is_asking) (answer_at table (call_datum name input args))
 
--- by name, where the table has the filter
+-- by name, where the table has the filter;  else as a filter that needs no table
 abbrev pub answers_by : Bool → Answers → Text → FilterAnswer
 answers_by is_asking table name input args = cond (is_listed_filter name (filter_names table))
-    (table_answer is_asking table name input args) (Err Unsupported)
+    (table_answer is_asking table name input args) (own_answers name input args)

@@ -26,3 +26,4 @@ mod register;
 mod render;
 mod share;
 mod tables;
+mod tags;

@@ -1,7 +1,7 @@
 //! The files that a call of `check` names.
-use crate::file_id::{FileId, file_id, is_folder, is_inside};
+use crate::file_id::{FileId, file_id, is_inside};
 use liquid_commands::{CheckCall, Stop, files_below, print_left_out};
-use liquid_files::{LeftOut, PartialNames, ShownPath, joined_path, named_file};
+use liquid_files::{LeftOut, PartialNames, ShownPath, is_folder, joined_path, named_file};
 use std::alloc::AllocError;
 use std::collections::BTreeMap;
 

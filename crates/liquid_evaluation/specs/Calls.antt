@@ -12,16 +12,16 @@ use Rattle.liquid_core.specs.Environment.{Environment}
 use Rattle.liquid_core.specs.Expressions.{required, value_of}
 
 -- the value of an argument, where the next n are required; nil where it isn't, and is missing
-abbrev pub argument_of : ℕ → Expression → Environment → Result Datum ErrorKind
-argument_of zero x e = Ok (unwrap_or (value_of x e) nil)
-argument_of (suc n) x e = required x e
+abbrev pub taken_argument : ℕ → Expression → Environment → Result Datum ErrorKind
+taken_argument zero x e = Ok (unwrap_or (value_of x e) nil)
+taken_argument (suc n) x e = required x e
 
 -- the values of arguments, from left to right, of which the first n are required
-unfoldable pub arguments_of : ℕ → List Expression → Environment → Result (List Datum) ErrorKind
-arguments_of n [] e = Ok []
-arguments_of n (x ∷ xs) e = do
-  d ← argument_of n x e
-  ds ← arguments_of (n - 1) xs e
+unfoldable pub taken_arguments : ℕ → List Expression → Environment → Result (List Datum) ErrorKind
+taken_arguments n [] e = Ok []
+taken_arguments n (x ∷ xs) e = do
+  d ← taken_argument n x e
+  ds ← taken_arguments (n - 1) xs e
   Ok (d ∷ ds)
 
 -- what a filter answers to an input and arguments, the arguments of the call, and how many of them
@@ -35,7 +35,7 @@ pub record Call : Type 0 where
 unfoldable pub applied : List Call → Datum → Environment → Result Datum ErrorKind
 applied [] d e = Ok d
 applied (call ∷ calls) d e = do
-  arguments ← arguments_of call.required call.arguments e
+  arguments ← taken_arguments call.required call.arguments e
   answer ← call.answers d arguments
   applied calls answer e
 

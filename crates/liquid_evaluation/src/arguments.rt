@@ -5,7 +5,7 @@ ghost use Rattle.liquid_model.specs.Cow.{cow_view};
 ghost use Rattle.liquid_model.specs.View.{view};
 ghost use Rattle.liquid_core.specs.ExpressionView.{expression_view};
 ghost use Rattle.liquid_core.specs.States.{environment_of};
-ghost use Rattle.liquid_evaluation.specs.Calls.{argument_of, arguments_of};
+ghost use Rattle.liquid_evaluation.specs.Calls.{taken_argument, taken_arguments};
 ghost use Rattle.liquid_evaluation.specs.inside.Arguments.{arguments_view};
 
 use liquid_core::{DirectValue, Expression, Result, State, Value, ValueCow};
@@ -48,7 +48,7 @@ pub(crate) fn borrowed_arguments<'x>(
     state: &'x State<'_>,
 ) -> Option<&'x [Value]>
     ensures values { (n : ℕ) → IfSome result (λ values.
-        arguments_of n (map expression_view expressions.now) (environment_of state.now) ≡
+        taken_arguments n (map expression_view expressions.now) (environment_of state.now) ≡
         Ok (map view values.now)) }
     ensures count { IfSome result (λ values. length values.now ≡ length expressions.now) }
 {
@@ -70,7 +70,8 @@ pub(crate) fn evaluate_all<'x>(
     state: &'x State<'_>,
 ) -> Result<Arguments<'x>>
     ensures values { Answers arguments_view result
-        (arguments_of required (map expression_view expressions.now) (environment_of state.now)) }
+        (taken_arguments required (map expression_view expressions.now)
+        (environment_of state.now)) }
     ensures count { IfOk result (λ a. length (arguments_view a) ≡ length expressions.now) }
 {
     match expressions {
@@ -92,7 +93,8 @@ fn evaluate_each(
     state: &State<'_>,
 ) -> Result<Vec<Value>>
     ensures values { Answers (λ v. map view v.items) result
-        (arguments_of required (map expression_view expressions.now) (environment_of state.now)) }
+        (taken_arguments required (map expression_view expressions.now)
+        (environment_of state.now)) }
     ensures count { IfOk result (λ v. length v.items ≡ length expressions.now) }
 {
     let mut values = Vec::with_capacity(alloc, expressions.len())?;
@@ -113,7 +115,7 @@ fn argument<'x>(
     state: &'x State<'_>,
 ) -> Result<ValueCow<'x>>
     ensures { Answers cow_view result
-        (argument_of required (expression_view expression.now) (environment_of state.now)) }
+        (taken_argument required (expression_view expression.now) (environment_of state.now)) }
 {
     if required > 0 {
         return expression.evaluate(alloc, state);

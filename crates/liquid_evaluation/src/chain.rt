@@ -207,11 +207,12 @@ impl FilterChain {
     /// The value of the chain: that of its entry, through its filters in order.
     ///
     /// A missing entry is nil before a filter, and `UnknownVariable` without one; so is a missing
-    /// argument of a filter that is required. Both are nil where a missing value is nil in this state, and there a
-    /// filter may be given something in the place of a nil that it refuses (`ChainFilter::apply`).
-    /// A filter's fault ends the chain, and its message begins with the filter's name, as does that
-    /// of an argument. A filter of the host is `Unsupported` where `host` has none of its name that
-    /// takes the number of arguments in the chain. `Memory` where a growth was refused.
+    /// argument of a filter that is required. Both are nil where a missing value is nil in this
+    /// state, and there a filter may be given something in the place of a nil that it refuses
+    /// (`ChainFilter::apply`). A filter's fault ends the chain, and its message begins with the
+    /// filter's name, as does that of an argument. A filter of the host is `Unsupported` where
+    /// `host` has none of its name that takes the number of arguments in the chain. `Memory` where
+    /// a growth was refused.
     pub fn evaluate(
         &self,
         alloc: Global,

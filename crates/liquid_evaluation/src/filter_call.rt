@@ -23,8 +23,8 @@ pub struct FilterCall<'c, F> {
 /// The value that the entry becomes through the filters, in order. The arguments of each are taken
 /// from left to right.
 ///
-/// A missing argument that is required is `UnknownVariable`, and a filter's fault ends the chain. `Memory` where a
-/// growth was refused.
+/// A missing argument that is required is `UnknownVariable`, and a filter's fault ends the chain.
+/// `Memory` where a growth was refused.
 /// Each filter has to accept the number of its arguments. Without calls the answer is the entry,
 /// which takes no memory.
 pub fn apply_filters<F: Filter>(
@@ -35,8 +35,8 @@ pub fn apply_filters<F: Filter>(
 ) -> Result<Value>
     requires { All (λ c. IsTrue (F.counts c.filter (length c.args.now))) calls.now }
     ensures value { AnswersIf (list_all (λ c. F.within c.filter) calls.now) view result
-        (applied (map (λ c. call_of (F.answer c.filter) c.args.now c.required) calls.now) (view entry)
-        (environment_of state.now)) }
+        (applied (map (λ c. call_of (F.answer c.filter) c.args.now c.required) calls.now)
+        (view entry) (environment_of state.now)) }
     ensures no_memory { calls.now ≡ [] → IsOk result }
 {
     apply_to(alloc, ValueCow::Owned(entry), calls, state)?.into_owned(alloc)

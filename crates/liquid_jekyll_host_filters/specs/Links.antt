@@ -24,21 +24,21 @@ abbrev pub text_or_empty : Datum → Text
 text_or_empty (text s) = s
 text_or_empty d = []
 
-abbrev pub text_at : Text → Datum → Text
-text_at name d = text_or_empty (map_member name d)
+abbrev pub member_text_or_none : Text → Datum → Text
+member_text_or_none name d = text_or_empty (map_member name d)
 
 -- the first text that isn't empty, or else the other
-abbrev pub or_else : Text → Text → Text
-or_else [] t = t
-or_else (b ∷ s) t = b ∷ s
+abbrev pub or_text : Text → Text → Text
+or_text [] t = t
+or_text (b ∷ s) t = b ∷ s
 
 -- where it stands in the folder of the site
 abbrev pub item_path : Datum → Text
-item_path d = or_else (text_at (codes "relative_path") d) (text_at (codes "path") d)
+item_path d = or_text (member_text_or_none (codes "relative_path") d) (member_text_or_none (codes "path") d)
 
 -- its URL; a file that has none stays where it stands
 abbrev pub item_url : Datum → Text
-item_url d = or_else (text_at (codes "url") d) (item_path d)
+item_url d = or_text (member_text_or_none (codes "url") d) (item_path d)
 
 -- ---- which of them is meant
 
@@ -48,8 +48,8 @@ is_page_at sought [] = false
 is_page_at sought (b ∷ p) = bytes_eq (b ∷ p) sought || (b == 47 && bytes_eq p sought)
 
 -- what stands after a text at the front
-abbrev pub after : Text → Text → Option Text
-after front s = if starts_with nat_eq s front then Some (drop (length front) s) else None
+abbrev pub past_front : Text → Text → Option Text
+past_front front s = if starts_with nat_eq s front then Some (drop (length front) s) else None
 
 -- a dot, and after it another byte
 abbrev pub begins_extension : Text → Bool
@@ -63,7 +63,8 @@ is_extension (Some s) = begins_extension s
 -- the two folders, one in the other, the name, and an extension
 abbrev pub is_file : Text → Text → Text → Text → Bool
 is_file outer inner name p =
-    is_extension (option_and_then (after name) (option_and_then (after inner) (after outer p)))
+    is_extension (option_and_then (past_front name)
+    (option_and_then (past_front inner) (past_front outer p)))
 
 -- a post of the name in the folder, below `_posts` or above it
 abbrev pub is_post_at : Text → Text → Text → Bool
@@ -76,14 +77,14 @@ is_sought (Post folder name) = is_post_at folder.now name.now
 
 -- ---- the search
 
-abbrev pub first_item : (Text → Bool) → List Datum → Option Datum
-first_item meant [] = None
-first_item meant (d ∷ ds) = if meant (item_path d) then Some d else first_item meant ds
+abbrev pub first_meant : (Text → Bool) → List Datum → Option Datum
+first_meant meant [] = None
+first_meant meant (d ∷ ds) = if meant (item_path d) then Some d else first_meant meant ds
 
 -- what is no list has no items
-abbrev pub first_of : (Text → Bool) → Datum → Option Datum
-first_of meant (array ds) = first_item meant (list_of ds)
-first_of meant d = None
+abbrev pub meant_in : (Text → Bool) → Datum → Option Datum
+meant_in meant (array ds) = first_meant meant (list_of ds)
+meant_in meant d = None
 
 abbrev pub or_first : Option Datum → Option Datum → Option Datum
 or_first None o = o
@@ -92,7 +93,7 @@ or_first (Some d) o = Some d
 -- list after list
 abbrev pub first_in : (Text → Bool) → List Datum → Option Datum
 first_in meant [] = None
-first_in meant (d ∷ ds) = or_first (first_of meant d) (first_in meant ds)
+first_in meant (d ∷ ds) = or_first (meant_in meant d) (first_in meant ds)
 
 -- ---- the answers
 
@@ -101,12 +102,12 @@ abbrev pub led_to : Text → Option Datum → Answer
 led_to base None = Err InvalidArgument
 led_to base (Some d) = site_url [] base (text (item_url d))
 
-abbrev pub is_no_slash : ℕ → Bool
-is_no_slash b = not (b == 47)
+abbrev pub in_file_name : ℕ → Bool
+in_file_name b = not (b == 47)
 
 -- how many bytes stand before the name that a path ends with
 abbrev pub folder_len : Text → ℕ
-folder_len s = length s - suffix_len is_no_slash s
+folder_len s = length s - suffix_len in_file_name s
 
 abbrev pub without_first_slash : Text → Text
 without_first_slash [] = []

@@ -13,8 +13,8 @@ use crate::urls::site_url;
 use liquid_model::{Result, Value, invalid_argument, text_of};
 use std::alloc::Global;
 
-/// `feed_meta`: the element `<link>` that leads to the feed of the site, by the `path` of the feed's
-/// settings, or else `feed.xml`, and the title or the name of the site.
+/// `feed_meta`: the element `<link>` that leads to the feed of the site, by the `path` of the
+/// feed's settings, or else `feed.xml`, and the title or the name of the site.
 ///
 /// `InvalidArgument` with fewer arguments.
 pub(crate) fn feed_meta(

@@ -5,12 +5,13 @@ ghost use Rattle.std.specs.Prelude.{◌≡◌, ◌≤◌, length, map, option_ma
 ghost use Rattle.liquid_model.specs.Answer.{Answers};
 ghost use Rattle.liquid_model.specs.Lists.{list_of};
 ghost use Rattle.liquid_model.specs.View.{items_view, view};
-ghost use Rattle.liquid_jekyll_host_filters.specs.Links.{after, begins_extension, first_in};
-ghost use Rattle.liquid_jekyll_host_filters.specs.Links.{first_item, first_of, is_file};
-ghost use Rattle.liquid_jekyll_host_filters.specs.Links.{is_no_slash, is_page_at, is_post_at};
+ghost use Rattle.liquid_jekyll_host_filters.specs.Links.{past_front, begins_extension, first_in};
+ghost use Rattle.liquid_jekyll_host_filters.specs.Links.{first_meant, meant_in, is_file};
+ghost use Rattle.liquid_jekyll_host_filters.specs.Links.{in_file_name, is_page_at, is_post_at};
 ghost use Rattle.liquid_jekyll_host_filters.specs.Links.{is_sought, item_path, item_url, led_to};
 ghost use Rattle.liquid_jekyll_host_filters.specs.Links.{link_answer, named_post_url, page_url};
-ghost use Rattle.liquid_jekyll_host_filters.specs.Links.{post_named, post_url_answer, text_at};
+ghost use Rattle.liquid_jekyll_host_filters.specs.Links.{member_text_or_none, post_named};
+ghost use Rattle.liquid_jekyll_host_filters.specs.Links.{post_url_answer};
 ghost use Rattle.liquid_jekyll_host_filters.specs.Links.{without_first_slash};
 
 use crate::highlight::ruby_stripped;
@@ -115,7 +116,7 @@ fn first_in<'v>(lists: &'v [Value], sought: Sought<'_>) -> Option<&'v Value>
         first_in (is_sought sought.entry) (map view lists.now) }
 {
     for list in lists {
-        if let Some(item) = first_of(list, sought) {
+        if let Some(item) = meant_in(list, sought) {
             return Some(item);
         }
     }
@@ -123,18 +124,19 @@ fn first_in<'v>(lists: &'v [Value], sought: Sought<'_>) -> Option<&'v Value>
 }
 
 /// The first of a list's items that is meant.
-fn first_of<'v>(list: &'v Value, sought: Sought<'_>) -> Option<&'v Value>
-    ensures { option_map (λ v. view v.now) result ≡ first_of (is_sought sought.entry) (view list.now) }
+fn meant_in<'v>(list: &'v Value, sought: Sought<'_>) -> Option<&'v Value>
+    ensures { option_map (λ v. view v.now) result ≡
+        meant_in (is_sought sought.entry) (view list.now) }
 {
     match list {
-        Value::Array(items) => first_item(items, sought),
+        Value::Array(items) => first_meant(items, sought),
         _ => None,
     }
 }
 
-fn first_item<'v>(items: &'v [Value], sought: Sought<'_>) -> Option<&'v Value>
+fn first_meant<'v>(items: &'v [Value], sought: Sought<'_>) -> Option<&'v Value>
     ensures { option_map (λ v. view v.now) result ≡
-        first_item (is_sought sought.entry) (list_of (items_view items.now)) }
+        first_meant (is_sought sought.entry) (list_of (items_view items.now)) }
 {
     for item in items {
         if is_sought(item_path(item).as_bytes(), sought) {
@@ -148,9 +150,9 @@ fn first_item<'v>(items: &'v [Value], sought: Sought<'_>) -> Option<&'v Value>
 fn item_path(item: &Value) -> &str
     ensures { result.now ≡ item_path (view item.now) }
 {
-    let path = text_at(item, "relative_path");
+    let path = member_text_or_none(item, "relative_path");
     if path.is_empty() {
-        text_at(item, "path")
+        member_text_or_none(item, "path")
     } else {
         path
     }
@@ -160,13 +162,13 @@ fn item_path(item: &Value) -> &str
 fn item_url(item: &Value) -> &str
     ensures { result.now ≡ item_url (view item.now) }
 {
-    let url = text_at(item, "url");
+    let url = member_text_or_none(item, "url");
     if url.is_empty() { item_path(item) } else { url }
 }
 
 /// The text that a map has at the name, or none.
-fn text_at<'v>(item: &'v Value, name: &str) -> &'v str
-    ensures { result.now ≡ text_at name.now (view item.now) }
+fn member_text_or_none<'v>(item: &'v Value, name: &str) -> &'v str
+    ensures { result.now ≡ member_text_or_none name.now (view item.now) }
 {
     match item {
         Value::Object(pairs) => match look_up(pairs, name) {
@@ -208,21 +210,21 @@ fn is_post_at(path: &[u8], folder: &[u8], name: &[u8]) -> bool
 fn is_file(path: &[u8], outer: &[u8], inner: &[u8], name: &[u8]) -> bool
     ensures { result ≡ is_file outer.now inner.now name.now path.now }
 {
-    let Some(rest) = after(path, outer) else {
+    let Some(rest) = past_front(path, outer) else {
         return false;
     };
-    let Some(rest) = after(rest, inner) else {
+    let Some(rest) = past_front(rest, inner) else {
         return false;
     };
-    match after(rest, name) {
+    match past_front(rest, name) {
         Some(rest) => begins_extension(rest),
         None => false,
     }
 }
 
 /// What stands after the front of a text.
-fn after<'t>(text: &'t [u8], front: &[u8]) -> Option<&'t [u8]>
-    ensures { option_map (λ rest. rest.now) result ≡ after front.now text.now }
+fn past_front<'t>(text: &'t [u8], front: &[u8]) -> Option<&'t [u8]>
+    ensures { option_map (λ rest. rest.now) result ≡ past_front front.now text.now }
 {
     if text.starts_with(front) {
         Some(&text[front.len()..])
@@ -252,17 +254,17 @@ fn without_first_slash(path: &[u8]) -> &[u8]
 
 /// How many bytes the name takes that a path ends with.
 fn name_len(path: &[u8]) -> usize
-    ensures value { result ≡ suffix_len is_no_slash path.now }
+    ensures value { result ≡ suffix_len in_file_name path.now }
     ensures within { result ≤ length path.now }
 {
     path.iter()
         .rev()
-        .take_while(|byte| is_no_slash(**byte))
+        .take_while(|byte| in_file_name(**byte))
         .count()
 }
 
-fn is_no_slash(byte: u8) -> bool
-    ensures { result ≡ is_no_slash byte }
+fn in_file_name(byte: u8) -> bool
+    ensures { result ≡ in_file_name byte }
 {
     byte != b'/'
 }

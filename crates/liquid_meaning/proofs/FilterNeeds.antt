@@ -21,7 +21,7 @@ use Rattle.liquid_filters.specs.declared.kind.FilterKind.TheVariants.{Sort, Sort
 use Rattle.liquid_evaluation.specs.Tree.{Filter, existing, hosted}
 use Rattle.liquid_evaluation.specs.Evaluation.{answers_with}
 use Rattle.liquid_core.specs.Expressions.{value_of}
-use Rattle.liquid_evaluation.specs.Calls.{arguments_of}
+use Rattle.liquid_evaluation.specs.Calls.{taken_arguments}
 use Rattle.liquid_filters.specs.Sequences.{list, sequence, all_maps, property, of_list}
 use Rattle.liquid_filters.specs.Ends.{or_nil, first_answer, last_answer}
 use Rattle.liquid_filters.specs.Keeping.{is_wanted, where_of, where_by, where_answer, mapped_property, map_answer, compact_by, compact_answer}
@@ -215,27 +215,27 @@ record IsFirst (name : Text) (arguments : List Datum) : Type 0 where
   all : arguments ≡ first ∷ others
   named : text_of first ≡ name
 
-first_argument : (n : ℕ) (xs : List Expression) (name : Text) (e : Environment) (arguments : List Datum) → literal_first_argument xs ≡ Some name → arguments_of n xs e ≡ Ok arguments → IsFirst name arguments
-unfolding arguments_of value_of values
+first_argument : (n : ℕ) (xs : List Expression) (name : Text) (e : Environment) (arguments : List Datum) → literal_first_argument xs ≡ Some name → taken_arguments n xs e ≡ Ok arguments → IsFirst name arguments
+unfolding taken_arguments value_of values
 first_argument n [] name e arguments h is = absurd cc
 first_argument n (variable x steps ∷ xs) name e arguments h is = absurd cc
-first_argument zero (literal d ∷ xs) name e arguments h is = at (arguments_of (0 - 1) xs e) is
+first_argument zero (literal d ∷ xs) name e arguments h is = at (taken_arguments (0 - 1) xs e) is
   where
     at : (r : Result (List Datum) ErrorKind) → (r >>= (λ ds. Ok (d ∷ ds))) ≡ Ok arguments → IsFirst name arguments
     at (Ok ds) is = record { first = d; others = ds; all = sym (ap (λ r. values r) is); named = ap (λ o. unwrap_or o name) h }
     at (Err kind) is = absurd cc
-first_argument (suc n) (literal d ∷ xs) name e arguments h is = at (arguments_of (suc n - 1) xs e) is
+first_argument (suc n) (literal d ∷ xs) name e arguments h is = at (taken_arguments (suc n - 1) xs e) is
   where
     at : (r : Result (List Datum) ErrorKind) → (r >>= (λ ds. Ok (d ∷ ds))) ≡ Ok arguments → IsFirst name arguments
     at (Ok ds) is = record { first = d; others = ds; all = sym (ap (λ r. values r) is); named = ap (λ o. unwrap_or o name) h }
     at (Err kind) is = absurd cc
 
-no_arguments : (n : ℕ) (e : Environment) (arguments : List Datum) → arguments_of n [] e ≡ Ok arguments → [] ≡ arguments
-unfolding arguments_of values
+no_arguments : (n : ℕ) (e : Environment) (arguments : List Datum) → taken_arguments n [] e ≡ Ok arguments → [] ≡ arguments
+unfolding taken_arguments values
 no_arguments n e arguments is = ap values is
 
 -- equal inputs where everything is asked, and else what f asks
-by_argument : (v : Use) (answer : Datum → List Datum → Result Datum ErrorKind) (f : Text → Use) (n : ℕ) (xs : List Expression) (e : Environment) (arguments : List Datum) → arguments_of n xs e ≡ Ok arguments
+by_argument : (v : Use) (answer : Datum → List Datum → Result Datum ErrorKind) (f : Text → Use) (n : ℕ) (xs : List Expression) (e : Environment) (arguments : List Datum) → taken_arguments n xs e ≡ Ok arguments
     → ((name : Text) → bytes_eq name (codes "size") ≡ false → (first : Datum) (others : List Datum) → text_of first ≡ name → (c d : Datum) → AlikeAs (f name) c d → Both (AlikeAs v) (answer c (first ∷ others)) (answer d (first ∷ others)))
     → (c d : Datum) → AlikeAs (by_property (literal_first_argument xs) f) c d → Both (AlikeAs v) (answer c arguments) (answer d arguments)
 by_argument v answer f n xs e arguments is k c d a = at (literal_first_argument xs) refl a
@@ -253,7 +253,7 @@ by_argument v answer f n xs e arguments is k c d a = at (literal_first_argument 
     at None h a = equal a
     at (Some name) h a = named name h (same_text name (codes "size")) refl a
 
-kind_respects : (kind : FilterKind) (n : ℕ) (xs : List Expression) (v : Use) (e : Environment) (arguments : List Datum) → arguments_of n xs e ≡ Ok arguments
+kind_respects : (kind : FilterKind) (n : ℕ) (xs : List Expression) (v : Use) (e : Environment) (arguments : List Datum) → taken_arguments n xs e ≡ Ok arguments
     → (c d : Datum) → AlikeAs (kind_needs kind xs v) c d → Both (AlikeAs v) (kind_answer kind c arguments) (kind_answer kind d arguments)
 kind_respects Size n xs v e arguments is c d a = answers_same v _ _ (ap (λ n. Ok (counted n)) (same_size nothing c d a))
 kind_respects First n xs v e arguments is c d a = first_respects v arguments c d a
@@ -277,7 +277,7 @@ kind_respects Compact n (x ∷ xs) v e arguments is c d a = by_argument v compac
 kind_respects Default n xs v e arguments is c d a = default_respects v arguments c d a
 kind_respects kind n xs v e arguments is c d a = answers_same v _ _ (ap (λ o. kind_answer kind (unwrap_or o nil) arguments) a)
 
-respected : (named : Text → FilterAnswer) (filter : Filter) (n : ℕ) (xs : List Expression) (v : Use) (e : Environment) (arguments : List Datum) → arguments_of n xs e ≡ Ok arguments
+respected : (named : Text → FilterAnswer) (filter : Filter) (n : ℕ) (xs : List Expression) (v : Use) (e : Environment) (arguments : List Datum) → taken_arguments n xs e ≡ Ok arguments
     → (c d : Datum) → AlikeAs (filter_needs filter xs v) c d → Both (AlikeAs v) (answers_with named filter c arguments) (answers_with named filter d arguments)
 respected named (existing kind) n xs v e arguments is c d a = kind_respects kind n xs v e arguments is c d a
 respected named (hosted name) n xs v e arguments is c d a = answers_same v _ _ (ap (λ o. named name (unwrap_or o nil) arguments) a)

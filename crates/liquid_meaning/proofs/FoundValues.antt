@@ -7,7 +7,7 @@ use Rattle.liquid_model.specs.Data.{Datum, nil, scalar}
 use Rattle.liquid_model.specs.declared.error.ErrorKind.{ErrorKind}
 use Rattle.liquid_model.specs.Find.{find}
 use Rattle.liquid_core.specs.Expression.{Expression, literal, variable, Steps, no_steps, step}
-use Rattle.liquid_evaluation.specs.Calls.{applied, argument_of, arguments_of}
+use Rattle.liquid_evaluation.specs.Calls.{applied, taken_argument, taken_arguments}
 use Rattle.liquid_evaluation.specs.Tree.{FilterCall, Chain, Atom, bare, compared, Condition, Source, each_of, counted, Window, Bindings}
 use Rattle.liquid_core.specs.Environment.{Environment, lookup}
 use Rattle.liquid_model.specs.Fallible.{◌>>=◌}
@@ -90,12 +90,12 @@ module _ (other : Map Datum) (e : Environment) where
   unfolding needed_whole
   whole_same x h = bind_same (sought_whole_same x h) (λ n. refl)
 
-  argument_same : (n : ℕ) (x : Expression) → All P (expression_names x) → argument_of n x e ≡ argument_of n x f
+  argument_same : (n : ℕ) (x : Expression) → All P (expression_names x) → taken_argument n x e ≡ taken_argument n x f
   argument_same zero x h = ap (λ o. Ok (unwrap_or o nil)) (value_same x h)
   argument_same (suc n) x h = required_same x h
 
-  pub arguments_same : (n : ℕ) (xs : List Expression) → All P (all_names xs) → arguments_of n xs e ≡ arguments_of n xs f
-  unfolding arguments_of all_names
+  pub arguments_same : (n : ℕ) (xs : List Expression) → All P (all_names xs) → taken_arguments n xs e ≡ taken_arguments n xs f
+  unfolding taken_arguments all_names
   arguments_same n [] h = refl
   arguments_same n (x ∷ xs) h = bind_same (argument_same n x (left P (expression_names x) _ h)) (λ d. bind_same (arguments_same (n - 1) xs (right P (expression_names x) _ h)) (λ ds. refl))
 

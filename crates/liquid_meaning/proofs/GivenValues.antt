@@ -8,19 +8,19 @@ use Rattle.liquid_core.specs.Environment.{Environment}
 use Rattle.liquid_core.specs.Expression.{Expression, literal}
 use Rattle.liquid_core.specs.Expressions.{value_of}
 use Rattle.liquid_core.specs.declared.missing_value.Missing.{Missing}
-use Rattle.liquid_evaluation.specs.Calls.{applied, argument_of, arguments_of}
+use Rattle.liquid_evaluation.specs.Calls.{applied, taken_argument, taken_arguments}
 use Rattle.liquid_evaluation.specs.Evaluation.{FilterAnswers, answers_in, calls_by, chain_value, entry_value, through}
 use Rattle.liquid_evaluation.specs.Tree.{Chain, FilterCall}
 use Rattle.liquid_evaluation.proofs.Calls.{argument_required, argument_there}
 use Rattle.liquid_meaning.specs.GivenValues.{GivenAreLiterals, spelled_argument, spelled_arguments, spelled_call}
 
-argument_spelled : (n m : ℕ) (x : Expression) (e : Environment) → 0 < m → argument_of n x e ≡ argument_of m (spelled_argument e n x) e
+argument_spelled : (n m : ℕ) (x : Expression) (e : Environment) → 0 < m → taken_argument n x e ≡ taken_argument m (spelled_argument e n x) e
 unfolding value_of
 argument_spelled zero m x e h = sym (argument_there m (literal (unwrap_or (value_of x e) nil)) e (unwrap_or (value_of x e) nil) refl)
 argument_spelled (suc n) m x e h = sym (argument_required m x e h)
 
-arguments_spelled : (n m : ℕ) (xs : List Expression) (e : Environment) → m ≡ length xs → arguments_of n xs e ≡ arguments_of m (spelled_arguments e n xs) e
-unfolding arguments_of
+arguments_spelled : (n m : ℕ) (xs : List Expression) (e : Environment) → m ≡ length xs → taken_arguments n xs e ≡ taken_arguments m (spelled_arguments e n xs) e
+unfolding taken_arguments
 arguments_spelled n m [] e h = refl
 arguments_spelled n m (x ∷ xs) e h =
     let first = argument_spelled n m x e (omega (arith, h)) in

@@ -19,7 +19,7 @@ use Rattle.liquid_core.specs.Expressions.{value_of, path_of, forgiven, if_missin
 use Rattle.liquid_core.specs.Environment.{Environment, own_environment, lookup}
 use Rattle.liquid_evaluation.specs.declared.comparison.ComparisonOperator.{ComparisonOperator}
 use Rattle.liquid_evaluation.specs.declared.comparison.ComparisonOperator.TheVariants.{Equals, NotEquals, LessThan, GreaterThan, LessThanEquals, GreaterThanEquals, Contains}
-use Rattle.liquid_evaluation.specs.Calls.{applied, argument_of, arguments_of}
+use Rattle.liquid_evaluation.specs.Calls.{applied, taken_argument, taken_arguments}
 use Rattle.liquid_evaluation.specs.Tree.{Filter, existing, hosted, FilterCall, Chain, Atom, bare, compared, Condition, Source, each_of, counted, Window, Bindings, Node, plain, raw, comment, output, assign, increment, decrement, break_loop, continue_loop, cycle, if_true, unless, case_of, for_each, tablerow, capture, ifchanged, filtered, include, jekyll_include, render, Nodes, no_nodes, node, Whens, no_whens, when}
 use Rattle.liquid_evaluation.specs.Evaluation.{FilterAnswers, refuses_input, accepted, answers_in, entry_value, calls_by, chain_value, contains, comparison_truth, truth_of_found, bare_truth, atom_truth, all_true, truth_of, value_items, not_too_long, source_items, amount, selected_items, bound_values}
 use Rattle.liquid_evaluation.proofs.Forgiveness.{refused_is}
@@ -135,12 +135,12 @@ module _ (P : Type 0) where
   unfolding needed_whole
   found_whole x e = found_then (found_sought_whole x e) (λ n. found_ok _)
 
-  found_argument : (n : ℕ) (x : Expression) (e : Environment) → Found (argument_of n x (strictly e)) (argument_of n x (leniently e))
-  found_argument zero x e = subst (λ o. Found (argument_of zero x (strictly e)) (Ok (unwrap_or o nil))) (value_alike x e) (found_ok _)
+  found_argument : (n : ℕ) (x : Expression) (e : Environment) → Found (taken_argument n x (strictly e)) (taken_argument n x (leniently e))
+  found_argument zero x e = subst (λ o. Found (taken_argument zero x (strictly e)) (Ok (unwrap_or o nil))) (value_alike x e) (found_ok _)
   found_argument (suc n) x e = found_required x e
 
-  found_arguments : (n : ℕ) (xs : List Expression) (e : Environment) → Found (arguments_of n xs (strictly e)) (arguments_of n xs (leniently e))
-  unfolding arguments_of
+  found_arguments : (n : ℕ) (xs : List Expression) (e : Environment) → Found (taken_arguments n xs (strictly e)) (taken_arguments n xs (leniently e))
+  unfolding taken_arguments
   found_arguments n [] e = found_ok []
   found_arguments n (x ∷ xs) e = found_then (found_argument n x e) (λ d. found_then (found_arguments (n - 1) xs e) (λ ds. found_ok _))
 

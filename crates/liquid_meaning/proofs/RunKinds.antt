@@ -15,7 +15,7 @@ use Rattle.liquid_model.specs.Maps.{Map, merged}
 use Rattle.liquid_core.specs.Environment.{Environment}
 use Rattle.liquid_evaluation.specs.declared.comparison.ComparisonOperator.{ComparisonOperator}
 use Rattle.liquid_evaluation.specs.declared.comparison.ComparisonOperator.TheVariants.{Equals, NotEquals, LessThan, GreaterThan, LessThanEquals, GreaterThanEquals, Contains}
-use Rattle.liquid_evaluation.specs.Calls.{applied, argument_of, arguments_of}
+use Rattle.liquid_evaluation.specs.Calls.{applied, taken_argument, taken_arguments}
 use Rattle.liquid_evaluation.specs.Tree.{Filter, existing, hosted, FilterCall, Chain, Atom, bare, compared, Condition, Source, each_of, counted, Window, Bindings, Node, plain, raw, comment, output, assign, increment, decrement, break_loop, continue_loop, cycle, if_true, unless, case_of, for_each, tablerow, capture, ifchanged, filtered, include, jekyll_include, render, Nodes, no_nodes, node, Whens, no_whens, when}
 use Rattle.liquid_evaluation.specs.Evaluation.{FilterAnswers, answers_in, entry_value, calls_by, through, chain_value, contains, comparison_truth, truth_of_found, atom_truth, all_true, truth_of, value_items, not_too_long, source_items, amount, selected_items, bound_values}
 use Rattle.liquid_meaning.specs.Runs.{Nothing, Run, done, read_environment, evaluate, fault, change, write, go_on, ◌>>=◌, with_scope, ended_with, buffered, apart}
@@ -105,12 +105,12 @@ module _ (limit : ℕ) (least : (kind : ErrorKind) → T (is_run_kind kind) → 
   unfolding needed_whole
   ended_whole x e = ended_then (ended_sought_whole x e) (λ n. ended_ok _)
 
-  ended_argument : (n : ℕ) (x : Expression) (e : Environment) → Ended (argument_of n x e)
+  ended_argument : (n : ℕ) (x : Expression) (e : Environment) → Ended (taken_argument n x e)
   ended_argument zero x e = ended_ok _
   ended_argument (suc n) x e = ended_required x e
 
-  ended_arguments : (n : ℕ) (xs : List Expression) (e : Environment) → Ended (arguments_of n xs e)
-  unfolding arguments_of
+  ended_arguments : (n : ℕ) (xs : List Expression) (e : Environment) → Ended (taken_arguments n xs e)
+  unfolding taken_arguments
   ended_arguments n [] e = ended_ok []
   ended_arguments n (x ∷ xs) e = ended_then (ended_argument n x e) (λ d. ended_then (ended_arguments (n - 1) xs e) (λ ds. ended_ok _))
 

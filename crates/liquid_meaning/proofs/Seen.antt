@@ -17,7 +17,7 @@ use Rattle.liquid_core.specs.Expressions.{value_of, path_of, if_missing, nil_if_
 use Rattle.liquid_core.specs.declared.missing_value.Missing.{Missing}
 use Rattle.liquid_core.specs.declared.missing_value.Missing.TheVariants.{IsFault, IsNil}
 use Rattle.liquid_model.specs.Fallible.{◌>>=◌}
-use Rattle.liquid_evaluation.specs.Calls.{applied, argument_of, arguments_of}
+use Rattle.liquid_evaluation.specs.Calls.{applied, taken_argument, taken_arguments}
 use Rattle.liquid_model.specs.FilterAnswers.{FilterAnswer}
 use Rattle.liquid_evaluation.specs.Tree.{Filter, existing, hosted, FilterCall, Chain, Atom, bare, compared, Condition, Bindings}
 use Rattle.liquid_evaluation.specs.Evaluation.{FilterAnswers, accepting_nil, answers_in, entry_value, calls_by, through, chain_value, truth_of_found, bare_truth, atom_truth, all_true, truth_of, amount, bound_values}
@@ -257,12 +257,12 @@ module _ (U : Uses) (e f : Environment) (agree : AlikeIn U e f) where
   unfolding needed_whole
   whole_equal x h = same_then (sought_whole_equal x h) (λ n. refl)
 
-  argument_equal : (n : ℕ) (x : Expression) → T (grants U x everything) → argument_of n x e ≡ argument_of n x f
+  argument_equal : (n : ℕ) (x : Expression) → T (grants U x everything) → taken_argument n x e ≡ taken_argument n x f
   argument_equal zero x h = λ i. Ok (unwrap_or (value_alike x everything h i) nil)
   argument_equal (suc n) x h = required_equal x h
 
-  pub arguments_equal : (n : ℕ) (xs : List Expression) → T (grants_all U xs) → arguments_of n xs e ≡ arguments_of n xs f
-  unfolding arguments_of grants_all
+  pub arguments_equal : (n : ℕ) (xs : List Expression) → T (grants_all U xs) → taken_arguments n xs e ≡ taken_arguments n xs f
+  unfolding taken_arguments grants_all
   arguments_equal n [] h = refl
   arguments_equal n (x ∷ xs) h = same_then (argument_equal n x (both_left (grants U x everything) _ h)) (λ d. same_then (arguments_equal (n - 1) xs (both_right (grants U x everything) _ h)) (λ ds. refl))
 
@@ -278,7 +278,7 @@ module _ (U : Uses) (e f : Environment) (agree : AlikeIn U e f) where
   entries_alike v asks calls (Some c) (Some d) a = a
 
   module _ (given : FilterAnswers) (needs : Needs) (respects : Respects given needs) (m : Missing) where
-    answers_alike : (call : FilterCall) (v : Use) (arguments : List Datum) → arguments_of call.required call.arguments e ≡ Ok arguments → (c d : Datum) → Alike (present (needs call v)) (Some c) (Some d)
+    answers_alike : (call : FilterCall) (v : Use) (arguments : List Datum) → taken_arguments call.required call.arguments e ≡ Ok arguments → (c d : Datum) → Alike (present (needs call v)) (Some c) (Some d)
         → Both (λ a b. Alike v (Some a) (Some b)) (answers_in m given call.filter c arguments) (answers_in m given call.filter d arguments)
     answers_alike call v arguments is c d a =
         forgiven_alike v m given call.filter arguments c d (alike_shape (present (needs call v)) (Some c) (Some d) (present_asks (needs call v)) a)
@@ -290,12 +290,12 @@ module _ (U : Uses) (e f : Environment) (agree : AlikeIn U e f) where
     calls_alike [] v h c d a = a
     calls_alike (call ∷ calls) v h c d a =
         let w = use_before needs calls v in
-        subst (λ r. Both (λ a b. Alike v (Some a) (Some b)) (arguments_of call.required call.arguments e >>= (λ arguments. answers_in m given call.filter c arguments >>= (λ answer. applied (calls_by (answers_in m given) calls) answer e)))
+        subst (λ r. Both (λ a b. Alike v (Some a) (Some b)) (taken_arguments call.required call.arguments e >>= (λ arguments. answers_in m given call.filter c arguments >>= (λ answer. applied (calls_by (answers_in m given) calls) answer e)))
         (r >>= (λ arguments. answers_in m given call.filter d arguments >>= (λ answer. applied (calls_by (answers_in m given) calls) answer f))))
         (arguments_equal call.required call.arguments (both_left (grants_all U call.arguments) _ h))
-        (called (arguments_of call.required call.arguments e) refl (λ x y b. calls_alike calls v (both_right (grants_all U call.arguments) _ h) x y b))
+        (called (taken_arguments call.required call.arguments e) refl (λ x y b. calls_alike calls v (both_right (grants_all U call.arguments) _ h) x y b))
       where
-        called : (r : Result (List Datum) ErrorKind) → arguments_of call.required call.arguments e ≡ r
+        called : (r : Result (List Datum) ErrorKind) → taken_arguments call.required call.arguments e ≡ r
             → ((x y : Datum) → Alike (use_before needs calls v) (Some x) (Some y) → Both (λ a b. Alike v (Some a) (Some b)) (applied (calls_by (answers_in m given) calls) x e) (applied (calls_by (answers_in m given) calls) y f))
             → Both (λ a b. Alike v (Some a) (Some b)) (r >>= (λ arguments. answers_in m given call.filter c arguments >>= (λ answer. applied (calls_by (answers_in m given) calls) answer e)))
             (r >>= (λ arguments. answers_in m given call.filter d arguments >>= (λ answer. applied (calls_by (answers_in m given) calls) answer f)))

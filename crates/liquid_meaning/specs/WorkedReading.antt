@@ -1,7 +1,7 @@
 -- Worked uses: what covers some templates, and what is left of some values.
 use Prim.Native.String.{String}
-use Rattle.std.specs.Prelude.{◌≡◌, ℕ, Bool, true, false, pos, List, [], ◌∷◌, length, Option, Some, None}
-use Rattle.std.specs.Prelude.{codes}
+use Rattle.std.specs.Prelude.{◌≡◌, ℕ, Bool, true, false, pos, List, [], ◌∷◌, Option, Some, None}
+use Rattle.std.specs.Prelude.{codes, length}
 use Rattle.liquid_model.specs.Texts.{Text}
 use Rattle.liquid_model.specs.Data.{Datum, nil, number, text, array, object, no_items, item}
 use Rattle.liquid_model.specs.Data.{no_pairs, pair}

@@ -64,8 +64,8 @@ pub fn reading_laws()
 
 /// The laws of missing values: a run in which they are nil writes what the run in which they are
 /// faults writes, and may go on where that ends by `UnknownVariable`, `UnexpectedValue` or
-/// `InvalidInput`; and it never ends by `UnknownVariable`, unless a filter answers that. An argument
-/// that isn't required is the literal of its value, or of nil where it is missing.
+/// `InvalidInput`; and it never ends by `UnknownVariable`, unless a filter answers that. An
+/// argument that isn't required is the literal of its value, or of nil where it is missing.
 pub fn missing_laws()
     ensures extends { LenientExtends }
     ensures known { NoneUnknown }

@@ -82,8 +82,8 @@ fn read_filter(
     accepted(known, name, arguments, at)
 }
 
-/// The filter of the name with these arguments, each of which is required. `UnknownFilter` where none is registered, and
-/// `FilterArguments` where it doesn't take their number.
+/// The filter of the name with these arguments, each of which is required. `UnknownFilter` where
+/// none is registered, and `FilterArguments` where it doesn't take their number.
 pub(crate) fn accepted(
     known: &FilterRegistry,
     name: String,

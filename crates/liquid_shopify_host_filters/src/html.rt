@@ -6,8 +6,8 @@ ghost use Rattle.liquid_shopify_host_filters.specs.Html.{image, img_tag_answer, 
 ghost use Rattle.liquid_shopify_host_filters.specs.Html.{link_to_answer, link_to_collection_answer};
 ghost use Rattle.liquid_shopify_host_filters.specs.Html.{script_tag_answer, stylesheet_tag_answer};
 
-use crate::argument::text_or;
 use crate::urls::collection_url;
+use liquid_filters::text_or;
 use liquid_model::{Result, Value, text_of};
 use std::alloc::Global;
 

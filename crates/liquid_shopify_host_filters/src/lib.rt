@@ -2,7 +2,6 @@
 #![tactic(auto)]
 
 mod amount;
-mod argument;
 mod codec;
 mod filter;
 mod html;

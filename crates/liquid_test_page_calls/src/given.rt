@@ -165,8 +165,8 @@ fn register_host_blocks(alloc: Global, language: &mut Language, blocks: &Object)
     Ok(())
 }
 
-/// The variables that are given with a tag, from a place of its list on: a name, or a list of a name
-/// and steps.
+/// The variables that are given with a tag, from a place of its list on: a name, or a list of a
+/// name and steps.
 fn given_from(alloc: Global, words: &[Value], place: usize) -> Result<Vec<Expression>> {
     let mut given = Vec::new(alloc);
     for word in words.iter().skip(place) {

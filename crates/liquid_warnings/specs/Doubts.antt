@@ -13,7 +13,7 @@ use Rattle.liquid_warnings.specs.declared.data_path.DataPath.{DataPath}
 use Rattle.liquid_warnings.specs.declared.doubt.Span.{Span}
 use Rattle.liquid_warnings.specs.declared.doubt.Want.{Want}
 use Rattle.liquid_warnings.specs.declared.doubt.Want.TheVariants.{Present, Perhaps, Date, Items}
-use Rattle.liquid_warnings.specs.declared.doubt.Want.TheVariants.{Searched, Number}
+use Rattle.liquid_warnings.specs.declared.doubt.Want.TheVariants.{Searched, Contained, Number}
 
 -- a map lacks a key; a loop goes over what is no list and no map; it asks for items past the end
 -- of a list with this number of them; a text is no date; a text is a number
@@ -74,6 +74,7 @@ abbrev pub value_doubt : Want → Datum → Option Doubt
 value_doubt Present d = None
 value_doubt Perhaps d = None
 value_doubt Searched d = None
+value_doubt Contained d = None
 value_doubt Date d = date_doubt d
 value_doubt Number d = number_doubt d
 value_doubt (Items s) d = items_doubt s d
@@ -95,6 +96,7 @@ abbrev pub asks_values : Want → Bool
 asks_values Present = false
 asks_values Perhaps = false
 asks_values Searched = false
+asks_values Contained = false
 asks_values Date = true
 asks_values Number = true
 asks_values (Items s) = true

@@ -14,7 +14,7 @@ use Rattle.liquid_warnings.specs.declared.data_path.Step.{Step}
 use Rattle.liquid_warnings.specs.declared.data_path.Step.TheVariants.{Each, Key}
 use Rattle.liquid_warnings.specs.declared.doubt.Want.{Want}
 use Rattle.liquid_warnings.specs.declared.doubt.Want.TheVariants.{Present, Perhaps, Date, Items}
-use Rattle.liquid_warnings.specs.declared.doubt.Want.TheVariants.{Searched, Number}
+use Rattle.liquid_warnings.specs.declared.doubt.Want.TheVariants.{Searched, Contained, Number}
 use Rattle.liquid_warnings.specs.Messages.{item_words}
 
 abbrev pub step_text : Step → Text
@@ -71,6 +71,7 @@ abbrev pub is_needed : Want → Bool
 is_needed Present = true
 is_needed Perhaps = false
 is_needed Searched = true
+is_needed Contained = true
 is_needed Date = false
 is_needed Number = true
 is_needed (Items span) = true

@@ -23,6 +23,8 @@ pub enum Want {
     Perhaps,
     /// That they are there: `contains` looks into them.
     Searched,
+    /// That they are there: `contains` looks for them.
+    Contained,
     /// Dates, which are printed.
     Date,
     /// Numbers: they are compared with one.
@@ -102,7 +104,7 @@ fn value_doubt<'d>(want: Want, value: &'d Value) -> Option<Doubt<'d>>
     ensures { option_map doubt_view result ≡ value_doubt want (view value.now) }
 {
     match want {
-        Want::Present | Want::Perhaps | Want::Searched => None,
+        Want::Present | Want::Perhaps | Want::Searched | Want::Contained => None,
         Want::Date => date_doubt(value),
         Want::Number => number_doubt(value),
         Want::Items(span) => items_doubt(span, value),

@@ -214,7 +214,7 @@ impl<'t> Asking<'t> {
             Atom::Bare(value) => self.ask(value, Want::Perhaps),
             Atom::Compared(left, operator, right) => {
                 self.ask(left, want_before(*operator, right))?;
-                self.ask(right, want_beside(left))
+                self.ask(right, want_after(*operator, left))
             }
         }
     }
@@ -372,6 +372,14 @@ fn literal_steps(variable: &Variable) -> usize {
 fn want_before(operator: ComparisonOperator, other: &Expression) -> Want {
     match operator {
         ComparisonOperator::Contains => Want::Searched,
+        _ => want_beside(other),
+    }
+}
+
+/// What is wanted of the value after an operator, before which another one stands.
+fn want_after(operator: ComparisonOperator, other: &Expression) -> Want {
+    match operator {
+        ComparisonOperator::Contains => Want::Contained,
         _ => want_beside(other),
     }
 }

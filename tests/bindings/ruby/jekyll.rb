@@ -112,6 +112,8 @@ OWN = [
   '{% assign last = site.posts.last %}{% include same.html posts=site.posts one=last %}{% include same.html posts=site.teas one=last %}',
   '{% include hyphens.html a-post=site.posts.first %}{% include deep.html post=site.posts.last %}',
   "#{WHO}{% if page.who %}!{% endif %}{% for it in page.who reversed %}{{ forloop.length }}{% endfor %}",
+  "{% for n in (1..2) %}{%- highlight ruby linenos -%}\n{{ n }} < {{ page.title }}{{ '&' }}\n{%- endhighlight x -%} |{% endfor %}" \
+  "{% link _posts/2024-01-02-one.md %}{% post_url 2024-01-03-two %}{%- highlight c++ %}{% raw %}{{ '\"}}{% endraw %}{% endhighlight %}",
   "{% assign all = page.who %}{% for it in all %}{{ site.data.teas[it].name }}{% endfor %}{% if page.title == 'x' or all %}!{% endif %}",
   '{% include list.html list=page.who %}{% for row in page.rows %}{% for it in row.all %}({{ it }}){% endfor %}{% endfor %}'
 ].freeze

@@ -7,6 +7,8 @@ module JekyllBikleinu
     LIMITS = { depth: 100, levels: 10_000, rounds: 1000 }.freeze
     # Filters that are no functions of their input.
     RANDOM = %w[sample].freeze
+    # Tags that are functions of their words and the site.
+    OF_SITE = %w[link post_url].freeze
     # A rendering: which one it is, and what Jekyll gives it.
     Call = Struct.new(:number, :payload, :info)
 
@@ -97,7 +99,7 @@ module JekyllBikleinu
     def environment
       @environment ||= Bikleinu::Environment.new(
         jekyll: true, partials: Includes.new(self, @site), missing: :nil, decimals: :text, times: true, host: Host.new, **LIMITS
-      ).tap { |made| filters(made) }
+      ).tap { |made| filters(made) && tags(made) }
     end
 
     # Filters of Jekyll's and of plugins are Ruby's own; those of Liquid are this engine's, unless a plugin has others of their names.
@@ -108,14 +110,35 @@ module JekyllBikleinu
 
         environment.filter(name) { |input, *arguments| strainer.invoke(name, input, *arguments) }
       end
-      environment.filter(Source::FILTER) { |number, at| tag(@renderings.fetch(number), @source.tags.fetch(at)) }
     end
 
-    # The text of a tag, by its own class.
-    def tag(rendering, text)
-      template = (@tags[text] ||= Liquid::Template.parse(text))
+    # Tags of Jekyll and of plugins are made by their own classes. Those of the site are functions of their words, and the others say
+    # which rendering they are in.
+    def tags(environment)
+      OF_SITE.each do |name|
+        environment.register_tag(name, style: :text) { |words = ''| of_site("{% #{name} #{words} %}") }
+      end
+      environment.filter(Source::FILTER) { |number, at| tag(number, at, nil) }
+      environment.register_block(Source::BLOCK) { |text, number, at| tag(number, at, text) }
+      environment.register_block('highlight', style: :text) { |_text, _words = ''| raise Refused, 'the words of a highlight have a brace' }
+    end
+
+    # The text of a tag over a page, or of a block round a text.
+    def tag(number, at, text)
+      rendering = @renderings.fetch(number)
+      template = parsed_tag(@source.tags.fetch(at))
       template.instance_assigns.clear
+      template.assigns[Source::BLOCK] = text
       template.render!(rendering.payload, rendering.info)
+    end
+
+    # The text of a tag that asks for the site alone.
+    def of_site(text)
+      parsed_tag(text).render!(SiteContext.new(@site))
+    end
+
+    def parsed_tag(text)
+      @tags[text] ||= Liquid::Template.parse(text)
     end
   end
 

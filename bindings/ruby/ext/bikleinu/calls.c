@@ -4,13 +4,15 @@
 /* From so many bytes on Ruby's lock is released while they are read, and a byte of a text takes some so many of what is made of it. */
 enum { LONG_TEXT = 65536, WEIGHT = 4 };
 
-typedef enum { LANGUAGE, JEKYLL, REGISTER, PARSE, DATA, DATA_FOR, PARTIALS, INSERT, NAMES, PATHS, ANSWERS, FILTER, ANSWER, REFUSE } which;
+typedef enum {
+    LANGUAGE, JEKYLL, REGISTER, TAG, BLOCK, PARSE, DATA, DATA_FOR, PARTIALS, INSERT, NAMES, PATHS, ANSWERS, FILTER, ANSWER, REFUSE
+} which;
 
 /* A call with all that one may be given, and what it answers: that there is no memory, where it isn't made. */
 typedef struct {
     which which;
     bikleinu_handle *on, *with, *made;
-    const uint8_t *text;
+    const uint8_t *text, *other;
     size_t length, first, second;
     uint32_t kind, number;
 } call;
@@ -21,6 +23,8 @@ static void make(void *given) {
     case LANGUAGE: it->number = bikleinu_language(it->made); break;
     case JEKYLL: it->number = bikleinu_jekyll_language(it->made); break;
     case REGISTER: it->number = bikleinu_register(it->on, it->text, it->length, it->first, it->second); break;
+    case TAG: it->number = bikleinu_register_tag(it->on, it->text, it->length, it->other, it->first, it->kind); break;
+    case BLOCK: it->number = bikleinu_register_block(it->on, it->text, it->length, it->other, it->first, it->kind); break;
     case PARSE: it->number = bikleinu_parse(it->on, it->text, it->length, it->made); break;
     case DATA: it->number = bikleinu_data(it->text, it->length, it->made); break;
     case DATA_FOR: it->number = bikleinu_data_for(it->text, it->length, it->with, it->made); break;
@@ -76,6 +80,22 @@ static VALUE register_filter(VALUE self, VALUE name, VALUE least, VALUE most) {
     RB_GC_GUARD(name);
     return answer;
 }
+
+/* Registers a tag or a block, which calls a filter, and whose markup is read in the style of this number. */
+static VALUE registered(which what, VALUE self, VALUE name, VALUE filter, VALUE style) {
+    call it = {.which = what, .on = alone(self), .kind = NUM2UINT(style)};
+    StringValue(filter);
+    give_text(&it, name);
+    it.other = (const uint8_t *)RSTRING_PTR(filter);
+    it.first = (size_t)RSTRING_LEN(filter);
+    VALUE answer = answered_by(&it);
+    RB_GC_GUARD(name);
+    RB_GC_GUARD(filter);
+    return answer;
+}
+
+static VALUE register_tag(VALUE self, VALUE name, VALUE filter, VALUE style) { return registered(TAG, self, name, filter, style); }
+static VALUE register_block(VALUE self, VALUE name, VALUE filter, VALUE style) { return registered(BLOCK, self, name, filter, style); }
 
 static VALUE parse(VALUE self, VALUE source) {
     call it = {.which = PARSE, .on = alone(self)};
@@ -169,6 +189,8 @@ void init_calls(void) {
     rb_define_singleton_method(handle_class, "answers", answers, 0);
     rb_define_singleton_method(handle_class, "read", read_text, 2);
     rb_define_method(handle_class, "register", register_filter, 3);
+    rb_define_method(handle_class, "register_tag", register_tag, 3);
+    rb_define_method(handle_class, "register_block", register_block, 3);
     rb_define_method(handle_class, "parse", parse, 1);
     rb_define_method(handle_class, "insert", insert, 2);
     rb_define_method(handle_class, "names", names, 1);

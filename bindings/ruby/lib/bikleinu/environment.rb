@@ -8,13 +8,17 @@ module Bikleinu
   #   environment.parse("{{ 1999 | money }}, {% render 'end' %}").render
   #
   # partials: is a Hash of sources, the path of a folder, or an object that has read_template_file(name). filters: is a Hash of
-  # functions, or a module. missing: is :fault or :nil. jekyll: takes the include and the sort of Jekyll, and drops the white space
-  # of blocks that write nothing. depth: says how many partials may stand in one another, levels: how many blocks and partials;
+  # functions, or a module. missing: is :fault or :nil. jekyll: takes the include, the highlight and the sort of Jekyll, and drops the
+  # white space of blocks that write nothing. depth: says how many partials may stand in one another, levels: how many blocks and partials;
   # bytes: and turns: bound a page, and rounds: how often it may ask its filters. decimals: :text makes texts of floats, and
   # times: true, or an offset, of times and dates.
   #
   # The partials are parsed with the first template, so they know the filters that were added until then.
   class Environment
+    # How what stands after the name of a tag is read, by the numbers of the library for C.
+    STYLES = { items: 0, path: 1, text: 2 }.freeze
+    private_constant :STYLES
+
     # The environment of templates that are parsed without one.
     def self.default
       check_ractor
@@ -49,13 +53,25 @@ module Bikleinu
     # it is called before the page is rendered, perhaps for a call that the page doesn't come to, and its answer is kept for
     # further pages. What it raises ends a page that makes the call, as the cause of the fault.
     def filter(name, function = nil, &block)
-      name = Text.utf8(name.is_a?(Symbol) ? name.to_s : name, "a filter's name")
-      function = (function.nil? ? block : function) || raise(::ArgumentError, "the filter `#{name}` has no function")
-      function = function.method(:call) unless function.is_a?(Proc) || function.is_a?(Method) || !function.respond_to?(:call)
-      raise TypeError, "the filter `#{name}` is a value of the class #{function.class}" unless function.respond_to?(:call)
-
-      add(name, function)
+      name = name_of(name, 'filter')
+      add(name, function_of("the filter `#{name}`", function || block))
       self
+    end
+
+    # Registers a tag, in place of any other of that name that was registered, for what is parsed from now on, by a function as of
+    # filter, but without an input: `{% name a, b %}` writes what it returns for the values a and b.
+    #
+    # With style: :items there are commas between values, or none; with :path the first one is a path without quotes, and with :text
+    # all that stands there is one text, and no value where nothing does. A name is refused that is no word, that blocks have a use of
+    # (as else, and what begins with end), or that is a tag or a block of the language.
+    def register_tag(name, function = nil, style: :items, &block)
+      add_tag(:register_tag, name, function || block, style)
+    end
+
+    # Registers a block in the same way, which ends with `end` and its name. Its function gets the text of the body, and then the
+    # values.
+    def register_block(name, function = nil, style: :items, &block)
+      add_tag(:register_block, name, function || block, style)
     end
 
     # Makes filters of the public methods of a module.
@@ -105,11 +121,42 @@ module Bikleinu
     private
 
     def add(name, function)
-      least, most = Filters.arity(name, function)
+      least, most = Filters.arity("the filter `#{name}`", function)
       number = @language.register(name, least, most)
       raise Error.new("the filter `#{name}` is not taken", number:) unless number.zero?
 
       @filters.add(name, function)
+    end
+
+    def add_tag(how, name, function, style)
+      name = name_of(name, 'tag')
+      number = STYLES.fetch(style) { raise ::ArgumentError, "style: is #{style.inspect}, and :items, :path or :text is wanted" }
+      what = "the tag `#{name}`"
+      function = function_of(what, function)
+      has_input = how == :register_block
+      settle(name, how, number, Filters.arity(what, function, inputs: has_input ? 1 : 0))
+      @filters.add(Filters.of_tag(name), has_input ? function : ->(_input, *values) { function.call(*values) })
+      self
+    end
+
+    # Registers a tag or a block in the language, with its filter.
+    def settle(name, how, style, counts)
+      filter = Filters.of_tag(name)
+      number = @language.register(filter, *counts)
+      number = @language.public_send(how, name, filter, style) if number.zero?
+      raise Error.new(Fault.refusal(number) || "the tag `#{name}` is not taken", number:) unless number.zero?
+    end
+
+    def name_of(name, what)
+      Text.utf8(name.is_a?(Symbol) ? name.to_s : name, "a #{what}'s name")
+    end
+
+    # A function, which is what answers to call.
+    def function_of(what, function)
+      raise ::ArgumentError, "#{what} has no function" if function.nil?
+      raise TypeError, "#{what} is a value of the class #{function.class}" unless function.respond_to?(:call)
+
+      function.is_a?(Proc) || function.is_a?(Method) ? function : function.method(:call)
     end
   end
 end

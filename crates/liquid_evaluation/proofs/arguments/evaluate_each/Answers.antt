@@ -6,7 +6,7 @@ use Rattle.liquid_model.specs.View.{view}
 use Rattle.liquid_core.specs.ExpressionView.{expression_view}
 use Rattle.liquid_model.specs.Fallible.{◌>>=◌}
 use Rattle.liquid_core.specs.States.{environment_of}
-use Rattle.liquid_evaluation.specs.Calls.{arguments_of}
+use Rattle.liquid_evaluation.specs.Calls.{taken_arguments}
 use Rattle.liquid_evaluation.proofs.Calls.{arguments_more, arguments_stop, arguments_end}
 use Rattle.liquid_evaluation.proofs.arguments.evaluate_each.Goals as goal
 
@@ -23,8 +23,8 @@ loop-expression-preserved c =
     let grown : map view c.push.new.self.items ≡ map view before ++ cow_view c.in_ok-argument.field-0 ∷ [] =
     ap (map view) c.in_ok-push.ensures.items ∙ map-append view before (c.in_ok-into_owned.field-0 ∷ []) ∙ ap (λ d. map view before ++ d ∷ []) c.in_ok-into_owned.ensures.value in
     record {
-      values = subst (λ l. arguments_of c.args.required (map expression_view c.args.expressions.now) e
-          ≡ (arguments_of c.saturating_sub-left.result (map expression_view (drop (c.loop-expression.expression-index + 1) c.args.expressions.now)) e >>= (λ ds. Ok (l ++ ds)))) (sym grown)
+      values = subst (λ l. taken_arguments c.args.required (map expression_view c.args.expressions.now) e
+          ≡ (taken_arguments c.saturating_sub-left.result (map expression_view (drop (c.loop-expression.expression-index + 1) c.args.expressions.now)) e >>= (λ ds. Ok (l ++ ds)))) (sym grown)
           (rw c.saturating_sub-left.ensures (arguments_more expression_view _ e c.args.expressions.now c.loop-expression.left c.loop-expression.expression-index c.expression-item.result (map view before) (cow_view c.in_ok-argument.field-0)
           c.loop-expression-test.true c.expression-item.is c.in_ok-argument.ensures c.loop-expression.invariant.values));
       count = search rules;
