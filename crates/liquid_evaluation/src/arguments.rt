@@ -76,12 +76,7 @@ pub(crate) fn evaluate_all<'x>(
 {
     match expressions {
         [expression] => Ok(Arguments::One(argument(alloc, expression, required, state)?)),
-        _ => Ok(Arguments::Many(evaluate_each(
-            alloc,
-            expressions,
-            required,
-            state,
-        )?)),
+        _ => Ok(Arguments::Many(evaluate_each(alloc, expressions, required, state)?)),
     }
 }
 

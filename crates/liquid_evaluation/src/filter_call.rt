@@ -72,7 +72,7 @@ pub(crate) fn apply_one<F: Filter>(
     requires { IsTrue (F.counts call.now.filter (length call.now.args.now)) }
     ensures { AnswersIf (F.within call.now.filter) view result
         (applied (call_of (F.answer call.now.filter) call.now.args.now call.now.required ∷ [])
-            (view input.now) (environment_of state.now)) }
+        (view input.now) (environment_of state.now)) }
 {
     if let Some(borrowed) = borrowed_arguments(call.args, state) {
         return call.filter.evaluate(alloc, input, borrowed);

@@ -51,13 +51,7 @@ fn or_other<'v>(value: Option<&'v Value>, other: &'v Value) -> &'v Value
     }
 }
 
-fn feed_link(
-    alloc: Global,
-    address: &str,
-    base: &str,
-    path: &Value,
-    title: &Value,
-) -> Result<Value>
+fn feed_link(alloc: Global, address: &str, base: &str, path: &Value, title: &Value) -> Result<Value>
     ensures { Answers view result
         (feed_link address.now base.now (view path.now) (view title.now)) }
 {

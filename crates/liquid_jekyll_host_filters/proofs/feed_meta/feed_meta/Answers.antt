@@ -1,6 +1,8 @@
 use Rattle.std.proofs.Common.{◌≡◌, ap, rules, subst, sym, ◌∙◌}
 use Rattle.liquid_model.specs.Answer.{Answers}
+use Rattle.liquid_model.specs.Data.{text}
 use Rattle.liquid_model.specs.View.{view}
+use Rattle.liquid_model.proofs.Views.{view-Text}
 use Rattle.liquid_jekyll_host_filters.specs.FeedMeta.{feed_link, feed_path, or_other}
 use Rattle.liquid_jekyll_host_filters.proofs.Linked.{feed_lacking, feed_split, refused_as}
 use Rattle.liquid_jekyll_host_filters.proofs.feed_meta.feed_meta.Goals as goal
@@ -10,7 +12,8 @@ returns-in_default c = refused_as c.invalid_argument.result.kind _ c.invalid_arg
 
 pub returns-in_ok-from_str-in-len3-up : goal.returns-in_ok-from_str-in-len3-up
 returns-in_ok-from_str-in-len3-up c =
-    let path : view c.or_other-path.result.now ≡ feed_path (view c.feed-item.result) = search rules in
+    let usual = view-Text c.in_ok-from_str-in-len3-up.field-0 ∙ ap text c.in_ok-from_str-in-len3-up.ensures.ok in
+    let path : view c.or_other-path.result.now ≡ feed_path (view c.feed-item.result) = c.or_other-path.ensures ∙ (λ i. or_other (c.member.ensures i) (usual i)) in
     let title : view c.or_other.result.now ≡ or_other (view c.title-item.result) (view c.name-item.result) = search rules in
     subst (Answers view c.feed_link.result)
     ((λ i. feed_link c.args.address.now c.args.base.now (path i) (title i))
