@@ -5,7 +5,7 @@ use Rattle.liquid_filters.specs.declared.kind.FilterKind.TheVariants.{Escape}
 
 -- the filter `escape`, without arguments
 abbrev pub escape_call : FilterCall
-escape_call = record { filter = existing Escape; arguments = [] }
+escape_call = record { filter = existing Escape; arguments = []; required = 0 }
 
 -- the node, whose text goes through `escape`
 abbrev pub escaped_node : Node → Node

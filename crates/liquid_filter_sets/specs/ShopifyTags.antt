@@ -20,11 +20,17 @@ section_call = record {
   filter = codes "section";
   input = variable (codes "sections") no_steps;
   style = Items;
+  given = [];
 }
 
 -- `layout`: its markup is one text
 abbrev pub layout_call : TagCall
-layout_call = record { filter = codes "layout"; input = literal nil; style = OneText }
+layout_call = record {
+  filter = codes "layout";
+  input = literal nil;
+  style = OneText;
+  given = [];
+}
 
 abbrev pub shopify_calls : List TagCall
 shopify_calls = section_call ∷ section_call ∷ layout_call ∷ []
@@ -37,7 +43,7 @@ with_shopify_tags m = insert (insert (insert m (codes "section") (Tag 0)) (codes
 -- ---- the blocks
 
 abbrev pub block_with : Text → Style → BlockCall
-block_with filter style = record { filter = filter; style = style }
+block_with filter style = record { filter = filter; style = style; given = [] }
 
 -- what Shopify keeps for another place
 abbrev pub kept_block : BlockCall

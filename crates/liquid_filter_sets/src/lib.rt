@@ -4,6 +4,7 @@
 #![tactic(auto)]
 
 mod condition_text;
+mod jekyll_tags;
 mod json_texts;
 mod languages;
 pub mod laws;

@@ -38,6 +38,7 @@ pub(crate) fn register_shopify_tags(alloc: Global, language: &mut Language) -> R
     ensures filters { language.new.filters ≡ language.old.filters }
     ensures include_paths { language.new.include_paths ≡ language.old.include_paths }
     ensures drops_blanks { language.new.drops_blanks ≡ language.old.drops_blanks }
+    ensures escapes_html { language.new.escapes_html ≡ language.old.escapes_html }
 {
     register_tag(alloc, language, "section", section_call(alloc)?)?;
     register_tag(alloc, language, "sections", section_call(alloc)?)?;
@@ -64,6 +65,7 @@ pub(crate) fn register_shopify_blocks(alloc: Global, language: &mut Language) ->
     ensures filters { language.new.filters ≡ language.old.filters }
     ensures include_paths { language.new.include_paths ≡ language.old.include_paths }
     ensures drops_blanks { language.new.drops_blanks ≡ language.old.drops_blanks }
+    ensures escapes_html { language.new.escapes_html ≡ language.old.escapes_html }
 {
     register_block(alloc, language, "form", "form", Style::Items)?;
     register_block(alloc, language, "paginate", "paginate", Style::Text)?;
@@ -90,6 +92,7 @@ fn register_tag(alloc: Global, language: &mut Language, name: &str, call: HostCa
     ensures filters { language.new.filters ≡ language.old.filters }
     ensures include_paths { language.new.include_paths ≡ language.old.include_paths }
     ensures drops_blanks { language.new.drops_blanks ≡ language.old.drops_blanks }
+    ensures escapes_html { language.new.escapes_html ≡ language.old.escapes_html }
 {
     let name = String::from_str(alloc, name)?;
     match language.register_tag(name, call) {
@@ -123,10 +126,16 @@ fn register_block(
     ensures filters { language.new.filters ≡ language.old.filters }
     ensures include_paths { language.new.include_paths ≡ language.old.include_paths }
     ensures drops_blanks { language.new.drops_blanks ≡ language.old.drops_blanks }
+    ensures escapes_html { language.new.escapes_html ≡ language.old.escapes_html }
 {
     let name = String::from_str(alloc, name)?;
     let filter = String::from_str(alloc, filter)?;
-    match language.register_block(alloc, name, HostBlock { filter, style }) {
+    let block = HostBlock {
+        filter,
+        style,
+        given: Vec::new(alloc),
+    };
+    match language.register_block(alloc, name, block) {
         Ok(()) => Ok(()),
         Err(TagError::Memory) => Err(Error::from(AllocError)),
         Err(TagError::Refused(_)) => unreachable!(),
@@ -145,6 +154,7 @@ fn section_call(alloc: Global) -> Result<HostCall>
         filter: String::from_str(alloc, "section")?,
         input: Expression::Variable(sections),
         style: Style::Items,
+        given: Vec::new(alloc),
     })
 }
 
@@ -156,5 +166,6 @@ fn layout_call(alloc: Global) -> Result<HostCall>
         filter: String::from_str(alloc, "layout")?,
         input: Expression::Literal(Value::Nil),
         style: Style::Text,
+        given: Vec::new(alloc),
     })
 }

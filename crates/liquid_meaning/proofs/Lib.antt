@@ -13,6 +13,7 @@ pub mod FoundValues
 pub mod FreeNames
 pub mod FreeRuns
 pub mod Further
+pub mod GivenValues
 pub mod Items
 pub mod KeptNeeds
 pub mod Law

@@ -4,6 +4,7 @@ ghost use Rattle.liquid_meaning.specs.Assigning.{AssignedAnywhere};
 ghost use Rattle.liquid_meaning.specs.Escaping.{EscapedOutputs, EscapedTexts};
 ghost use Rattle.liquid_meaning.specs.FilterNeeds.{KnownRespected};
 ghost use Rattle.liquid_meaning.specs.FreeNames.{FreeDataAlone, FreeNamesAlone, FreeUsesAlone};
+ghost use Rattle.liquid_meaning.specs.GivenValues.{GivenAreLiterals};
 ghost use Rattle.liquid_meaning.specs.Isolation.{Isolation, AgreeingRuns, OthersKept};
 ghost use Rattle.liquid_meaning.specs.Isolation.{RenderLeavesAll, RenderSeesItsValues, Headline};
 ghost use Rattle.liquid_evaluation.specs.Laws.{CountedWindow};
@@ -67,10 +68,12 @@ pub fn reading_laws()
 
 /// The laws of missing values: a run in which they are nil writes what the run in which they are
 /// faults writes, and may go on where that ends by `UnknownVariable`, `UnexpectedValue` or
-/// `InvalidInput`; and it never ends by `UnknownVariable`, unless a filter answers that.
+/// `InvalidInput`; and it never ends by `UnknownVariable`, unless a filter answers that. An
+/// argument that isn't required is the literal of its value, or of nil where it is missing.
 pub fn missing_laws()
     ensures extends { LenientExtends }
     ensures known { NoneUnknown }
+    ensures given { GivenAreLiterals }
 {}
 
 /// The law of partials: a template means the same over any partials that have the same under the

@@ -82,8 +82,8 @@ statement_says l x p statement (is_host_tag {called = called} {c = c} {is = is} 
     ∙ ap (λ (o : Option Chain). leaf_or (option_map output o)) (host_again (registered_in l.filters) called c (tokens_of is) h)
 statement_says l x p statement (is_host_block {n = n} {called = called} {call = call} {is = is} r at h) =
     ap (tag_statement l x is (tokens_of is)) r
-    ∙ ap (λ (o : Option BlockCall). one_or (Host n) (option_and_then (λ called. option_map through_call (host_call_of (registered_in l.filters) called.filter (tokens_of is))) o)) at
-    ∙ ap (λ (o : Option FilterCall). one_or (Host n) (option_map through_call o)) (host_call_again (registered_in l.filters) called.filter call (tokens_of is) h)
+    ∙ ap (λ (o : Option BlockCall). one_or (Host n) (option_and_then (λ called. option_map through_call (host_call_of (registered_in l.filters) called.filter called.given (tokens_of is))) o)) at
+    ∙ ap (λ (o : Option FilterCall). one_or (Host n) (option_map through_call o)) (host_call_again (registered_in l.filters) called.filter called.given call (tokens_of is) h)
 statement_says l x p statement (is_raw {t = t} h) = ap (raw_statement t) h
 statement_says l x p statement (is_comment h) = ap comment_statement h
 
@@ -142,8 +142,8 @@ module _ (l : Language) (x : BlockContext) (statement : Statement) (stands : Sta
   host_block_stands w is n (Some make) r e h =
       let known = registered_in l.filters in
       let (called, at, more) = bind_some (block_at l n) _ make e in
-      let (call, read, same) = map_some (host_call_of known called.filter (tokens_of is)) through_call make more in
-      subst (IsStatement l x (pieces.tag w is)) (ap (λ make. begins (of_one (Host n) make)) same ∙ h) (is_host_block r at (host_call_takes known called.filter call (tokens_of is) read))
+      let (call, read, same) = map_some (host_call_of known called.filter called.given (tokens_of is)) through_call make more in
+      subst (IsStatement l x (pieces.tag w is)) (ap (λ make. begins (of_one (Host n) make)) same ∙ h) (is_host_block r at (host_call_takes known called.filter called.given call (tokens_of is) read))
 
   -- of a tag whose items are one word, one value ..
   part_stands : {A : Type 0} (w : Text) (is : List Item) (o : Option A) (to : Option A → Statement) → to None ≡ refused → to o ≡ statement → ((a : A) → o ≡ Some a → IsStatement l x (pieces.tag w is) (to (Some a))) → IsStatement l x (pieces.tag w is) statement

@@ -110,7 +110,7 @@ pub data IsStatement (l : Language) (x : BlockContext) : pieces.Piece → Statem
   -- the text of a host's block goes through its call
   is_host_block : {w : Text} {n : ℕ} {called : BlockCall} {call : FilterCall} {is : List Item} →
       role_of l x w ≡ Some (HostBlock n) → block_at l n ≡ Some called →
-      IsHostCall (registered_in l.filters) called.filter call (tokens_of is) →
+      IsHostCall (registered_in l.filters) called.filter called.given call (tokens_of is) →
       IsStatement l x (pieces.tag w is) (begins (of_one (Host n) (through_call call)))
   -- a block whose body isn't read has no items, and with its body it is a piece of its own
   is_raw : {w t : Text} → verbatim_body (role_of l x w) ≡ Some Raw →

@@ -242,9 +242,22 @@ impl<'t> Asking<'t> {
         Ok(())
     }
 
+    /// An argument that isn't required is nil where it is missing.
+    fn ask_arguments_of(&mut self, filter: &'t ChainFilter) -> Done {
+        for (index, argument) in filter.arguments.iter().enumerate() {
+            let want = if index < filter.required {
+                Want::Present
+            } else {
+                Want::Perhaps
+            };
+            self.ask(argument, want)?;
+        }
+        Ok(())
+    }
+
     fn ask_arguments(&mut self, filters: &'t [ChainFilter]) -> Done {
         for filter in filters {
-            self.ask_all(&filter.arguments)?;
+            self.ask_arguments_of(filter)?;
         }
         Ok(())
     }

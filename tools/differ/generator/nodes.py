@@ -229,7 +229,6 @@ class Nodes:
     def ifchanged(self, depth):
         return self.tag("ifchanged") + self.body(depth) + self.tag("endifchanged")
 
-
     def filtered(self, depth):
         """A block of a host, where there are such."""
         if self.is_shopify:
@@ -263,12 +262,20 @@ class Nodes:
         return self.tag(self.rng.choice(("section", "sections")), name)
 
 
+    def led(self, depth):
+        """A tag of a host, where there are such."""
+        if not self.is_jekyll:
+            return self.value(depth)
+        markup = self.rng.choice(("about.md", "/about.md", "a.md", "_posts/2020-01-31-tea.md", "2020-01-31-tea", "a/2020-01-31-tea", "/a/2020-01-31-tea", "2020-01-31", "{{ x }}", ""))
+        return self.tag(self.rng.choice(("link", "post_url")), markup) if self.chance(0.7) else self.tag("feed_meta", *([markup] if self.chance(0.1) else []))
+
+
 LEAVES = (
     [Nodes.text] * 6
     + [Nodes.value] * 9
     + [Nodes.shown] * 4
     + [Nodes.assign] * 4
     + [Nodes.dated] * 2
-    + [Nodes.shop_tag, Nodes.counter, Nodes.counter, Nodes.cycle, Nodes.cycle, Nodes.interrupt, Nodes.include, Nodes.include, Nodes.render, Nodes.render, Nodes.comment, Nodes.raw]
+    + [Nodes.shop_tag, Nodes.led, Nodes.counter, Nodes.counter, Nodes.cycle, Nodes.cycle, Nodes.interrupt, Nodes.include, Nodes.include, Nodes.render, Nodes.render, Nodes.comment, Nodes.raw]
 )
 BLOCKS = [Nodes.choice] * 4 + [Nodes.unless, Nodes.case, Nodes.case] + [Nodes.loop] * 5 + [Nodes.tablerow] * 2 + [Nodes.capture] * 2 + [Nodes.ifchanged] * 2 + [Nodes.filtered]

@@ -107,7 +107,16 @@ def jekyll_data(rng):
     if rng.random() < 0.2:
         return {"site": rng.choice((None, 1, "x", [], {}))} if rng.random() < 0.3 else {}
     urls, bases = ("http://x.org", "", "https://a.b/c", "http://x.org/", "//h", "x y", 1, None), ("/blog", "", "/", "blog", "/a/b/", "/a b", "é", 2, None)
-    return {"site": {"url": rng.choice(urls), "baseurl": rng.choice(bases), "posts": posts(rng)}}
+    return {"site": {"url": rng.choice(urls), "baseurl": rng.choice(bases), "posts": posts(rng), **parts_of_site(rng)}}
+
+
+def parts_of_site(rng):
+    """What Jekyll's tags look at, or some of it."""
+    paths = ("about.md", "/about.md", "_posts/2020-01-31-tea.md", "a/_posts/2020-01-31-tea.html", "_posts/a/2020-01-31-tea.md", "2020-01-31-tea", "", 5, None)
+    pages = [{"path": rng.choice(paths), "relative_path": rng.choice((*paths, None)), "url": rng.choice(("/a b", "http://x.org/é", "", "a", None, 5))} for _ in range(4)]
+    titles = ("Tea", "a & b", "\"'<", "", False, 5, None, ["a"])
+    parts = {"pages": pages[:1], "static_files": pages[1:2], "documents": pages, "title": rng.choice(titles), "name": rng.choice(titles), "feed": {"path": rng.choice(("f.xml", "", None))}}
+    return {name: held if rng.random() < 0.9 else rng.choice((None, 1, "x", [1, "a"], {})) for name, held in parts.items() if rng.random() < 0.8}
 
 
 def posts(rng):

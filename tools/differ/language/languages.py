@@ -5,14 +5,15 @@ from typing import Callable
 from . import jekyll_filters, shopify_blocks, shopify_filters
 from .filters import FILTERS
 from .tags import TAGS, jekyll_include
+from .tree import Literal, Variable
 
 
 @dataclass(frozen=True)
 class Language:
     """The readers of tags by their names, how many arguments each filter takes, from the data the filters of a run, and the names of tags
     that begin with a path without quotes. It drops the white space of blocks that write nothing, or doesn't. By their names it has the
-    filters of blocks whose tag is one text or has items, and those of tags of a host, with the variable that is the input of one with items. It escapes what outputs and `cycle`
-    write, or doesn't."""
+    filters of blocks whose tag is one text or has items, and those of tags of a host, with the variable that is the input of one with items,
+    and what the filter of a tag's name is given beside its text. It escapes what outputs and `cycle` write, or doesn't."""
 
     tags: dict
     counts: dict
@@ -34,12 +35,23 @@ def functions_of(filters):
     return {name: function for name, (_, _, function) in filters.items()}
 
 
-def language_with(tags, filters_over, path_tags=(), text_blocks=None):
+def of_site(*names):
+    return [Variable("site", [Literal(name, name)]) for name in names]
+
+
+JEKYLL_TAGS = {
+    "link": of_site("pages", "static_files", "documents"),
+    "post_url": of_site("posts"),
+    "feed_meta": of_site("feed", "title", "name"),
+}
+
+
+def language_with(tags, filters_over, path_tags=(), text_blocks=None, text_tags=None):
     """The standard language with these tags and the filters that stand over the data, in place of its own of their names, and without the
     white space of blocks that write nothing."""
     counts = counts_of({**FILTERS, **filters_over({})})
     functions = lambda data: functions_of({**FILTERS, **filters_over(data)})
-    return Language({**TAGS, **tags}, counts, functions, path_tags, True, text_blocks or {})
+    return Language({**TAGS, **tags}, counts, functions, path_tags, True, text_blocks or {}, text_tags or {})
 
 
 STANDARD = Language(TAGS, counts_of(FILTERS), lambda data: STANDARD_FUNCTIONS)
@@ -47,7 +59,7 @@ STANDARD_FUNCTIONS = functions_of(FILTERS)
 LANGUAGES = {
     None: STANDARD,
     "escaped": replace(STANDARD, escapes=True),
-    "jekyll": language_with({"include": jekyll_include}, jekyll_filters.filters_over, ("include",), {"highlight": "highlight"}),
+    "jekyll": language_with({"include": jekyll_include}, jekyll_filters.filters_over, ("include",), {"highlight": "highlight"}, JEKYLL_TAGS),
     "shopify": replace(
         language_with({}, shopify_filters.filters_over),
         text_blocks=shopify_blocks.TEXT_BLOCKS,
