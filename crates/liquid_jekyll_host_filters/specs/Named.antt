@@ -14,7 +14,8 @@ abbrev pub each_filter : List JekyllFilter
 each_filter = each.RelativeUrl ∷ each.AbsoluteUrl ∷ each.DateToString ∷ each.DateToLongString ∷
     each.DateToXmlschema ∷ each.DateToRfc822 ∷ each.XmlEscape ∷ each.CgiEscape ∷ each.UriEscape ∷
     each.Jsonify ∷ each.NormalizeWhitespace ∷ each.NumberOfWords ∷ each.ToInteger ∷
-    each.ArrayToSentenceString ∷ each.GroupBy ∷ each.Where ∷ each.Find ∷ each.Highlight ∷ []
+    each.ArrayToSentenceString ∷ each.GroupBy ∷ each.Where ∷ each.Find ∷ each.Highlight ∷
+    each.Link ∷ each.PostUrl ∷ each.FeedMeta ∷ []
 
 -- the filter of a name, where there is one
 abbrev pub filter_named : Text → Option JekyllFilter
