@@ -38,6 +38,7 @@ pub(crate) fn register_shopify_tags(alloc: Global, language: &mut Language) -> R
     ensures filters { language.new.filters ≡ language.old.filters }
     ensures include_paths { language.new.include_paths ≡ language.old.include_paths }
     ensures drops_blanks { language.new.drops_blanks ≡ language.old.drops_blanks }
+    ensures escapes_html { language.new.escapes_html ≡ language.old.escapes_html }
 {
     register_tag(alloc, language, "section", section_call(alloc)?)?;
     register_tag(alloc, language, "sections", section_call(alloc)?)?;
@@ -64,6 +65,7 @@ pub(crate) fn register_shopify_blocks(alloc: Global, language: &mut Language) ->
     ensures filters { language.new.filters ≡ language.old.filters }
     ensures include_paths { language.new.include_paths ≡ language.old.include_paths }
     ensures drops_blanks { language.new.drops_blanks ≡ language.old.drops_blanks }
+    ensures escapes_html { language.new.escapes_html ≡ language.old.escapes_html }
 {
     register_block(alloc, language, "form", "form", Style::Items)?;
     register_block(alloc, language, "paginate", "paginate", Style::Text)?;
@@ -90,6 +92,7 @@ fn register_tag(alloc: Global, language: &mut Language, name: &str, call: HostCa
     ensures filters { language.new.filters ≡ language.old.filters }
     ensures include_paths { language.new.include_paths ≡ language.old.include_paths }
     ensures drops_blanks { language.new.drops_blanks ≡ language.old.drops_blanks }
+    ensures escapes_html { language.new.escapes_html ≡ language.old.escapes_html }
 {
     let name = String::from_str(alloc, name)?;
     match language.register_tag(name, call) {
@@ -123,6 +126,7 @@ fn register_block(
     ensures filters { language.new.filters ≡ language.old.filters }
     ensures include_paths { language.new.include_paths ≡ language.old.include_paths }
     ensures drops_blanks { language.new.drops_blanks ≡ language.old.drops_blanks }
+    ensures escapes_html { language.new.escapes_html ≡ language.old.escapes_html }
 {
     let name = String::from_str(alloc, name)?;
     let filter = String::from_str(alloc, filter)?;
