@@ -4,6 +4,7 @@ pub mod Calls
 pub mod DataFor
 pub mod HostTags
 pub mod Hosted
+pub mod Jekylls
 pub mod Languages
 pub mod Levels
 pub mod Named

@@ -15,6 +15,7 @@ mod handle;
 mod handle_content;
 mod hosted;
 mod insert;
+mod jekyll;
 mod levels;
 mod named;
 mod parse;

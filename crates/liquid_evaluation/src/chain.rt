@@ -10,6 +10,7 @@ use liquid_core::{
     DirectValue, Error, ErrorKind, Expression, HostFilters, Missing, NamedFilters, Quoted, Result,
     State, Value, ValueCow,
 };
+use liquid_filters::FilterKind;
 use std::alloc::Global;
 
 /// One filter of a chain with its arguments, of which it accepts the number.
@@ -42,9 +43,20 @@ impl ChainFilter {
     ghost use Rattle.liquid_evaluation.specs.Calls.{applied, call_of};
     ghost use Rattle.liquid_evaluation.specs.ChainView.{chain_filter_view};
     ghost use Rattle.liquid_evaluation.specs.DirectValues.{ChainDirectlyIs};
+    ghost use Rattle.liquid_evaluation.specs.Escaped.{escape_call};
     ghost use Rattle.liquid_evaluation.specs.Evaluation.{accepted, answers_in, answers_with};
     ghost use Rattle.liquid_evaluation.specs.Evaluation.{call_by};
     ghost use Rattle.liquid_evaluation.specs.inside.Forgiveness.{forgives_nil};
+
+    /// The filter `escape`, without arguments.
+    pub fn escape(alloc: Global) -> ChainFilter
+        ensures { chain_filter_view result ≡ escape_call }
+    {
+        ChainFilter {
+            filter: StoredFilter::Kind(FilterKind::Escape),
+            arguments: Vec::new(alloc),
+        }
+    }
 
     /// The call by which the filter is run on its arguments, whose number it accepts.
     pub fn call<'h, H: NamedFilters>(&'h self, host: &'h H) -> FilterCall<'h, AnyFilter<'h, H>>

@@ -28,6 +28,7 @@ use Rattle.liquid_decimals.specs.declared.filter.DecimalFilter.TheVariants as d
 use Rattle.liquid_jekyll_host_filters.specs.SiteFilters.{filter_least, filter_most, filter_name}
 use Rattle.liquid_jekyll_host_filters.specs.declared.site_filter.JekyllFilter.{JekyllFilter}
 use Rattle.liquid_jekyll_host_filters.specs.declared.site_filter.JekyllFilter.TheVariants as j
+use Rattle.liquid_filter_sets.specs.ShopifyTags.{HasShopifyTags}
 use Rattle.liquid_shopify_host_filters.specs.Kinds as shopify
 use Rattle.liquid_shopify_host_filters.specs.declared.kind.ShopifyKind.{ShopifyKind}
 use Rattle.liquid_shopify_host_filters.specs.declared.kind.ShopifyKind.TheVariants as s
@@ -110,6 +111,7 @@ pub record IsJekyll (l : Language) : Type 0 where
       (Kind JekyllSort))
   pub include_paths : l.include_paths ≡ true
   pub drops_blanks : l.drops_blanks ≡ true
+  pub escapes_html : l.escapes_html ≡ false
   pub host_tags : HasJekyllTags l
 
 -- ---- Shopify's
@@ -121,27 +123,28 @@ with_kinds m (k ∷ ks) = with_kinds (insert m (shopify.shopify_filter_name k)
 
 abbrev pub shopify_filters : List ShopifyKind
 shopify_filters =
-    s.AssetUrl ∷ s.Base64Decode ∷ s.Base64Encode ∷ s.Camelize ∷ s.Find ∷ s.FindIndex ∷
-    s.GlobalAssetUrl ∷ s.Handle ∷ s.Handleize ∷ s.Has ∷ s.HighlightActiveTag ∷
-    s.HmacSha256 ∷ s.ImgTag ∷ s.Json ∷ s.LinkTo ∷ s.LinkToAddTag ∷ s.LinkToRemoveTag ∷
-    s.LinkToTag ∷ s.LinkToType ∷ s.LinkToVendor ∷ s.Md5 ∷ s.Money ∷ s.MoneyWithCurrency ∷
-    s.MoneyWithoutCurrency ∷ s.MoneyWithoutTrailingZeros ∷
-    s.ProductImgUrl ∷ s.Reject ∷ s.RemoveLast ∷ s.ReplaceLast ∷ s.ScriptTag ∷ s.Sha1 ∷ s.Sha256 ∷
-    s.ShopifyAssetUrl ∷ s.Squish ∷ s.StylesheetTag ∷ s.Sum ∷ s.UrlForType ∷ s.UrlForVendor ∷
-    s.WeightWithUnit ∷ s.Within ∷ []
+    s.AssetUrl ∷ s.Base64Decode ∷ s.Base64Encode ∷ s.Camelize ∷ s.DefaultPagination ∷ s.Find ∷
+    s.FindIndex ∷ s.Form ∷ s.GlobalAssetUrl ∷ s.Handle ∷ s.Handleize ∷ s.Has ∷
+    s.HighlightActiveTag ∷ s.HmacSha256 ∷ s.ImgTag ∷ s.Json ∷ s.Layout ∷ s.LinkTo ∷
+    s.LinkToAddTag ∷ s.LinkToRemoveTag ∷ s.LinkToTag ∷ s.LinkToType ∷ s.LinkToVendor ∷ s.Md5 ∷
+    s.Money ∷ s.MoneyWithCurrency ∷ s.MoneyWithoutCurrency ∷ s.MoneyWithoutTrailingZeros ∷
+    s.NoText ∷ s.Paginate ∷ s.ProductImgUrl ∷ s.Reject ∷ s.RemoveLast ∷ s.ReplaceLast ∷
+    s.ScriptTag ∷ s.Section ∷ s.Sha1 ∷ s.Sha256 ∷ s.ShopifyAssetUrl ∷ s.Squish ∷ s.Style ∷
+    s.StylesheetTag ∷ s.Sum ∷ s.UrlForType ∷ s.UrlForVendor ∷ s.WeightWithUnit ∷ s.Within ∷ []
 
 abbrev pub with_shopify_filters : Map RegisteredFilter → Map RegisteredFilter
 with_shopify_filters m = with_kinds m shopify_filters
 
 -- the standard language with the names of Shopify's filters of a host, without the white space of
--- blocks that write nothing; and no tags of a host
+-- blocks that write nothing, with Shopify's tags and blocks
 pub record IsShopify (l : Language) : Type 0 where
   pub tags : listed (kinds_of l.tags) ≡ bind_each standard_tags (listed [])
   pub blocks : listed (kinds_of l.blocks) ≡ bind_each standard_blocks (listed [])
   pub filters : listed (registered_in l.filters) ≡
       with_shopify_filters (with_filters (listed []) standard_filters)
   pub drops_blanks : l.drops_blanks ≡ true
-  pub host_tags : numbers_of l.host_tags ≡ []
+  pub escapes_html : l.escapes_html ≡ false
+  pub host_tags : HasShopifyTags l
 
 -- ---- decimals
 
@@ -165,4 +168,5 @@ pub record HasDecimals (l : Language) : Type 0 where
   pub filters : listed (registered_in l.filters) ≡
       with_decimal_filters (with_filters (listed []) standard_filters)
   pub drops_blanks : l.drops_blanks ≡ false
+  pub escapes_html : l.escapes_html ≡ false
   pub host_tags : numbers_of l.host_tags ≡ []

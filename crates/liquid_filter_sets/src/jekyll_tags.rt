@@ -37,6 +37,7 @@ pub(crate) fn register_jekyll_tags(alloc: Global, language: &mut Language) -> Re
     ensures filters { language.new.filters ≡ language.old.filters }
     ensures include_paths { language.new.include_paths ≡ language.old.include_paths }
     ensures drops_blanks { language.new.drops_blanks ≡ language.old.drops_blanks }
+    ensures escapes_html { language.new.escapes_html ≡ language.old.escapes_html }
 {
     let lists = site_lists(alloc)?;
     register_site_tag(alloc, language, "link", lists)?;
@@ -70,6 +71,7 @@ fn register_site_tag(
     ensures filters { language.new.filters ≡ language.old.filters }
     ensures include_paths { language.new.include_paths ≡ language.old.include_paths }
     ensures drops_blanks { language.new.drops_blanks ≡ language.old.drops_blanks }
+    ensures escapes_html { language.new.escapes_html ≡ language.old.escapes_html }
 {
     let filter = String::from_str(alloc, name)?;
     let name = String::from_str(alloc, name)?;
@@ -104,6 +106,7 @@ fn register_highlight(alloc: Global, language: &mut Language) -> Result<()>
     ensures filters { language.new.filters ≡ language.old.filters }
     ensures include_paths { language.new.include_paths ≡ language.old.include_paths }
     ensures drops_blanks { language.new.drops_blanks ≡ language.old.drops_blanks }
+    ensures escapes_html { language.new.escapes_html ≡ language.old.escapes_html }
 {
     let name = String::from_str(alloc, "highlight")?;
     let filter = String::from_str(alloc, "highlight")?;

@@ -11,6 +11,7 @@ ghost use Rattle.liquid_filter_sets.specs.Languages.{with_jekyll_filters, with_k
 ghost use Rattle.liquid_filter_sets.specs.Languages.{with_shopify_filters, with_sites};
 
 use crate::jekyll_tags::register_jekyll_tags;
+use crate::shopify_tags::{register_shopify_blocks, register_shopify_tags};
 use liquid_core::{ErrorKind, Result};
 use liquid_decimals::{DECIMAL_FILTERS, DecimalFilter};
 use liquid_filters::FilterKind;
@@ -40,8 +41,8 @@ pub fn jekyll_language(alloc: Global) -> Result<Language>
     Ok(language)
 }
 
-/// The language of Shopify's templates: the standard one with the names of Shopify's filters of a
-/// host; it drops the white space of blocks that write nothing. `Memory` where a growth was
+/// The language of Shopify's templates: the standard one with Shopify's tags, blocks and filters of
+/// a host; it drops the white space of blocks that write nothing. `Memory` where a growth was
 /// refused.
 pub fn shopify_language(alloc: Global) -> Result<Language>
     ensures shopify { IfOk result IsShopify }
@@ -50,6 +51,8 @@ pub fn shopify_language(alloc: Global) -> Result<Language>
     let mut language = language(alloc)?;
     language.drops_blanks = true;
     register_shopify_filters(alloc, &mut language.filters)?;
+    register_shopify_tags(alloc, &mut language)?;
+    register_shopify_blocks(alloc, &mut language)?;
     Ok(language)
 }
 

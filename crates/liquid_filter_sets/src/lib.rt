@@ -12,6 +12,7 @@ mod member;
 mod money;
 mod setting_uses;
 mod shop;
+mod shopify_tags;
 mod site;
 mod truth;
 mod where_exp;

@@ -6,6 +6,7 @@ pub mod Highlight
 pub mod Json
 pub mod Laws
 pub mod Links
+pub mod Named
 pub mod Numbers
 pub mod Properties
 pub mod Searches

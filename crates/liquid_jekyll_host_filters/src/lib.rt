@@ -10,6 +10,7 @@ mod highlight_markup;
 mod json;
 pub mod laws;
 mod links;
+mod named;
 mod numbers;
 mod percent;
 mod properties;

@@ -87,6 +87,7 @@ pub record IsStandard (l : Language) : Type 0 where
   pub filters : listed (registered_in l.filters) ≡ with_filters (listed []) standard_filters
   pub include_paths : l.include_paths ≡ false
   pub drops_blanks : l.drops_blanks ≡ false
+  pub escapes_html : l.escapes_html ≡ false
   pub host_tags : numbers_of l.host_tags ≡ []
   pub host_calls : calls_of l.host_tags ≡ []
   pub host_blocks : blocks_of l.host_tags ≡ []

@@ -7,6 +7,7 @@ pub mod Comparisons
 pub mod Computed
 pub mod ComputedUses
 pub mod Covering
+pub mod Escaping
 pub mod FilterNeeds
 pub mod FoundValues
 pub mod FreeNames

@@ -1,5 +1,6 @@
 pub mod Assigning
 pub mod Effects
+pub mod Escaping
 pub mod FilterNeeds
 pub mod FreeNames
 pub mod GivenValues

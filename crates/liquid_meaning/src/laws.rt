@@ -1,6 +1,7 @@
 //! Laws of what templates mean: each function's contract is the law, and its body does nothing.
 
 ghost use Rattle.liquid_meaning.specs.Assigning.{AssignedAnywhere};
+ghost use Rattle.liquid_meaning.specs.Escaping.{EscapedOutputs, EscapedTexts};
 ghost use Rattle.liquid_meaning.specs.FilterNeeds.{KnownRespected};
 ghost use Rattle.liquid_meaning.specs.FreeNames.{FreeDataAlone, FreeNamesAlone, FreeUsesAlone};
 ghost use Rattle.liquid_meaning.specs.GivenValues.{GivenAreLiterals};
@@ -30,7 +31,8 @@ pub fn isolation_laws()
 /// Further laws of runs. A text is itself; what is assigned stays, also after a loop (a `render`
 /// leaves nothing: [isolation_laws]); the numbers of `forloop` fit together; and every run ends by
 /// a kind that is one of runs, where the filters do, as all that exist do, or else by `Memory`,
-/// where a filter of a host answers that.
+/// where a filter of a host answers that. What an escaped node writes is its text, escaped, and of
+/// an output that is the text of its chain's value.
 pub fn run_laws()
     ensures text { TextIsItself }
     ensures stays { AssignedStay }
@@ -40,6 +42,8 @@ pub fn run_laws()
     ensures kinds { KindsOfRuns }
     ensures own_kinds { KindsOfOwnRuns }
     ensures host_kinds { KindsWithHost }
+    ensures escaped { EscapedTexts }
+    ensures escaped_outputs { EscapedOutputs }
 {}
 
 /// Laws of a loop's items: which of them a window asks for, what a range counts, both together, and

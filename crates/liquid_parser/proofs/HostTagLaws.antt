@@ -35,9 +35,11 @@ use Rattle.liquid_parser.specs.Chains.{Filters, arguments, called_as, none}
 use Rattle.liquid_parser.specs.Classification.{leaf_or, one_or, reads, tag_statement}
 use Rattle.liquid_parser.specs.HostTags.{AreTagValues, no_values, tag_values, IsHostCall, host_call, IsHostChain, host_chain, call_requiring, chain_of_call, requiring, call_given, host_call_of, host_chain_of, through_call}
 use Rattle.liquid_parser.specs.Nesting.{Statement, begins, leaf, of_one}
+use Rattle.liquid_parser.specs.Outputs.{as_it_is, output_of}
 use Rattle.liquid_parser.specs.ValueLists.{any_values_of, values_of}
 use Rattle.liquid_parser.specs.declared.value_items.Separators.TheVariants.{OptionalCommas}
 use Rattle.liquid_parser.proofs.ItemLaws.{values_takes, values_again}
+use Rattle.liquid_parser.proofs.OutputLaws.{output_as_it_is}
 use Rattle.liquid_parser.proofs.Printed.{called_again, filters_again}
 
 -- ---- values
@@ -107,11 +109,12 @@ chain_alone : (known : Filters) (v : Expression) (name : Text) (xs : List Expres
 unfolding chain_of
 chain_alone known v name xs = ap (option_map (λ calls. record { entry = v; filters = calls })) (one_call known name xs) ∙ made_alone v (accepted_call name (listed known name) xs)
 
-output_read : (l : Language) (x : BlockContext) (v : Expression) (name : Text) (xs : List Expression) (os : List Item) → tokens_of os ≡ value v ∷ symbol Bar ∷ word name ∷ arguments xs
+output_read : (l : Language) (x : BlockContext) (v : Expression) (name : Text) (xs : List Expression) (os : List Item) → tokens_of os ≡ as_it_is l (value v ∷ symbol Bar ∷ word name ∷ arguments xs)
     → reads l x (pieces.output os) ≡ leaf_or (option_map output (option_map (with_entry v) (accepted_call name (listed (registered_in l.filters) name) xs)))
 output_read l x v name xs os spelled =
     let known = registered_in l.filters in
-    ap (λ (ts : List Token). leaf_or (option_map output (chain_of known ts))) spelled
+    ap (λ (ts : List Token). leaf_or (output_of l ts)) spelled
+    ∙ ap leaf_or (output_as_it_is l (value v ∷ symbol Bar ∷ word name ∷ arguments xs))
     ∙ ap (λ (o : Option Chain). leaf_or (option_map output o)) (chain_alone known v name xs)
 
 call_read : (known : Filters) (name : Text) (given xs : List Expression) (ts : List Token) → AreTagValues xs ts → host_call_of known name given ts ≡ call_given known name given xs
@@ -219,7 +222,7 @@ module _ (name : Text) (v : Expression) (n k : ℕ) (f : Filter) (ys : List Expr
   shown_as_block (Some filter) h = to_block v n k (length ys) f ys (registered_counts filter (length ys)) (called_as name filter) h
 
 module _ (l : Language) (x : BlockContext) (w : Text) (n : ℕ) (called : TagCall) (xs : List Expression) (is os : List Item) (f : Filter) (role : role_of l x w ≡ Some (HostTag n)) (at : call_at l n ≡ Some called)
-    (values : AreTagValues xs (tokens_of is)) (spelled : tokens_of os ≡ value called.input ∷ symbol Bar ∷ word called.filter ∷ arguments (xs ++ called.given)) where
+    (values : AreTagValues xs (tokens_of is)) (spelled : tokens_of os ≡ as_it_is l (value called.input ∷ symbol Bar ∷ word called.filter ∷ arguments (xs ++ called.given))) where
   pub tag_as_output : reads l x (pieces.tag w is) ≡ leaf (output (chain_of_call called (call_requiring f (length xs) (xs ++ called.given))))
       → reads l x (pieces.output os) ≡ leaf (output (chain_of_call called (call_requiring f (length (xs ++ called.given)) (xs ++ called.given))))
   unfolding with_entry shown
@@ -233,7 +236,7 @@ module _ (l : Language) (x : BlockContext) (w : Text) (n : ℕ) (called : TagCal
       ∙ shown_as_tag called.filter called.input n (length xs) f (xs ++ called.given) (listed (registered_in l.filters) called.filter) (sym (output_read l x called.input called.filter (xs ++ called.given) os spelled) ∙ h)
 
 module _ (l : Language) (x : BlockContext) (w : Text) (n : ℕ) (called : BlockCall) (xs : List Expression) (v : Expression) (is os : List Item) (f : Filter) (role : role_of l x w ≡ Some (HostBlock n)) (at : block_at l n ≡ Some called)
-    (values : AreTagValues xs (tokens_of is)) (spelled : tokens_of os ≡ value v ∷ symbol Bar ∷ word called.filter ∷ arguments (xs ++ called.given)) where
+    (values : AreTagValues xs (tokens_of is)) (spelled : tokens_of os ≡ as_it_is l (value v ∷ symbol Bar ∷ word called.filter ∷ arguments (xs ++ called.given))) where
   pub block_as_output : reads l x (pieces.tag w is) ≡ begins (of_one (Host n) (through_call (call_requiring f (length xs) (xs ++ called.given))))
       → reads l x (pieces.output os) ≡ leaf (output (record { entry = v; filters = call_requiring f (length (xs ++ called.given)) (xs ++ called.given) ∷ [] }))
   unfolding with_entry shown begun

@@ -18,14 +18,16 @@ use Rattle.liquid_language.specs.declared.registry.Language.{Language}
 use Rattle.liquid_parser.specs.Chains.{arguments}
 use Rattle.liquid_parser.specs.HostTags.{AreTagValues, call_requiring, through_call}
 use Rattle.liquid_parser.specs.Nesting.{Statement, begins, ends, leaf, of_one}
+use Rattle.liquid_parser.specs.Outputs.{as_it_is}
 use Rattle.liquid_parser.specs.Statements.{IsStatement}
 
 -- the value goes through the call, and is shown
 abbrev pub shown_call : Expression → FilterCall → Statement
 shown_call v call = leaf (output (record { entry = v; filters = call ∷ [] }))
 
--- `{% w a, b %}` is the output that `{{ input | filter: a, b, given }}` is, and none where that is
--- none, but for what is required: in the tag its values alone, in the output each argument
+-- `{% w a, b %}` is the output that `{{ input | filter: a, b, given }}` is, with `| raw` after it
+-- where the language escapes, and none where that is none, but for what is required: in the tag its
+-- values alone, in the output each argument
 abbrev pub HostTagsAreOutputs : Type 0
 HostTagsAreOutputs =
     (l : Language) (x : BlockContext) (w : Text) (n : ℕ) (called : TagCall) (xs : List Expression)
@@ -33,7 +35,8 @@ HostTagsAreOutputs =
     → role_of l x w ≡ Some (HostTag n) → call_at l n ≡ Some called →
     AreTagValues xs (tokens_of is)
     → tokens_of os ≡
-    value called.input ∷ symbol Bar ∷ word called.filter ∷ arguments (xs ++ called.given)
+    as_it_is l (value called.input ∷ symbol Bar ∷ word called.filter ∷
+    arguments (xs ++ called.given))
     → IsStatement l x (pieces.tag w is)
     (shown_call called.input (call_requiring filter (length xs) (xs ++ called.given))) ↔
     IsStatement l x (pieces.output os) (shown_call called.input
@@ -45,15 +48,16 @@ NoHostTags = (l : Language) (x : BlockContext) (w : Text) (n : ℕ) → numbers_
     role_of l x w ≡ Some (HostTag n) → ⊥
 
 -- `{% w a, b %}` begins a block whose text goes through the call that
--- `{{ v | filter: a, b, given }}` has, and no block where that is no output, but for what is
--- required
+-- `{{ v | filter: a, b, given }}` has, with `| raw` after it where the language escapes, and no
+-- block where that is no output, but for what is required
 abbrev pub HostBlocksAreCalls : Type 0
 HostBlocksAreCalls =
     (l : Language) (x : BlockContext) (w : Text) (n : ℕ) (called : BlockCall) (xs : List Expression)
     (v : Expression) (is os : List Item) (filter : Filter)
     → role_of l x w ≡ Some (HostBlock n) → block_at l n ≡ Some called →
     AreTagValues xs (tokens_of is)
-    → tokens_of os ≡ value v ∷ symbol Bar ∷ word called.filter ∷ arguments (xs ++ called.given)
+    → tokens_of os ≡ as_it_is l (value v ∷ symbol Bar ∷ word called.filter ∷
+    arguments (xs ++ called.given))
     → IsStatement l x (pieces.tag w is) (begins (of_one (Host n)
     (through_call (call_requiring filter (length xs) (xs ++ called.given))))) ↔
     IsStatement l x (pieces.output os)

@@ -66,6 +66,7 @@ fn register(alloc: Global, language: &mut Language, options: &Value) -> Result<(
     }
     language.include_paths = option(options, "paths").is_some();
     language.drops_blanks = option(options, "blanks").is_some();
+    language.escapes_html = option(options, "escape").is_some();
     if let Some(names) = map_option(options, "host") {
         register_host(alloc, &mut language.filters, names)?;
     }

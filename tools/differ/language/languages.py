@@ -1,8 +1,8 @@
 """Which tags and filters a language has: the standard one, and those with a set of filters of a host."""
-from dataclasses import dataclass, field
+from dataclasses import dataclass, field, replace
 from typing import Callable
 
-from . import jekyll_filters, shopify_filters
+from . import jekyll_filters, shopify_blocks, shopify_filters
 from .filters import FILTERS
 from .tags import TAGS, jekyll_include
 from .tree import Literal, Variable
@@ -12,7 +12,8 @@ from .tree import Literal, Variable
 class Language:
     """The readers of tags by their names, how many arguments each filter takes, from the data the filters of a run, and the names of tags
     that begin with a path without quotes. It drops the white space of blocks that write nothing, or doesn't. By their names it has the
-    filters of blocks whose tag is one text, and what the filter of a tag's name is given beside its text."""
+    filters of blocks whose tag is one text or has items, and those of tags of a host, with the variable that is the input of one with items.
+    It escapes what outputs and `cycle` write, or doesn't. What the filter of a tag is given beside its text stands by the tag's name."""
 
     tags: dict
     counts: dict
@@ -21,6 +22,10 @@ class Language:
     drops_blanks: bool = False
     text_blocks: dict = field(default_factory=dict)
     text_tags: dict = field(default_factory=dict)
+    item_blocks: dict = field(default_factory=dict)
+    item_tags: dict = field(default_factory=dict)
+    escapes: bool = False
+    given: dict = field(default_factory=dict)
 
 
 def counts_of(filters):
@@ -42,18 +47,26 @@ JEKYLL_TAGS = {
 }
 
 
-def language_with(tags, filters_over, path_tags=(), text_blocks=None, text_tags=None):
+def language_with(tags, filters_over, path_tags=(), text_blocks=None, given=None):
     """The standard language with these tags and the filters that stand over the data, in place of its own of their names, and without the
     white space of blocks that write nothing."""
     counts = counts_of({**FILTERS, **filters_over({})})
     functions = lambda data: functions_of({**FILTERS, **filters_over(data)})
-    return Language({**TAGS, **tags}, counts, functions, path_tags, True, text_blocks or {}, text_tags or {})
+    text_tags = {name: name for name in given or {}}
+    return Language({**TAGS, **tags}, counts, functions, path_tags, True, text_blocks or {}, text_tags, given=given or {})
 
 
 STANDARD = Language(TAGS, counts_of(FILTERS), lambda data: STANDARD_FUNCTIONS)
 STANDARD_FUNCTIONS = functions_of(FILTERS)
 LANGUAGES = {
     None: STANDARD,
+    "escaped": replace(STANDARD, escapes=True),
     "jekyll": language_with({"include": jekyll_include}, jekyll_filters.filters_over, ("include",), {"highlight": "highlight"}, JEKYLL_TAGS),
-    "shopify": language_with({}, shopify_filters.filters_over),
+    "shopify": replace(
+        language_with({}, shopify_filters.filters_over),
+        text_blocks=shopify_blocks.TEXT_BLOCKS,
+        text_tags=shopify_blocks.TEXT_TAGS,
+        item_blocks=shopify_blocks.ITEM_BLOCKS,
+        item_tags=shopify_blocks.ITEM_TAGS,
+    ),
 }

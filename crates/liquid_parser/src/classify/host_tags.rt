@@ -125,7 +125,7 @@ fn add_copies(
 }
 
 /// A list of the filter alone.
-fn alone(alloc: Global, filter: ChainFilter) -> Result<Vec<ChainFilter>, ParseError>
+pub(super) fn alone(alloc: Global, filter: ChainFilter) -> Result<Vec<ChainFilter>, ParseError>
     ensures filters { IfOk result (λ filters. filters.items ≡ filter ∷ []) }
     ensures memory { IfErr result (λ e. e ≡ ParseError.Memory) }
 {
