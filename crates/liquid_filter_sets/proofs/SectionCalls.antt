@@ -10,12 +10,11 @@ use Rattle.liquid_lexer.specs.declared.style.Style.TheVariants.{Items}
 use Rattle.liquid_language.specs.HostTags.{TagCall, tag_call}
 use Rattle.liquid_filter_sets.specs.ShopifyTags.{section_call}
 
-abbrev called : Text → tree.Expression → List tree.Expression → TagCall
-called filter input given = record { filter = filter; input = input; style = Items; given = given }
+abbrev called : Text → tree.Expression → TagCall
+called filter input = record { filter = filter; input = input; style = Items; given = [] }
 
-pub section_of : (filter name : String Global) (xs ys : Vec Expression Global) → string_bytes filter ≡ codes "section" → string_bytes name ≡ codes "sections" → xs.items ≡ [] → ys.items ≡ []
-    → tag_call (record { filter = filter; input = Variable (roll-Variable record { name = name; indexes = xs }); style = Items; given = ys }) ≡ section_call
-section_of filter name xs ys f n none bare =
-    ap (λ (input : tree.Expression). called (string_bytes filter) input (map expression_view ys.items)) (view-Variable name xs ∙ ap (λ (w : Text). tree.variable w (steps_view xs.items)) n ∙ ap (λ (es : List Expression). tree.variable (codes "sections") (steps_view es)) none)
-    ∙ ap (λ (w : Text). called w (tree.variable (codes "sections") tree.no_steps) (map expression_view ys.items)) f
-    ∙ ap (λ (es : List Expression). called (codes "section") (tree.variable (codes "sections") tree.no_steps) (map expression_view es)) bare
+pub section_of : (filter name : String Global) (xs gs : Vec Expression Global) → string_bytes filter ≡ codes "section" → string_bytes name ≡ codes "sections" → xs.items ≡ [] → gs.items ≡ [] → tag_call (record { filter = filter; input = Variable (roll-Variable record { name = name; indexes = xs }); style = Items; given = gs }) ≡ section_call
+section_of filter name xs gs f n none lone =
+    ap (λ (es : List Expression). record { filter = string_bytes filter; input = expression_view (Variable (roll-Variable record { name = name; indexes = xs })); style = Items; given = map expression_view es }) lone
+    ∙ ap (called (string_bytes filter)) (view-Variable name xs ∙ ap (λ (w : Text). tree.variable w (steps_view xs.items)) n ∙ ap (λ (es : List Expression). tree.variable (codes "sections") (steps_view es)) none)
+    ∙ ap (λ (w : Text). called w (tree.variable (codes "sections") tree.no_steps)) f

@@ -35,8 +35,8 @@ HostTagsAreOutputs =
     → role_of l x w ≡ Some (HostTag n) → call_at l n ≡ Some called →
     AreTagValues xs (tokens_of is)
     → tokens_of os ≡
-    as_it_is l (value called.input ∷ symbol Bar ∷ word called.filter
-    ∷ arguments (xs ++ called.given))
+    as_it_is l (value called.input ∷ symbol Bar ∷ word called.filter ∷
+    arguments (xs ++ called.given))
     → IsStatement l x (pieces.tag w is)
     (shown_call called.input (call_requiring filter (length xs) (xs ++ called.given))) ↔
     IsStatement l x (pieces.output os) (shown_call called.input
@@ -56,8 +56,8 @@ HostBlocksAreCalls =
     (v : Expression) (is os : List Item) (filter : Filter)
     → role_of l x w ≡ Some (HostBlock n) → block_at l n ≡ Some called →
     AreTagValues xs (tokens_of is)
-    → tokens_of os ≡ as_it_is l (value v ∷ symbol Bar ∷ word called.filter
-    ∷ arguments (xs ++ called.given))
+    → tokens_of os ≡ as_it_is l (value v ∷ symbol Bar ∷ word called.filter ∷
+    arguments (xs ++ called.given))
     → IsStatement l x (pieces.tag w is) (begins (of_one (Host n)
     (through_call (call_requiring filter (length xs) (xs ++ called.given))))) ↔
     IsStatement l x (pieces.output os)

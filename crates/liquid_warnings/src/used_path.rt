@@ -191,6 +191,19 @@ impl<'t> Asking<'t> {
         self.ask_arguments(&chain.filters)
     }
 
+    /// An argument that isn't required is nil where it is missing.
+    fn ask_arguments_of(&mut self, filter: &'t ChainFilter) -> Done {
+        for (index, argument) in filter.arguments.iter().enumerate() {
+            let want = if index < filter.required {
+                Want::Present
+            } else {
+                Want::Perhaps
+            };
+            self.ask(argument, want)?;
+        }
+        Ok(())
+    }
+
     /// The keys of items by which filters sort, choose or map them.
     fn ask_keys(&mut self, chain: &'t FilterChain) -> Done {
         let Expression::Variable(variable) = &chain.entry else {
@@ -239,19 +252,6 @@ impl<'t> Asking<'t> {
             }
         }
         self.aliases.push(Alias { name, path })?;
-        Ok(())
-    }
-
-    /// An argument that isn't required is nil where it is missing.
-    fn ask_arguments_of(&mut self, filter: &'t ChainFilter) -> Done {
-        for (index, argument) in filter.arguments.iter().enumerate() {
-            let want = if index < filter.required {
-                Want::Present
-            } else {
-                Want::Perhaps
-            };
-            self.ask(argument, want)?;
-        }
         Ok(())
     }
 

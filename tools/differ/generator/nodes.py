@@ -276,6 +276,6 @@ LEAVES = (
     + [Nodes.shown] * 4
     + [Nodes.assign] * 4
     + [Nodes.dated] * 2
-    + [Nodes.shop_tag, Nodes.led, Nodes.counter, Nodes.counter, Nodes.cycle, Nodes.cycle, Nodes.interrupt, Nodes.include, Nodes.include, Nodes.render, Nodes.render, Nodes.comment, Nodes.raw]
+    + [Nodes.led, Nodes.shop_tag, Nodes.counter, Nodes.counter, Nodes.cycle, Nodes.cycle, Nodes.interrupt, Nodes.include, Nodes.include, Nodes.render, Nodes.render, Nodes.comment, Nodes.raw]
 )
 BLOCKS = [Nodes.choice] * 4 + [Nodes.unless, Nodes.case, Nodes.case] + [Nodes.loop] * 5 + [Nodes.tablerow] * 2 + [Nodes.capture] * 2 + [Nodes.ifchanged] * 2 + [Nodes.filtered]

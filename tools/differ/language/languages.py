@@ -12,8 +12,8 @@ from .tree import Literal, Variable
 class Language:
     """The readers of tags by their names, how many arguments each filter takes, from the data the filters of a run, and the names of tags
     that begin with a path without quotes. It drops the white space of blocks that write nothing, or doesn't. By their names it has the
-    filters of blocks whose tag is one text or has items, and those of tags of a host, with the variable that is the input of one with items,
-    and what the filter of a tag's name is given beside its text. It escapes what outputs and `cycle` write, or doesn't."""
+    filters of blocks whose tag is one text or has items, and those of tags of a host, with the variable that is the input of one with items.
+    It escapes what outputs and `cycle` write, or doesn't. What the filter of a tag is given beside its text stands by the tag's name."""
 
     tags: dict
     counts: dict
@@ -25,6 +25,7 @@ class Language:
     item_blocks: dict = field(default_factory=dict)
     item_tags: dict = field(default_factory=dict)
     escapes: bool = False
+    given: dict = field(default_factory=dict)
 
 
 def counts_of(filters):
@@ -46,12 +47,13 @@ JEKYLL_TAGS = {
 }
 
 
-def language_with(tags, filters_over, path_tags=(), text_blocks=None, text_tags=None):
+def language_with(tags, filters_over, path_tags=(), text_blocks=None, given=None):
     """The standard language with these tags and the filters that stand over the data, in place of its own of their names, and without the
     white space of blocks that write nothing."""
     counts = counts_of({**FILTERS, **filters_over({})})
     functions = lambda data: functions_of({**FILTERS, **filters_over(data)})
-    return Language({**TAGS, **tags}, counts, functions, path_tags, True, text_blocks or {}, text_tags or {})
+    text_tags = {name: name for name in given or {}}
+    return Language({**TAGS, **tags}, counts, functions, path_tags, True, text_blocks or {}, text_tags, given=given or {})
 
 
 STANDARD = Language(TAGS, counts_of(FILTERS), lambda data: STANDARD_FUNCTIONS)

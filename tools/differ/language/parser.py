@@ -52,7 +52,7 @@ class Parser:
             node = self.language.tags[piece.name](items)
             return self.shown(node) if isinstance(node, Cycle) else node
         if piece.name in self.language.text_tags:
-            return Output(Chain(Literal(None, "nil"), [items.host_call(piece.name, self.language.text_tags[piece.name])]))
+            return Output(Chain(Literal(None, "nil"), [items.host_call(piece.name, self.language.given.get(piece.name, ()))]))
         if piece.name in self.language.item_tags:
             name, source = self.language.item_tags[piece.name]
             return Output(Chain(Variable(source), [items.host_call(name)]))
