@@ -26,7 +26,10 @@ pub fn is_silent(remark: &Remark, template: &Template, missing: Missing) -> bool
 fn is_misread(kind: &str) -> bool
     ensures { result ≡ is_misread kind.now }
 {
-    matches!(kind, "ElseIf" | "NoClock" | "NoDate" | "TextNumber")
+    matches!(
+        kind,
+        "ElseIf" | "NoClock" | "NoColours" | "NoDate" | "TextNumber"
+    )
 }
 
 /// Whether the kind is of what the data lacks.
