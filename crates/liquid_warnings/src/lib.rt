@@ -18,6 +18,7 @@ mod loops;
 mod messages;
 mod modes;
 mod names;
+mod of_jekyll;
 mod otherwise;
 mod partials;
 mod path_texts;
