@@ -36,6 +36,10 @@ abbrev pub clock_message : Text → Text
 clock_message word = codes "`'" ++ (word ++ (codes "' | date` gives `" ++ (word
     ++ codes "`, since there is no clock; give the time as data")))
 
+abbrev pub colours_message : Text
+colours_message =
+    codes "`highlight` writes code without colours, as Jekyll does with `highlighter: none`"
+
 -- what a literal or a value of the data is that is no list and no map
 abbrev pub kind_word : Datum → Text
 kind_word (text s) = codes "a text"

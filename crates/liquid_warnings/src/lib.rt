@@ -19,6 +19,7 @@ mod loops;
 mod messages;
 mod modes;
 mod names;
+mod of_jekyll;
 mod otherwise;
 mod partials;
 mod path_texts;
