@@ -112,6 +112,12 @@ uint32_t bikleinu_jekyll_language(bikleinu_handle *made);
  * (below): a page without one ends by BIKLEINU_UNSUPPORTED where it calls the filter. */
 uint32_t bikleinu_register(bikleinu_handle *language, const uint8_t *name, size_t length, size_t least, size_t most);
 
+/* Registers the names of Jekyll's own filters, which bikleinu_answers_jekyll (below) lets the library answer, in a language: relative_url,
+ * absolute_url, the four of dates, xml_escape, cgi_escape, uri_escape, jsonify, normalize_whitespace, number_of_words, to_integer,
+ * array_to_sentence_string, group_by, where, find and highlight. What such a name stood for before is forgotten. After BIKLEINU_MEMORY some
+ * may be registered; after any other number but 0 nothing changed. */
+uint32_t bikleinu_register_jekyll(bikleinu_handle *language);
+
 /* How what stands after the name of a tag of the caller's is read. */
 enum {
     BIKLEINU_STYLE_ITEMS = 0, /* as values, with commas between them or none */
@@ -132,6 +138,10 @@ uint32_t bikleinu_register_tag(bikleinu_handle *language, const uint8_t *name, s
  * its input, and to the values. A block without its end is BIKLEINU_MISSING_END. */
 uint32_t bikleinu_register_block(bikleinu_handle *language, const uint8_t *name, size_t length, const uint8_t *filter, size_t filter_length,
                                  uint32_t style);
+
+/* Makes a language escape for HTML what outputs and cycle write, but not an output that ends with "| raw", in templates that are parsed from
+ * then on. A captured text is escaped already, and needs it. */
+uint32_t bikleinu_escape_html(bikleinu_handle *language);
 
 /* Parses the source of a template in a language. The template doesn't need the language any more, or the source. It keeps a copy of a source
  * of at most 1 MiB, so that the fault of a run stands at its item, and else at the output or the tag. */
@@ -228,12 +238,18 @@ uint32_t bikleinu_data_for(const uint8_t *json, size_t length, bikleinu_handle *
  * caller reads the calls, puts the answers into the table and renders again. A table is kept for further pages, which mostly need no
  * second run. So a filter is to be a function of its input and arguments: it isn't asked again what the table has. */
 
-/* Makes a table without filters and answers. */
+/* Makes a table without filters, answers and a site. */
 uint32_t bikleinu_answers(bikleinu_handle *made);
 
 /* Adds a filter to a table by its name, unless it is there. After anything but 0 nothing changed. A page that calls a registered filter
- * which the table hasn't ends by BIKLEINU_UNSUPPORTED. */
+ * which the table hasn't ends by BIKLEINU_UNSUPPORTED, but for Jekyll's own over a site (below). */
 uint32_t bikleinu_answers_filter(bikleinu_handle *answers, const uint8_t *name, size_t length);
+
+/* Puts a site into a table, in place of the one before: its address, as "https://example.org", and its base path, as "/blog", or no bytes.
+ * The library then answers calls of Jekyll's own filters itself, each with as many arguments as Jekyll's takes, but for those that the
+ * table has by their names. After anything but 0 nothing changed. */
+uint32_t bikleinu_answers_jekyll(bikleinu_handle *answers, const uint8_t *address, size_t address_length, const uint8_t *base,
+                                 size_t base_length);
 
 /* Renders as bikleinu_render_within, with the filters of a table. Where the answer is BIKLEINU_LACKING, page holds calls that the table
  * lacks: at least one, at most BIKLEINU_CALLS, and each once. Each is to be answered (below), and then the same call made again.

@@ -41,6 +41,36 @@ def fault_cases():
     ]
 
 
+def selection_cases():
+    files = {f"s/{name}": "{{" for name in ("a.liquid", "b.html", "c.min.js", "liquid", "n/d.liquid", "n/m/e.html")}
+    unclosed = lambda *names: "".join(json(f"s/{name}", 1, 1, "Unclosed", "this `{{` has no `}}`") for name in names)
+    call = lambda title, words, names, count: case(title, f"check s --format json {words}", files, unclosed(*names), 1, counted(count, count))
+    none = "error: s: --ext and --exclude leave no file in this folder"
+    ending = "error: --ext is the end of names, without `*`: --ext liquid, or --ext html,liquid"
+    pattern = "error: --exclude is a name below a folder, or several with `/` between, each with one `*` at most"
+    return [
+        call("endings", "--ext html,liquid", ("a.liquid", "b.html", "n/d.liquid", "n/m/e.html"), 4),
+        call("an ending with its dot, and a folder", "--ext .liquid --exclude n", ("a.liquid",), 1),
+        call("two endings", "--ext js --ext html", ("b.html", "c.min.js", "n/m/e.html"), 3),
+        call("a part with any letters", "--exclude '*.js' --exclude n/m/ --exclude 'li*'", ("a.liquid", "b.html", "n/d.liquid"), 3),
+        call("parts that stand together", "--exclude n/e.html --exclude m/e.html", ("a.liquid", "b.html", "c.min.js", "liquid", "n/d.liquid"), 5),
+        case("no file is left", "check s --ext md", files, status=1, errors=(none, *counted(0))),
+        case("a file that a word names", "check s/c.min.js --ext md --exclude '*.js' --format json", files, unclosed("c.min.js"), 1, counted(1, 1)),
+        *(case(f"an ending that is none: {word}", f"check s --ext '{word}'", files, status=2, errors=(ending,)) for word in ("", "*.md", "a/b", "a,,b")),
+        *(case(f"a pattern that is none: {word}", f"check s --exclude '{word}'", files, status=2, errors=(pattern,)) for word in ("", "a//b", "/a", "./a", "../a", "*a*")),
+    ]
+
+
+def strict_cases():
+    warned = {"t": "{{ nmae }}", "d": '{"name": 1}'}
+    said = "t:1:1: warning: UnknownName: the data has no `nmae`; did you mean `name`?\n  |\n1 | {{ nmae }}\n  | ^\n"
+    return [
+        case("warnings count", "check t -d d --strict", warned, said, 1, counted(1, 0, 1)),
+        case("warnings don't count", "check t -d d", warned, said, 0, counted(1, 0, 1)),
+        case("no warning", "check t --strict", warned, errors=counted(1)),
+    ]
+
+
 def format_cases():
     return [
         case("GitHub's lines", "check t --format github", TWO, "::error file=t,line=1,col=1,title=UnknownTag::no tag is named `nope`; a value is shown by `{{ nope }}`\n::error file=t,line=2,col=8,title=UnknownFilter::no filter is named `xyzzy`\n", 1, counted(1, 2)),
@@ -88,7 +118,8 @@ def partial_cases():
         warned("an empty folder of partials", "t -p p", {"t": "{% render 'x' %}", "p/": ""}, warning("t", 1, 1, "MissingPartial", "no partial is named `x`"), 1, 1),
         case("a partial that is left out", "check t -p p --format json", {"t": "{% include 'a.png' %}", "p/a.png": b"\0"}, warning("t", 1, 1, "MissingPartial", "no partial is named `a.png`"), errors=("left out: p/a.png is no text: it has a byte 0", *counted(1, 0, 1))),
         warned("no partials are given", "t", {"t": "{% include 'a' %}"}, "", 0),
-        warned("a partial that nothing runs", "t -p p", {"t": "{% render 'a' %}", "p/a": "", "p/b": ""}, warning("p/b", 1, 1, "UnusedPartial", "none of the templates runs this partial"), 1, 3),
+        warned("a partial that one template doesn't run", "t -p p", {"t": "{% render 'a' %}", "p/a": "", "p/b": ""}, "", 0, 3),
+        warned("a partial that nothing runs", "f -p p", {"f/t": "{% render 'a' %}", "p/a": "", "p/b": ""}, warning("p/b", 1, 1, "UnusedPartial", "none of the templates runs this partial"), 1, 3),
         warned("two files of one name", "t -p a=x -p a=y", {"t": "{% render 'a' %}", "x": "", "y": ""}, warning("x", 1, 1, "UnusedPartial", "none of the templates runs this partial"), 1, 3),
         warned("a partial that a name in the data may run", "t -p p", {"t": "{% render a %}", "p/b": ""}, "", 0, 2),
         warned("pages among the partials", "f -p f", {"f/a": "{% render 'b' %}", "f/b": ""}, "", 0, 2),
@@ -155,6 +186,8 @@ def attribute_cases():
         warned("what is escaped, literals and a loop's own object", "t --warn unescaped-attributes", {"t": "{% for x in y %}<a b=\"{{ c | escape }}{{ c | url_encode | upcase }}{{ 'x' }}{{ 1 }}{{ forloop.index }}\">{% endfor %}"}, "", 0),
         warned("outside of attributes", "t --warn unescaped-attributes", {"t": "a < b = '{{ c }}' <3 \"{{ d }}\" <p {{ e }}>=\"{{ f }}\"</p {{ g }}><{{ h }} {{ i }}><p q={{ 1 }} {{ j }}>"}, "", 0),
         warned("tags, comments and raw text write nothing", "t --warn unescaped-attributes", {"t": "<a b=\"{% if c %}{{ d }}{% endif %}{% comment %}\">{% endcomment %}{% raw %}\">{% endraw %}{{ e }}\">{{ f }}"}, warning("t", 1, 17, "UnescapedAttribute", QUOTE) + warning("t", 1, 89, "UnescapedAttribute", QUOTE), 2),
+        warned("outputs that the language escapes", "t --warn unescaped-attributes --escape html", {"t": "<a b=\"{{ c }}{{ d | raw }}\">"}, warning("t", 1, 14, "UnescapedAttribute", QUOTE), 1),
+        warned("a captured text that is escaped again", "t --escape html", {"t": "{% capture a %}<b>{{ c }}</b>{% endcapture %}{{ a }}{{ a | raw }}{{ c }}{{ a }}"}, warning("t", 1, 46, "EscapedTwice", "the outputs in the captured `a` are escaped already; end this one with `| raw`"), 1),
         case("another kind", "check t --warn all", {"t": ""}, status=2, errors=("error: invalid value 'all' for '--warn <KIND>'", "  [possible values: unescaped-attributes]")),
     ]
 
@@ -196,5 +229,6 @@ def ruby_cases():
 
 def check_cases():
     return (
-        fault_cases() + format_cases() + file_cases() + partial_cases() + name_cases() + path_cases() + value_cases() + attribute_cases() + ruby_cases()
+        fault_cases() + selection_cases() + strict_cases() + format_cases() + file_cases() + partial_cases() + name_cases()
+        + path_cases() + value_cases() + attribute_cases() + ruby_cases()
     )

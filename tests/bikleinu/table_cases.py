@@ -102,7 +102,9 @@ def slip_cases():
         case("a value in the place of the data", "render t title=Tea", page, errors=("error: title=Tea: No such file or directory", DEFINE)),
         case("an option for a value of other programs", "render t --var title=Tea", page, errors=("error: unexpected argument '--var' found", "  tip: -D NAME=TEXT gives a value"), status=2),
         case("the version by a small letter", "-v", page, errors=("error: unexpected argument '-v' found", "  tip: -V prints the version"), status=2),
+        case("completions", "completions bash", page, errors=("error: unrecognized subcommand 'completions'", "  tip: each package brings those of bash, zsh and fish"), status=2),
+        case("several templates", "render a.liquid b.html d.json", page, errors=("error: one template is rendered a call", "  tip: call it for each, as 'for t in *.liquid;"), status=2),
         case("a folder as the pattern of names", "merge t r -o mails/", page, errors=(folder,), status=2),
         case("data that is checked as a template", "check t d.json", page, errors=(DATA_FILE, "files 2, faults 0, warnings 0"), status=0),
-        case("a fraction in TOML", "render t d.toml", {**page, "d.toml": "a = 19.99\n"}, errors=("error: d.toml: Float: a number of the data isn't whole, and numbers are whole here: count in a smaller unit, such as cents, or write it as a text, in quotes",)),
+        case("a fraction in TOML", "render t d.toml", {**page, "d.toml": "b = [1]\na = [{c = 1, d = [1, 19.99]}]\n"}, errors=("error: d.toml: Float: `a[0].d[1]` isn't a whole number, and numbers are whole here: count in a smaller unit, such as cents, or write it as a text, in quotes",)),
     ]

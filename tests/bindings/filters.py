@@ -276,6 +276,14 @@ def jekyll():
     return page or copy or code or raises(lambda: Template("{% include card.html a='b' %}"), LiquidError)
 
 
+def escaped():
+    made = Environment(autoescape=True, partials={"p": "{{ a }}"}, filters={"own": own})
+    copied = pickle.loads(pickle.dumps(made))
+    source = "{{ a }}{{ a | raw }}{{ a | own }}{% include 'p' %}{% cycle a %}"
+    page, copy = (same(lambda: it.from_string(source).render(a="<"), "&lt;<&lt;&lt;&lt;") for it in (made, copied))
+    return page or copy or raises(lambda: Template("{{ a | raw }}"), LiquidError)
+
+
 def mails():
     """Ten thousand mails on four threads, with a filter; each thousandth has a fault, which is reported with its place."""
     made = Environment(filters={"money": money}, partials={"end": "\n{{ from }}"})
@@ -304,6 +312,32 @@ def mails():
     return wrong[0] if wrong else None if sorted(faults) == wanted else f"{sorted(faults)}"
 
 
+def sites():
+    """Jekyll's filters over a site, which the library answers, but for those of the caller's."""
+    source = "{{ '/a b' | absolute_url }} {{ '/t' | relative_url }} {{ xs | where: 'a', 1 | jsonify }}"
+    data = {"xs": [{"a": 1}, {"a": 2}]}
+    place = ("https://example.org", "/blog")
+    made = Environment(jekyll=True, site=place)
+    own = Environment(site=("", "/b"), filters={"relative_url": lambda url: f"own {url}"})
+    wanted = 'https://example.org/blog/a%20b /blog/t [{"a":1}]'
+    again = Template(source, pickle.loads(pickle.dumps(Language(site=place))))
+    return first(
+        [
+            same(lambda: made.from_string(source).render(data), wanted),
+            same(lambda: pickle.loads(pickle.dumps(made)).from_string(source).render(data), wanted),
+            same(lambda: again.render(data), wanted),
+            same(lambda: own.from_string(source).render(data), '/b/a%20b own /t [{"a":1}]'),
+            same(lambda: made.from_string("{% highlight c %}1{% endhighlight %}{{ 'x' | xml_escape }}").render()[-1], "x"),
+            same(lambda: made.from_string("{{ 1 | date_to_string }}").page().fault.name, "InvalidInput"),
+            raises(lambda: made.from_string("{{ 1 | where: 2 }}"), LiquidError),
+            raises(lambda: Environment(jekyll=True).from_string("{{ 1 | jsonify }}"), LiquidError),
+            raises(lambda: Environment(site="https://example.org"), TypeError),
+            raises(lambda: Environment(site=("https://example.org", None)), TypeError),
+            raises(lambda: Environment(site=("\ud800", "")), LiquidError),
+        ]
+    )
+
+
 CHECKS = {
     "pages of filters in Python": pages,
     "each call once": asked_once,
@@ -313,6 +347,8 @@ CHECKS = {
     "ten thousand mails on four threads": mails,
     "names": names,
     "Jekyll's language": jekyll,
+    "escaped pages": escaped,
+    "Jekyll's filters over a site": sites,
     "tags and blocks": tags,
     "refused tags": refused_tags,
     "what a repr shows": shown,

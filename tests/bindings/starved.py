@@ -59,6 +59,7 @@ def calls(folder):
         "what a function answers": lambda: template.render({}, partials, missing=DATA.get),
         "a page with filters": lambda: mail.render(shop="Leaf"),
         "new filters": lambda: Environment(filters={"shout": upper}).from_string("{{ 'a' | shout }}").render(),
+        "jekyll's filters": lambda: Environment(site=("http://x.org", "/b")).from_string("{{ 'a' | absolute_url }}").render(),
         "new tags": lambda: tagged().from_string("{% loud %}a{% up 'b' %}{% endloud %}").render(),
         "a fault": lambda: Template("{{ a | plus: 'x' }}").page({"a": 1}).fault.name,
         "a folder": lambda: Environment(partials=folder).from_string(SOURCE).render(DATA),

@@ -283,6 +283,22 @@ static void of_languages(void) {
     end();
 }
 
+/* A language that escapes, and handles that hold none. */
+static void of_escaping(void) {
+    static const char source[] = "{{ a }}{{ a | raw }}{% cycle a %}";
+    is("language", bikleinu_language(&language), BIKLEINU_DONE);
+    is("raw", bikleinu_parse(&language, bytes(source), strlen(source), &template_), BIKLEINU_UNKNOWN_FILTER);
+    is("escape", bikleinu_escape_html(&language), BIKLEINU_DONE);
+    is("parse", bikleinu_parse(&language, bytes(source), strlen(source), &template_), BIKLEINU_DONE);
+    is("data", bikleinu_data(bytes("{\"a\":\"<\"}"), 9, &data), BIKLEINU_DONE);
+    is("render", bikleinu_render(&template_, &data, &partials, 32, &page), BIKLEINU_DONE);
+    reads("escaped", &page, BIKLEINU_TEXT, "&lt;<&lt;");
+    is("in data", bikleinu_escape_html(&data), BIKLEINU_OTHER_HANDLE);
+    is("share", bikleinu_share(&language, &answer), BIKLEINU_DONE);
+    is("in what is shared", bikleinu_escape_html(&language), BIKLEINU_SHARED_HANDLE);
+    end();
+}
+
 static uint32_t add_tag(const char *name, const char *filter, uint32_t style) {
     return bikleinu_register_tag(&language, bytes(name), strlen(name), bytes(filter), strlen(filter), style);
 }
@@ -389,10 +405,52 @@ static void of_highlight(void) {
     end();
 }
 
+static uint32_t register_jekyll(void) { return bikleinu_register_jekyll(&language); }
+static uint32_t put_site(bikleinu_handle *into, const char *address, const char *base) {
+    return bikleinu_answers_jekyll(into, bytes(address), strlen(address), bytes(base), strlen(base));
+}
+static uint32_t put_example(void) { return put_site(&answers, "https://example.org", "/blog"); }
+
+/* Jekyll's filters, which the library answers over the table's site, but for those that the table has. */
+static void of_sites(void) {
+    static const char source[] = "{{ '/a b' | absolute_url }} {{ '/t' | relative_url }} {{ p | shout }}";
+    begin("", "{\"p\":\"x\"}");
+    is("a filter that isn't registered", parse(source), BIKLEINU_UNKNOWN_FILTER);
+    each("jekyll's filters", register_jekyll);
+    is(source, parse(source), BIKLEINU_DONE);
+    renders(BIKLEINU_UNSUPPORTED, BIKLEINU_TEXT, "");
+    each("a site", put_example);
+    renders(BIKLEINU_LACKING, BIKLEINU_TEXT, "[[\"shout\",\"x\"]]");
+    answers_by(0, "{\"answer\":\"X\"}");
+    renders(BIKLEINU_DONE, BIKLEINU_TEXT, "https://example.org/blog/a%20b /blog/t X");
+    is("another site", put_site(&answers, "", "/b/"), BIKLEINU_DONE);
+    renders(BIKLEINU_DONE, BIKLEINU_TEXT, "/b/a%20b /b/t X");
+    is("a filter of the table's", bikleinu_answers_filter(&answers, bytes("relative_url"), 12), BIKLEINU_DONE);
+    renders(BIKLEINU_LACKING, BIKLEINU_TEXT, "[[\"relative_url\",\"/t\"]]");
+    answers_by(0, "{\"answer\":\"own\"}");
+    renders(BIKLEINU_DONE, BIKLEINU_TEXT, "/b/a%20b own X");
+    is("no text of an address", put_site(&answers, "\xff", "/c"), BIKLEINU_NO_TEXT);
+    is("no text of a base path", put_site(&answers, "/c", "\xff"), BIKLEINU_NO_TEXT);
+    is("a site for data", put_site(&data, "", ""), BIKLEINU_OTHER_HANDLE);
+    is("a site for nothing", put_site(&partials, "", ""), BIKLEINU_OTHER_HANDLE);
+    is("share a table", bikleinu_share(&answers, &answer), BIKLEINU_DONE);
+    is("a site for what is shared", put_site(&answers, "", ""), BIKLEINU_SHARED_HANDLE);
+    renders(BIKLEINU_DONE, BIKLEINU_TEXT, "/b/a%20b own X");
+    is("an argument too few", parse("{{ 1 | where: 'a' }}"), BIKLEINU_FILTER_ARGUMENTS);
+    is("jsonify with arguments", bikleinu_register(&language, bytes("jsonify"), 7, 0, 5), BIKLEINU_DONE);
+    is("jsonify with one", parse("{{ 1 | jsonify: 2 }}"), BIKLEINU_DONE);
+    renders(BIKLEINU_UNSUPPORTED, BIKLEINU_TEXT, "");
+    is("filters in data", bikleinu_register_jekyll(&data), BIKLEINU_OTHER_HANDLE);
+    is("filters in nothing", bikleinu_register_jekyll(&partials), BIKLEINU_OTHER_HANDLE);
+    is("share a language", bikleinu_share(&language, &answer), BIKLEINU_DONE);
+    is("filters in what is shared", bikleinu_register_jekyll(&language), BIKLEINU_SHARED_HANDLE);
+    end();
+}
+
 int main(void) {
     size_t before = blocks;
-    of_rounds(), of_faults(), of_memory(), of_refusals(), of_languages(), of_bounds(), of_limits();
-    of_tags(), of_refused_tags(), of_highlight();
+    of_rounds(), of_faults(), of_memory(), of_refusals(), of_languages(), of_escaping(), of_bounds(), of_limits();
+    of_tags(), of_refused_tags(), of_highlight(), of_sites();
     if (blocks != before) wrong++, printf("%zu pieces of memory are left\n", blocks - before);
     printf("tables: %zu\n", tests);
     return wrong != 0;

@@ -132,6 +132,8 @@ def kit():
     """The folder of the kit."""
     try:
         page = subprocess.run(["rt", "doc"], capture_output=True, text=True, check=True).stdout.strip()
+    except FileNotFoundError:
+        raise Stopped("Rattle's kit isn't here: there is no command `rt`, and without it you need a package (README.md, Get it)") from None
     except (OSError, subprocess.CalledProcessError) as error:
         raise Stopped(f"rt doc doesn't tell where the kit is: {error}") from None
     return os.path.dirname(page)

@@ -12,6 +12,8 @@ from ._values import Conversions, encoded
 from .errors import INVALID_INPUT, LACKING, LimitError, LiquidError, refused
 
 Function = Callable[..., Any]
+# where a site of Jekyll's is: its address and its base path
+Site = Tuple[str, str]
 # how many answers a table holds before another one is begun
 _ANSWERS = 10_000
 # how much of what an error says goes into the message of a fault
@@ -22,11 +24,14 @@ _ANY_NUMBER = 2**32
 class Table(Owner):
     """Answers of filters, each to one input and its arguments."""
 
-    def __init__(self, names: List[str], version: int) -> None:
+    def __init__(self, names: List[str], version: int, site: Optional[Site] = None) -> None:
         super().__init__()
         self.version = version
         self.answers = 0
         self._need(library.bikleinu_answers(self._handle))
+        if site:
+            address, base = map(utf8, site)
+            self._need(library.bikleinu_answers_jekyll(self._handle, address, len(address), base, len(base)))
         for name in names:
             text = utf8(name)
             self._need(library.bikleinu_answers_filter(self._handle, text, len(text)))
@@ -66,9 +71,11 @@ def filter_of(tag: str) -> str:
 
 
 class Filters:
-    """Functions by their names. Each thread has a table of its own, so that no two wait for each other."""
+    """Functions by their names, and the site over which the library itself answers Jekyll's filters. Each thread has a table of its own,
+    so that no two wait for each other."""
 
-    def __init__(self) -> None:
+    def __init__(self, site: Optional[Site] = None) -> None:
+        self.site = site
         self.functions: Dict[str, Function] = {}
         self.tags: Dict[str, Tag] = {}
         self._tag_of: Dict[str, Tag] = {}
@@ -76,10 +83,10 @@ class Filters:
         self._tables = _Tables()
 
     def __reduce__(self) -> Any:
-        return _filters, (self.functions, self.tags)
+        return _filters, (self.functions, self.tags, self.site)
 
     def __bool__(self) -> bool:
-        return bool(self.functions or self.tags)
+        return bool(self.functions or self.tags or self.site)
 
     def add(self, name: str, function: Function) -> None:
         """Adds a function, in place of the one of that name."""
@@ -102,7 +109,7 @@ class Filters:
         """This thread's table, which is begun anew where it holds much, or answers of a function that was replaced."""
         table = self._tables.table
         if table is None or table.version != self._version or table.answers > _ANSWERS:
-            table = self._tables.table = Table([*self.functions, *self._tag_of], self._version)
+            table = self._tables.table = Table([*self.functions, *self._tag_of], self._version, self.site)
         return table
 
     def forget(self) -> None:
@@ -110,8 +117,8 @@ class Filters:
         self._tables.table = None
 
 
-def _filters(functions: Dict[str, Function], tags: Dict[str, Tag]) -> Filters:
-    made = Filters()
+def _filters(functions: Dict[str, Function], tags: Dict[str, Tag], site: Optional[Site]) -> Filters:
+    made = Filters(site)
     for name, function in functions.items():
         made.add(name, function)
     for name, tag in tags.items():

@@ -5,10 +5,10 @@ import threading
 from collections.abc import Callable, Iterator, Mapping
 from typing import Any, TypeVar, overload
 
-from ._filters import Filters, Function, Tag, arity, filter_of
+from ._filters import Filters, Function, Site, Tag, arity, filter_of
 from ._library import library
 from ._owner import Owner, listed, utf8
-from .errors import refused
+from .errors import NO_TEXT, refused
 
 # a function that a decorator hands back as it is
 Called = TypeVar("Called", bound=Function)
@@ -41,12 +41,31 @@ class Functions(Mapping[str, Function]):
 class Language(Owner):
     """The standard language: its tags, blocks and filters. With jekyll=True it has the tag include and the filter sort of Jekyll in
     place of the standard ones and its block highlight, and drops the white space of blocks that write nothing. filters are functions in
-    Python by their names, which templates call as any other."""
+    Python by their names, which templates call as any other. site is the address and the base path of a site of Jekyll's: then the
+    library has Jekyll's own filters over it, but for those that filters name. With autoescape=True what outputs and cycle write is
+    escaped for HTML, but not an output that ends with `| raw`; a captured text is escaped already, and needs it.
 
-    def __init__(self, *, jekyll: bool = False, filters: Mapping[str, Function] | None = None) -> None:
+        >>> import bikleinu
+        >>> language = bikleinu.Language(jekyll=True, site=("https://example.org", "/blog"))
+        >>> bikleinu.Template("{{ '/tea' | absolute_url }}", language).render()
+        'https://example.org/blog/tea'
+    """
+
+    def __init__(
+        self,
+        *,
+        jekyll: bool = False,
+        filters: Mapping[str, Function] | None = None,
+        site: Site | None = None,
+        autoescape: bool = False,
+    ) -> None:
         super().__init__()
-        self._jekyll, self._filters = bool(jekyll), Filters()
+        self._jekyll, self._filters, self._autoescape = bool(jekyll), Filters(_checked(site)), bool(autoescape)
         self._need((library.bikleinu_jekyll_language if jekyll else library.bikleinu_language)(self._handle))
+        if site is not None:
+            self._need(library.bikleinu_register_jekyll(self._handle))
+        if autoescape:
+            self._need(library.bikleinu_escape_html(self._handle))
         for name, function in (filters or {}).items():
             self.add_filter(name, function)
 
@@ -164,14 +183,28 @@ class Language(Owner):
             self._filters.add_tag(name, tag)
 
     def __reduce__(self) -> Any:
-        return _language, (self._jekyll, self._filters.functions, self._filters.tags)
+        return _language, (self._jekyll, self._filters.functions, self._filters.tags, self._filters.site, self._autoescape)
 
     def __repr__(self) -> str:
         return f"<bikleinu.Language{', jekyll' if self._jekyll else ''}{listed(', filters', self.filters)}>"
 
 
-def _language(jekyll: bool, filters: Mapping[str, Function], tags: Mapping[str, Tag]) -> Language:
-    made = Language(jekyll=jekyll, filters=filters)
+def _checked(site: Any) -> Site | None:
+    """The site, which is two texts."""
+    if site is None:
+        return None
+    if not isinstance(site, tuple) or len(site) != 2 or not all(isinstance(it, str) for it in site):
+        raise TypeError(f"site is {site!r}, and two texts are wanted: ('https://example.org', '/blog')")
+    address, base = site
+    try:
+        (address + base).encode()
+    except UnicodeEncodeError:
+        raise refused(NO_TEXT) from None
+    return address, base
+
+
+def _language(jekyll: bool, filters: Mapping[str, Function], tags: Mapping[str, Tag], site: Site | None, autoescape: bool) -> Language:
+    made = Language(jekyll=jekyll, filters=filters, site=site, autoescape=autoescape)
     for name, tag in tags.items():
         made._add_tag(name, tag)
     return made

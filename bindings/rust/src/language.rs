@@ -1,7 +1,8 @@
 //! Languages.
 use crate::error::LiquidError;
 use crate::ffi::{
-    bikleinu_jekyll_language, bikleinu_language, bikleinu_parse, bikleinu_register, bikleinu_register_block, bikleinu_register_tag, Owner,
+    bikleinu_jekyll_language, bikleinu_language, bikleinu_parse, bikleinu_register, bikleinu_register_block, bikleinu_register_jekyll,
+    bikleinu_register_tag, Owner,
 };
 use crate::filters::{settled, FilterError, Filters};
 use crate::shared::Shared;
@@ -111,6 +112,29 @@ impl Language {
         // SAFETY: the handle is an owner's, and the bytes are a text's.
         settled(unsafe { bikleinu_register(self.owner.only().at(), name.as_ptr(), name.len(), least, most) })?;
         self.filters.add(name, Arc::new(function));
+        Ok(())
+    }
+
+    /// Adds Jekyll's own filters, which the library answers over a site of this address and this base path, for what is parsed from now
+    /// on. A filter that is added afterwards stands in place of the one of its name.
+    ///
+    /// ```
+    /// use bikleinu::{Data, Language};
+    ///
+    /// let mut language = Language::jekyll()?;
+    /// language.jekyll_filters("https://example.org", "/blog")?;
+    /// let template = language.parse("{{ '/a b' | absolute_url }}")?;
+    /// assert_eq!(template.render_text(&Data::none())?, "https://example.org/blog/a%20b");
+    /// # Ok::<(), bikleinu::LiquidError>(())
+    /// ```
+    ///
+    /// # Errors
+    ///
+    /// Refused memory: then some of them may be there.
+    pub fn jekyll_filters(&mut self, address: &str, base: &str) -> Result<(), LiquidError> {
+        // SAFETY: the handle is an owner's.
+        settled(unsafe { bikleinu_register_jekyll(self.owner.only().at()) })?;
+        self.filters.set_site(address, base);
         Ok(())
     }
 

@@ -11,7 +11,7 @@ use std::process;
 /// The files of the system, into which the pages of a call go.
 pub type SystemPages<'r> = PageFiles<SystemFiles<'r>>;
 
-/// The file of a page that the call names.
+/// The file of a page that the call names, in a folder that is made if need be.
 pub fn page_file<'r>(
     rt: &'r HostRuntime,
     inputs: &Inputs<'_>,
@@ -20,7 +20,7 @@ pub fn page_file<'r>(
     let bounds = Bounds {
         front: String::new(rt.alloc()),
         hidden: usize::MAX,
-        makes_folders: false,
+        makes_folders: true,
     };
     let mut files = PageFiles::new(
         rt.alloc(),

@@ -8,11 +8,12 @@ use crate::records::{front_of, records_of, shown, unreadable};
 use crate::report::Report;
 use crate::target::{RecordOutcome, Target};
 use crate::tips::Tips;
+use crate::watch::{NewWarning, Seen, Watch};
 use liquid_commands::{
     DataTexts, MergeCall, RecordsFormat, Sources, Stop, Tip, form_of, is_selected,
     is_template_name, page_tip, record_tip,
 };
-use liquid_core::{Error, ErrorKind, HostFilters, Object};
+use liquid_core::{Error, ErrorKind, HostFilters, Object, Result as Answer};
 use liquid_data::{RecordData, RecordFault, Records};
 use liquid_json::DataReader;
 use liquid_lib::Limits;
@@ -51,7 +52,7 @@ pub fn merge_by<'r>(
         parts,
         uses,
         texts,
-        bytes: _,
+        bytes,
     } = read;
     let has_refusals = !parts.partials.refusals().is_empty();
     let limits = Limits {
@@ -72,6 +73,7 @@ pub fn merge_by<'r>(
         reader,
         texts,
         is_after_fault: false,
+        watch: Watch::new(rt, call, bytes)?,
     };
     run.merge_into(&mut target)
 }
@@ -122,6 +124,8 @@ struct Run<'r> {
     texts: Option<DataTexts<'r>>,
     /// Whether the page of the last record had a fault: then the next is read whole at once.
     is_after_fault: bool,
+    /// Looks for what pages show silently.
+    watch: Watch<'r>,
 }
 
 impl Run<'_> {
@@ -213,7 +217,12 @@ impl Run<'_> {
         tips: &mut Tips,
     ) -> Result<(), Stop> {
         let number = records.number();
-        let Err(report) = self.taken(target, records)? else {
+        let (silent, outcome) = match self.silent_in(target, records) {
+            Ok(silent) => (silent, self.taken(target, records)?),
+            Err(fault) => (Vec::new(self.rt.alloc()), Err(Report::Fault(fault))),
+        };
+        let Err(report) = outcome else {
+            self.watch.print(number, silent)?;
             progress.done(self.rt);
             return Ok(());
         };
@@ -271,6 +280,24 @@ impl Run<'_> {
             },
             _ => None,
         }
+    }
+
+    /// What the page of a record will show silently. One without data has no page, which is
+    /// reported where it is taken. The fault is `Memory`.
+    fn silent_in<R: Read + Drop>(
+        &mut self,
+        target: &Target<'_>,
+        records: &Records<R>,
+    ) -> Answer<Vec<NewWarning>> {
+        if !self.watch.goes_on() {
+            return Ok(Vec::new(self.rt.alloc()));
+        }
+        let Ok(data) = self.data_of(records) else {
+            return Ok(Vec::new(self.rt.alloc()));
+        };
+        let number = records.number();
+        self.watch
+            .look(&self.sources, target.job(), Seen { number, data })
     }
 
     /// Takes one record: whether its page is there, or why not. After a fault it is taken once more

@@ -68,6 +68,15 @@ impl<'r> Target<'r> {
         Target::Files(FileMerge { merge, files })
     }
 
+    /// What is made of each record.
+    pub fn job(&self) -> &Job<HostFilters> {
+        match self {
+            Target::Files(file_merge) => file_merge.merge.job(),
+            Target::Names(merge) => merge.job(),
+            Target::Output(job) => job,
+        }
+    }
+
     /// Takes other data that all records share.
     pub fn share(&mut self, data: Object) {
         match self {

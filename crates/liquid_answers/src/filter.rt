@@ -6,7 +6,7 @@ ghost use Rattle.liquid_answers.specs.Tables.{answers_by, stand_in};
 
 use crate::answers::{Answers, call_of, has_name};
 use crate::missing_calls::{MissingCalls, note};
-use crate::own::OwnFilters;
+use crate::site::answer_over;
 use liquid_core::{Error, NamedFilters, Result, Value};
 use std::alloc::{AllocError, Global};
 use std::cell::RefCell;
@@ -31,7 +31,8 @@ impl NamedFilters for TableFilters<'_, '_> {
         args: &[Value],
     ) -> Result<Value> {
         if !has_name(self.table.names.as_slice(), name) {
-            return OwnFilters.call_named(alloc, name, input, args);
+            let site = self.table.site.as_ref();
+            return answer_over(alloc, site, name, input, args);
         }
         let call = call_of(alloc, name, input, args)?;
         match self.table.find(&call) {

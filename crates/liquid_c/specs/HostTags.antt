@@ -61,7 +61,7 @@ HasTag form.Tag name filter style old new = HasSameRest old new
     × (listed (numbers_of new.host_tags) ≡ insert (listed (numbers_of old.host_tags)) name
     (kinds.Tag (length (calls_of old.host_tags))))
     × (calls_of new.host_tags ≡ calls_of old.host_tags
-    ++ record { filter = filter; input = literal nil; style = style } ∷ [])
+    ++ record { filter = filter; input = literal nil; style = style; given = [] } ∷ [])
     × (blocks_of new.host_tags ≡ blocks_of old.host_tags)
     × (end_names new.host_tags ≡ end_names old.host_tags)
 HasTag form.Block name filter style old new = HasSameRest old new
@@ -69,7 +69,7 @@ HasTag form.Block name filter style old new = HasSameRest old new
     (kinds.Block (length (blocks_of old.host_tags))))
     × (calls_of new.host_tags ≡ calls_of old.host_tags)
     × (blocks_of new.host_tags ≡ blocks_of old.host_tags
-    ++ record { filter = filter; style = style } ∷ [])
+    ++ record { filter = filter; style = style; given = [] } ∷ [])
     × (end_names new.host_tags ≡ end_names old.host_tags ++ (codes "end" ++ name) ∷ [])
 
 -- the tag stands in the language;  its name is refused;  or memory ran out

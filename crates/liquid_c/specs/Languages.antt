@@ -35,7 +35,7 @@ pub record HasOwnHighlight (l : Language) : Type 0 where
   pub name : listed (numbers_of l.host_tags) ≡
       insert (listed []) (codes "highlight") (kinds.Block number)
   pub block : block_at l number ≡
-      Some (record { filter = highlight_name; style = styles.Text })
+      Some (record { filter = highlight_name; style = styles.Text; given = [] })
   pub end : end_in l.host_tags number ≡ codes "endhighlight"
 
 -- the standard language with Jekyll's `include`, which takes a path, `highlight` and `sort`, and

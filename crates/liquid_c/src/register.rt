@@ -71,8 +71,12 @@ fn register_highlight(alloc: Global, language: &mut Language) -> Answer<()>
 {
     let name = String::from_str(alloc, "highlight")?;
     let filter = String::from_str(alloc, highlight_name())?;
-    let style = Style::Text;
-    match language.register_block(alloc, name, HostBlock { filter, style }) {
+    let block = HostBlock {
+        filter,
+        style: Style::Text,
+        given: Vec::new(alloc),
+    };
+    match language.register_block(alloc, name, block) {
         Ok(()) => Ok(()),
         Err(TagError::Memory) => Err(Error::from(AllocError)),
         Err(TagError::Refused(_)) => unreachable!(),

@@ -159,6 +159,7 @@ fn register_tag(
         filter,
         input: Expression::Literal(Value::Nil),
         style,
+        given: Vec::new(alloc),
     };
     match language.register_tag(name, call) {
         Ok(()) => 0,
@@ -183,7 +184,12 @@ fn register_block(
     let Ok(filter) = String::from_str(alloc, filter) else {
         return u32::from(ErrorKind::Memory.number());
     };
-    match language.register_block(alloc, name, HostBlock { filter, style }) {
+    let block = HostBlock {
+        filter,
+        style,
+        given: Vec::new(alloc),
+    };
+    match language.register_block(alloc, name, block) {
         Ok(()) => 0,
         Err(TagError::Memory) => u32::from(ErrorKind::Memory.number()),
         Err(TagError::Refused(reason)) => refusal_of_name(reason).number(),

@@ -1,4 +1,5 @@
 pub mod Blanks
+pub mod Counted
 pub mod Findings
 pub mod Rounds
 pub mod Views

@@ -51,7 +51,7 @@ fn print_found<T: FaultTips>(
         Some(tip) => print_tip(rt, Some(tip)),
         None => print_tip(rt, tip_for_files(rt.alloc(), files, tips)),
     }
-    print_counts(rt, counts, call.is_quiet)
+    print_counts(rt, counts, call)
 }
 
 /// The tip where a path names a file of data.

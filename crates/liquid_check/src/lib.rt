@@ -11,8 +11,10 @@ mod left_over;
 mod paths;
 mod print;
 mod remarks;
+mod warned_page;
 
 pub use command::{FaultTips, check};
 pub use findings::{Finding, Findings, MOST_FINDINGS, findings_of};
 pub use liquid_warnings::else_items;
 pub use remarks::remarks_of;
+pub use warned_page::{MOST_SILENT, ReadTemplate, WarnedPage, render_warned_page, silent_of};

@@ -1,6 +1,6 @@
 //! The files that a call of `check` names.
 use crate::file_id::{FileId, file_id, is_inside};
-use liquid_commands::{CheckCall, Stop, files_below, print_left_out};
+use liquid_commands::{CheckCall, Selection, Stop, files_below, print_left_out};
 use liquid_files::{LeftOut, PartialNames, ShownPath, is_folder, joined_path, named_file};
 use std::alloc::AllocError;
 use std::collections::BTreeMap;
@@ -22,6 +22,8 @@ pub(crate) struct Paths {
     pub(crate) partials: PartialNames,
     /// How many words name nothing that can be read.
     pub(crate) unreadable: usize,
+    /// Whether a word names a folder of templates: then each partial is to be run by some.
+    has_folder: bool,
     /// The place of each file, whatever names it has.
     places: BTreeMap<FileId, usize>,
     /// The paths of what is left out of folders, and why.
@@ -34,6 +36,7 @@ impl Drop for Paths {
             files: _,
             partials: _,
             unreadable: _,
+            has_folder: _,
             places: _,
             left_out: _,
         } = self;
@@ -48,6 +51,7 @@ pub(crate) fn checked_paths(rt: &HostRuntime, call: &CheckCall<'_>) -> Result<Pa
         files: Vec::new(rt.alloc()),
         partials: PartialNames::new(rt.alloc()),
         unreadable: 0,
+        has_folder: false,
         places: BTreeMap::new(rt.alloc()),
         left_out: Vec::new(rt.alloc()),
     };
@@ -59,7 +63,7 @@ pub(crate) fn checked_paths(rt: &HostRuntime, call: &CheckCall<'_>) -> Result<Pa
 impl Paths {
     fn add_all(&mut self, rt: &HostRuntime, call: &CheckCall<'_>) -> Result<(), Stop> {
         for word in &call.paths {
-            self.add_word(rt, word)?;
+            self.add_word(rt, word, call)?;
         }
         for word in &call.partials {
             match named_file(word) {
@@ -71,30 +75,49 @@ impl Paths {
     }
 
     /// Adds a file, or the files below a folder.
-    fn add_word(&mut self, rt: &HostRuntime, word: &str) -> Result<(), Stop> {
+    fn add_word(&mut self, rt: &HostRuntime, word: &str, call: &CheckCall<'_>) -> Result<(), Stop> {
         if is_folder(rt, word) {
-            return self.add_folder(rt, word);
+            self.has_folder = true;
+            return self.add_folder(rt, word, &call.selection);
         }
         let place = self.add_file(rt, word, false)?;
         self.set_page(place, true);
         Ok(())
     }
 
-    /// Adds the files below a folder.
-    fn add_folder(&mut self, rt: &HostRuntime, folder: &str) -> Result<(), Stop> {
+    /// Adds the files below a folder that are selected. A folder without one is reported.
+    fn add_folder(
+        &mut self,
+        rt: &HostRuntime,
+        folder: &str,
+        selection: &Selection<'_>,
+    ) -> Result<(), Stop> {
         let Some(files) = self.files_of(rt, folder)? else {
             return Ok(());
         };
-        if files.is_empty() {
-            let path = ShownPath { path: folder };
-            let _ = eprintln!(rt; "error: {path}: there is no file in this folder");
-            self.unreadable = self.unreadable.saturating_add(1);
-        }
+        let mut is_empty = true;
         for file in &files {
-            let place = self.add_found(rt, folder, file.as_str())?;
-            self.set_page(place, true);
+            if selection.has(rt.alloc(), file.as_str())? {
+                is_empty = false;
+                let place = self.add_found(rt, folder, file.as_str())?;
+                self.set_page(place, true);
+            }
+        }
+        if is_empty {
+            self.note_empty(rt, folder, files.is_empty());
         }
         Ok(())
+    }
+
+    /// Reports a folder in which there is no file, or none that is selected.
+    fn note_empty(&mut self, rt: &HostRuntime, folder: &str, has_none: bool) {
+        let path = ShownPath { path: folder };
+        let _ = if has_none {
+            eprintln!(rt; "error: {path}: there is no file in this folder")
+        } else {
+            eprintln!(rt; "error: {path}: --ext and --exclude leave no file in this folder")
+        };
+        self.unreadable = self.unreadable.saturating_add(1);
     }
 
     /// Adds the file of a partial.
@@ -104,7 +127,8 @@ impl Paths {
     }
 
     /// Adds the partials that are the files below a folder. They are no pages, unless they are
-    /// among those that a call names and their folder stays one of pages.
+    /// among those that a call names and their folder stays one of pages, or the call names single
+    /// templates, which run some of them.
     fn add_partials(
         &mut self,
         rt: &HostRuntime,
@@ -118,7 +142,7 @@ impl Paths {
         for file in files {
             let place = self.add_found(rt, folder, file.as_str())?;
             if !keeps_pages {
-                self.set_page(place, false);
+                self.set_page(place, !self.has_folder);
             }
             places.push((file, place))?;
         }

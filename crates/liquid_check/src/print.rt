@@ -1,7 +1,11 @@
 //! What is printed of a template.
+ghost use Rattle.std.specs.Prelude.{◌≡◌, IfErr, IfOk, false, true};
+ghost use Rattle.liquid_check.specs.Counted.{are_well};
+ghost use Rattle.liquid_commands.specs.declared.stop.Stop.TheVariants.{Faulted};
+
 use crate::files::Checked;
 use crate::{MOST_FINDINGS, remarks_of};
-use liquid_commands::{Diagnostic, DiagnosticFormat, Stop, diagnostic_line, print_text};
+use liquid_commands::{CheckCall, Diagnostic, DiagnosticFormat, Stop, diagnostic_line, print_text};
 use liquid_files::{Excerpt, ShownPath};
 use liquid_model::{Location, Origin};
 use liquid_warnings::Remark;
@@ -36,25 +40,35 @@ impl Counts {
         }
     }
 
-    /// Whether no file has a fault, and each can be read.
-    fn are_well(&self) -> bool {
-        self.faults == 0 && self.unreadable == 0
+    /// Whether no file has a fault, and none a warning where these count, and each can be read.
+    fn are_well(&self, is_strict: bool) -> bool
+        ensures { result ≡ are_well is_strict self.now }
+    {
+        self.faults == 0 && self.unreadable == 0 && !(is_strict && self.warnings > 0)
     }
 }
 
 /// Prints how much was found, unless that is left out. Files with faults, or that can't be read,
-/// aren't well.
-pub(crate) fn print_counts(rt: &HostRuntime, counts: Counts, is_quiet: bool) -> Result<(), Stop> {
+/// aren't well, and with `--strict` those with warnings aren't either.
+pub(crate) fn print_counts(
+    rt: &HostRuntime,
+    counts: Counts,
+    call: &CheckCall<'_>,
+) -> Result<(), Stop>
+    ensures well { IfOk result (λ _. are_well call.now.is_strict counts ≡ true) }
+    ensures faulted { IfErr result (λ stop. (stop ≡ Faulted)
+        × (are_well call.now.is_strict counts ≡ false)) }
+{
     let Counts {
         files,
         faults,
         warnings,
         unreadable: _,
     } = counts;
-    if !is_quiet {
+    if !call.is_quiet {
         let _ = eprintln!(rt; "files {files}, faults {faults}, warnings {warnings}");
     }
-    if counts.are_well() {
+    if counts.are_well(call.is_strict) {
         Ok(())
     } else {
         Err(Stop::Faulted)

@@ -1,4 +1,5 @@
 pub mod Endings
+pub mod PathParts
 pub mod Pushed
 pub mod Standing
 pub mod Turns

@@ -9,6 +9,7 @@ use crate::inputs::{
     WordFault, check_standard_input, count_from_standard_input, data_of, is_standard_input,
     partials_of,
 };
+use crate::selection::{Selection, selection_of};
 use crate::values::{NamedValue, values_of};
 use crate::words::{DataFile, FilterSet, filter_set};
 use clap::{ArgMatches, Command};
@@ -19,6 +20,8 @@ use std::alloc::{AllocError, Global};
 pub struct CheckCall<'w> {
     /// Files, and folders of files.
     pub paths: Vec<&'w str>,
+    /// Which files below those folders.
+    pub selection: Selection<'w>,
     /// In the order in which the later wins.
     pub data: Vec<DataFile<'w>>,
     /// After the files, in the order in which the later wins.
@@ -29,9 +32,13 @@ pub struct CheckCall<'w> {
     pub partials: Vec<&'w str>,
     /// The set of filters that templates call.
     pub filters: Option<FilterSet>,
+    /// Whether outputs are escaped for HTML.
+    pub escapes_html: bool,
     pub format: DiagnosticFormat,
     /// Whether outputs in attributes are looked at.
     pub attributes: bool,
+    /// Whether warnings count.
+    pub is_strict: bool,
     /// Whether the counts are left out.
     pub is_quiet: bool,
 }
@@ -44,8 +51,12 @@ const ARGUMENTS: &[Argument] = &[
     Argument::Define,
     Argument::Partials,
     Argument::Filters,
+    Argument::Escape,
     Argument::ReportFormat,
     Argument::Warn,
+    Argument::Strict,
+    Argument::Ext,
+    Argument::Exclude,
     Argument::Quiet,
     Argument::Decimals,
     Argument::Dates,
@@ -60,6 +71,7 @@ pub(crate) fn check_command<'a>(alloc: Global) -> Result<Command<'a>, AllocError
 /// What the words of `check` ask for.
 pub fn check_call<'w>(alloc: Global, given: &ArgMatches<'w>) -> Result<CheckCall<'w>, WordFault> {
     let paths = paths_of(alloc, given)?;
+    let selection = selection_of(alloc, given)?;
     let data = data_of(alloc, given, None)?;
     let values = values_of(alloc, given)?;
     let partials = partials_of(alloc, given)?;
@@ -67,13 +79,16 @@ pub fn check_call<'w>(alloc: Global, given: &ArgMatches<'w>) -> Result<CheckCall
     check_standard_input(count)?;
     Ok(CheckCall {
         paths,
+        selection,
         data,
         values,
         forms: Forms::given(given),
         partials,
         filters: filter_set(given.get_str("filters")),
+        escapes_html: given.get_str("escape").is_some(),
         format: format_of(given.get_str("format")),
         attributes: given.get_str("warn").is_some(),
+        is_strict: given.get_flag("strict"),
         is_quiet: given.get_flag("quiet"),
     })
 }

@@ -23,6 +23,7 @@ mod paths;
 mod record_words;
 mod render;
 mod seen;
+mod selection;
 mod sizes;
 mod sources;
 mod stop;
@@ -54,6 +55,7 @@ pub use record_words::{
 };
 pub use render::{RenderCall, render_call};
 pub use seen::input_for;
+pub use selection::{Pattern, Selection};
 pub use sizes::{Unit, size_in_bytes};
 pub use sources::{Source, Sources};
 pub use stop::Stop;

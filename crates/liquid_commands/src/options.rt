@@ -97,6 +97,16 @@ pub(crate) fn assets<'a>(alloc: Global) -> Arg<'a> {
     )
 }
 
+pub(crate) fn escape<'a>(alloc: Global) -> Arg<'a> {
+    option(
+        alloc,
+        "escape",
+        "FOR",
+        "Escapes what outputs and cycle write, but where an output ends with | raw",
+    )
+    .value_parser(ESCAPES)
+}
+
 pub(crate) fn page_file<'a>(alloc: Global) -> Arg<'a> {
     option(
         alloc,
@@ -271,6 +281,34 @@ pub(crate) fn warn<'a>(alloc: Global) -> Arg<'a> {
     .value_parser(WARNINGS)
 }
 
+pub(crate) fn strict<'a>(alloc: Global) -> Arg<'a> {
+    flag(
+        alloc,
+        "strict",
+        "Lets warnings count: with one the status is 1",
+    )
+}
+
+pub(crate) fn ext<'a>(alloc: Global) -> Arg<'a> {
+    option(
+        alloc,
+        "ext",
+        "EXT",
+        "Of a folder only files whose names end so, as liquid, or html,liquid",
+    )
+    .action(ArgAction::Append)
+}
+
+pub(crate) fn exclude<'a>(alloc: Global) -> Arg<'a> {
+    option(
+        alloc,
+        "exclude",
+        "PATTERN",
+        "Leaves files and folders below a folder out, as node_modules, or 'assets/*.js'",
+    )
+    .action(ArgAction::Append)
+}
+
 pub(crate) fn paths_format<'a>(alloc: Global) -> Arg<'a> {
     option(
         alloc,
@@ -287,7 +325,7 @@ pub(crate) fn decimals<'a>(alloc: Global) -> Arg<'a> {
         alloc,
         "decimals",
         "HOW",
-        "What a number that isn't whole is: a fault of the data, or the text of its spelling",
+        "How to read a number with a fraction: as a fault of the data, or as the text of its spelling",
     )
     .value_parser(DECIMALS)
     .default_value("fault")
@@ -306,12 +344,15 @@ pub(crate) fn now<'a>(alloc: Global) -> Arg<'a> {
         alloc,
         "now",
         "INSTANT",
-        "Gives the name now to an instant of ISO 8601, such as 2026-11-27T04:34:00Z",
+        "Sets now to an instant of ISO 8601, such as 2026-11-27T04:34:00Z",
     )
 }
 
 /// The names of the sets of filters.
 const SETS: &[&str] = &["decimals", "jekyll", "shopify"];
+
+/// What text may be escaped for.
+const ESCAPES: &[&str] = &["html"];
 
 /// What a missing value may be.
 const MISSING: &[&str] = &["fault", "nil"];

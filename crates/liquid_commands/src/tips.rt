@@ -5,9 +5,14 @@ ghost use Rattle.liquid_commands.specs.Words.{is_plain_word, is_plain_byte, is_p
 ghost use Rattle.liquid_commands.specs.Words.{habit_tip, is_template_path};
 
 use crate::commands::program;
+use crate::words::is_template_name;
 use clap::Error;
 use clap::error::ErrorKind;
 use std::alloc::{AllocError, Global};
+
+/// What is said where a shell's completions are asked for.
+const COMPLETIONS: &str = "unrecognized subcommand 'completions'\n\n  tip: each package brings \
+                           those of bash, zsh and fish; their files are in packages/completions";
 
 /// What is wrong where the first word of a call names a file, and no command: `render` is likely
 /// meant. None where it names none. `AllocError` where there is no room for it, and nowhere else.
@@ -15,6 +20,9 @@ pub fn command_fault(alloc: Global, words: &[String]) -> Result<Option<Error>, A
     let [_, first, ..] = words else {
         return Ok(None);
     };
+    if first.as_str() == "completions" {
+        return Ok(Some(no_command(alloc, COMPLETIONS)?));
+    }
     if !is_template_path(first.as_str()) {
         return Ok(None);
     }
@@ -31,8 +39,8 @@ fn with_tip(alloc: Global, word: &str, words: &[String]) -> Result<String, Alloc
 }
 
 /// What is wrong where an option isn't known and a word of the call is one that other programs
-/// have, with the option for it. None where there is no such word. `AllocError` where there is no
-/// room for it, and nowhere else.
+/// have, with the option for it, or where several words name templates. None where neither is so.
+/// `AllocError` where there is no room for it, and nowhere else.
 pub fn option_fault(alloc: Global, words: &[String]) -> Result<Option<Error>, AllocError> {
     for word in words {
         let word = word.as_str();
@@ -42,7 +50,21 @@ pub fn option_fault(alloc: Global, words: &[String]) -> Result<Option<Error>, Al
             return Ok(Some(fault));
         }
     }
-    Ok(None)
+    if count_templates(words) < 2 {
+        return Ok(None);
+    }
+    let message = "one template is rendered a call\n\n  tip: call it for each, as \
+                   'for t in *.liquid; do bikleinu render \"$t\" data.json; done'";
+    Ok(Some(program(alloc)?.error(ErrorKind::UnknownArgument, message)?))
+}
+
+/// How many words name a template.
+fn count_templates(words: &[String]) -> usize {
+    let mut count: usize = 0;
+    for word in words {
+        count = count.saturating_add(is_template_name(word.as_str()) as usize);
+    }
+    count
 }
 
 /// What stands here for an option that other programs have. It takes no memory.

@@ -212,7 +212,7 @@ fn without_step(alloc: Global, path: &SpelledPath<'_>, base: Kind<'_>, key: Kind
         Kind::Truth | Kind::Number(_) => {}
     }
     let mut words = without_parts(alloc, &quoted, base)?;
-    push_other_step(&mut words, &quoted, base, key)?;
+    push_other_step(alloc, &mut words, &quoted, base, key)?;
     Ok(words)
 }
 
@@ -230,6 +230,7 @@ fn without_parts(alloc: Global, path: &Quoted<'_>, base: Kind<'_>) -> Words {
 
 /// What to write in place of a step that leads nowhere.
 fn push_other_step(
+    alloc: Global,
     words: &mut String,
     path: &Quoted<'_>,
     base: Kind<'_>,
@@ -238,15 +239,32 @@ fn push_other_step(
     match (base, key) {
         (Kind::Nil, _) => Ok(()),
         (_, Kind::Text(name)) if filter_meant(name).is_some() => push_filter(words, path, name),
-        (Kind::List(0), _) => Ok(()),
-        (Kind::List(_), Kind::Text(_)) => {
-            write!(
-                words,
-                "; its first is `{path}[0]`, and a `for` goes over all"
-            )
+        (Kind::List(count), Kind::Text(name)) => {
+            match part_meant(alloc, name)? {
+                Some(part) => write!(words, "; did you mean `{path}.{part}`?"),
+                None if count == 0 => Ok(()),
+                None => write!(
+                    words,
+                    "; its first is `{path}[0]`, and a `for` goes over all"
+                ),
+            }
         }
+        (Kind::List(0), _) => Ok(()),
         (Kind::List(_), _) => words.push_str(", whose places count from 0"),
         _ => Ok(()),
+    }
+}
+
+/// The part of a list whose name is similar to this one.
+fn part_meant(alloc: Global, name: &str) -> Result<Option<&'static str>, AllocError> {
+    let mut search = Search::new(name);
+    for part in &["first", "last", "length", "size"] {
+        search.look(alloc, *part)?;
+    }
+    match search.similar {
+        Some(SimilarName { name: "length", .. }) => Ok(Some("size")),
+        Some(similar) => Ok(Some(similar.name)),
+        None => Ok(None),
     }
 }
 

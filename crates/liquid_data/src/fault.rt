@@ -1,7 +1,7 @@
 //! Why a text gives no data.
 ghost use Rattle.liquid_model.specs.ErrorKinds.{IsKindOrMemory};
 
-use liquid_model::{Error, ErrorKind, Location, Origin, location};
+use liquid_model::{Error, ErrorKind, Location, Origin, Quoted, location};
 use std::alloc::Global;
 
 /// The fault of a text that is no TOML, with where it stops being TOML.
@@ -32,14 +32,17 @@ fn in_data(text: &str, start: usize) -> Location {
     }
 }
 
-/// The fault of a document with a float.
-pub(crate) fn float_fault(alloc: Global) -> Error
+/// The fault of a document with a float, at this path.
+pub(crate) fn float_fault(alloc: Global, path: &str) -> Error
     ensures { IsKindOrMemory ErrorKind.Float result.kind }
 {
-    Error::new(
-        alloc,
-        ErrorKind::Float,
-        "a number of the data isn't whole, and numbers are whole here: count in a smaller unit, \
-         such as cents, or write it as a text, in quotes",
-    )
+    let path = Quoted { text: path };
+    let message = format!(in alloc;
+        "`{path}` isn't a whole number, and numbers are whole here: count in a smaller unit, \
+         such as cents, or write it as a text, in quotes"
+    );
+    match message {
+        Ok(message) => Error::with_message(ErrorKind::Float, message),
+        Err(refused) => Error::from(refused),
+    }
 }

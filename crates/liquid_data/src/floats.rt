@@ -3,6 +3,8 @@ ghost use Rattle.std.specs.Prelude.{◌≡◌};
 ghost use Rattle.liquid_data.specs.Floats.{are_floats, have_floats, is_float};
 ghost use Rattle.toml.specs.View.{items_view, table_view, view};
 
+use std::alloc::AllocError;
+use std::fmt::Write;
 use toml::{Table, Value};
 
 /// Whether a float is among the members, or inside one of them.
@@ -40,4 +42,37 @@ fn are_floats(items: &Vec<Value>) -> bool
         }
     }
     false
+}
+
+/// Adds the path of the first float among the members, or inside one of them.
+#[cycle(float_paths)]
+pub(crate) fn add_float_path(path: &mut String, members: &Table) -> Result<(), AllocError> {
+    for (key, value) in members.iter() {
+        if is_float(value) {
+            let sign = if path.is_empty() { "" } else { "." };
+            write!(path, "{sign}{key}")?;
+            return add_path_in(path, value);
+        }
+    }
+    Ok(())
+}
+
+#[cycle(float_paths)]
+fn add_path_in(path: &mut String, value: &Value) -> Result<(), AllocError> {
+    match value {
+        Value::Array(items) => add_path_of_item(path, items),
+        Value::Table(members) => add_float_path(path, members),
+        _ => Ok(()),
+    }
+}
+
+#[cycle(float_paths)]
+fn add_path_of_item(path: &mut String, items: &Vec<Value>) -> Result<(), AllocError> {
+    for (place, item) in items.iter().enumerate() {
+        if is_float(item) {
+            write!(path, "[{place}]")?;
+            return add_path_in(path, item);
+        }
+    }
+    Ok(())
 }

@@ -8,7 +8,7 @@ ghost use Rattle.toml.specs.View.{items_view as toml_items, table_view, view as 
 ghost use Rattle.toml_datetime.specs.Text.{datetime_text};
 
 use crate::fault::{float_fault, no_toml};
-use crate::floats::has_floats;
+use crate::floats::{add_float_path, has_floats};
 use liquid_model::{Error, Object, Result, Value};
 use std::alloc::{AllocError, Global};
 use std::collections::BTreeMap;
@@ -37,7 +37,9 @@ fn data_in(alloc: Global, table: Table) -> Result<Object>
     ensures { Answers (λ m. pairs_view m.entries) result (unless_float (table_view table)) }
 {
     if has_floats(&table) {
-        return Err(float_fault(alloc));
+        let mut path = String::new(alloc);
+        add_float_path(&mut path, &table)?;
+        return Err(float_fault(alloc, path.as_str()));
     }
     pairs_of(alloc, table)
 }

@@ -65,10 +65,21 @@ pub fn first_flaw(text: &str, wants: Wants) -> Option<Flaw<'_>> {
         }
         match reading.step(text.get(at..).unwrap_or(""), sign) {
             Ok(length) => end = at.saturating_add(length),
+            Err(_) if end == at && goes_on_after_text(text, at, sign) => {
+                return Some(Flaw::plain(
+                    text.get(at..).unwrap_or(""),
+                    "the text ends before this: a quote within a text is written `\\\"`",
+                ));
+            }
             Err(flaw) => return Some(flaw),
         }
     }
     reading.at_end(text)
+}
+
+/// Whether a word goes on where a text ended, so that the quote before it was to be in the text.
+fn goes_on_after_text(text: &str, at: usize, sign: char) -> bool {
+    sign.is_alphanumeric() && text.get(..at).unwrap_or("").ends_with('"')
 }
 
 /// White space of JSON.

@@ -55,6 +55,13 @@ impl<H: NamedFilters> Merge<H> {
         }
     }
 
+    /// What it makes of each record.
+    pub fn job(&self) -> &Job<H>
+        ensures { job_view H.named result.now ≡ job_of H.named self.now }
+    {
+        &self.job
+    }
+
     /// Takes other data that all records share. It takes no memory.
     pub fn share(&mut self, data: Object)
         ensures job { job_of H.named self.new ≡ sharing (held «data») (job_of H.named self.old) }

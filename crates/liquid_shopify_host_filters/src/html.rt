@@ -68,7 +68,7 @@ pub(crate) fn link_to_collection_answer(alloc: Global, input: &Value) -> Result<
 }
 
 /// A link with a title.
-fn link(alloc: Global, label: &str, url: &str, title: &str) -> Result<String>
+pub(crate) fn link(alloc: Global, label: &str, url: &str, title: &str) -> Result<String>
     ensures { IsValueOrMemory (λ s. string_bytes s) result (link label.now url.now title.now) }
 {
     Ok(format!(in alloc; "<a href=\"{url}\" title=\"{title}\">{label}</a>")?)

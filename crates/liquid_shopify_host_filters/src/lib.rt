@@ -4,12 +4,15 @@
 mod amount;
 mod codec;
 mod filter;
+mod forms;
 mod html;
 mod images;
 mod kind;
 pub mod laws;
 mod lists;
 mod money;
+mod pagination;
+mod sections;
 mod shop;
 mod sums;
 mod tags;

@@ -4,7 +4,8 @@ use Rattle.liquid_warnings.specs.Doubts as seen
 use Rattle.liquid_warnings.specs.Views.{lack_view}
 use Rattle.liquid_warnings.specs.declared.doubt.Doubt.{Doubt}
 use Rattle.liquid_warnings.specs.declared.doubt.Doubt.TheVariants.{Lacks, NoList, PastEnd, NoDate}
-use Rattle.liquid_warnings.specs.declared.doubt.Doubt.TheVariants.{NumberText}
+use Rattle.liquid_warnings.specs.declared.doubt.Doubt.TheVariants.{AlwaysTrue, NoText, NumberText}
+use Rattle.liquid_warnings.specs.declared.doubt.Doubt.TheVariants.{TruthText}
 
 abbrev pub doubt_view : Doubt → seen.Doubt
 doubt_view (Lacks l) = seen.lacks (lack_view l)
@@ -12,3 +13,6 @@ doubt_view (NoList v) = seen.no_list (view v.now)
 doubt_view (PastEnd n) = seen.past_end n
 doubt_view (NoDate s) = seen.no_date s.now
 doubt_view (NumberText s) = seen.number_text s.now
+doubt_view (TruthText s) = seen.truth_text s.now
+doubt_view (NoText v) = seen.no_text (view v.now)
+doubt_view (AlwaysTrue v) = seen.always_true (view v.now)

@@ -3,10 +3,12 @@
 --     they aren't there, or one of them isn't as it is wanted
 use Rattle.std.specs.Prelude.{ℕ, ◌+◌, ◌==◌, ◌||◌, min, cond, nat_lt, is_some, ℤ, pos, negsuc}
 use Rattle.std.specs.Prelude.{Bool, true, false, List, [], ◌∷◌, length, Option, Some, None}
-use Rattle.liquid_model.specs.Data.{Datum, nil, text, array, object, Pairs}
+use Rattle.std.specs.Prelude.{bytes_eq, codes}
+use Rattle.std.specs.List.{list_any}
+use Rattle.liquid_model.specs.Bytes.{is_digit}
+use Rattle.liquid_model.specs.Data.{Datum, nil, truth, number, text, array, object, Pairs}
 use Rattle.liquid_model.specs.Digest.{items_len, pairs_len}
 use Rattle.liquid_model.specs.Texts.{Text}
-use Rattle.liquid_model.specs.Whole.{whole}
 use Rattle.liquid_filters.specs.DateSpelling.{read}
 use Rattle.liquid_warnings.specs.DataPaths.{Lacking, lack_of, values_at_path}
 use Rattle.liquid_warnings.specs.declared.data_path.DataPath.{DataPath}
@@ -14,15 +16,21 @@ use Rattle.liquid_warnings.specs.declared.doubt.Span.{Span}
 use Rattle.liquid_warnings.specs.declared.doubt.Want.{Want}
 use Rattle.liquid_warnings.specs.declared.doubt.Want.TheVariants.{Present, Perhaps, Date, Items}
 use Rattle.liquid_warnings.specs.declared.doubt.Want.TheVariants.{Searched, Contained, Number}
+use Rattle.liquid_warnings.specs.declared.doubt.Want.TheVariants.{Tested, Truth}
+use Rattle.liquid_warnings.specs.declared.doubt.Want.TheVariants.{NumberWord, TruthWord}
 
 -- a map lacks a key; a loop goes over what is no list and no map; it asks for items past the end
--- of a list with this number of them; a text is no date; a text is a number
+-- of a list with this number of them; a text is no date; a text is compared with a number, or with
+-- a truth value; one of these with a text; a condition tests what looks false and isn't
 pub data Doubt : Type 0 where
   lacks : Lacking → Doubt
   no_list : Datum → Doubt
   past_end : ℕ → Doubt
   no_date : Text → Doubt
   number_text : Text → Doubt
+  truth_text : Text → Doubt
+  no_text : Datum → Doubt
+  always_true : Datum → Doubt
 
 -- an amount that is asked for of n items: at most all; a negative one is huge
 abbrev pub amount_within : ℤ → ℕ → ℕ
@@ -65,10 +73,53 @@ abbrev pub date_doubt : Datum → Option Doubt
 date_doubt (text s) = cond (is_empty_or_date s) None (Some (no_date s))
 date_doubt d = None
 
+abbrev pub has_digit : Text → Bool
+has_digit s = list_any (λ b. is_digit b []) s
+
 -- of what is compared with a number
 abbrev pub number_doubt : Datum → Option Doubt
-number_doubt (text s) = cond (is_some (whole (text s))) (Some (number_text s)) None
+number_doubt (text s) = cond (has_digit s) (Some (number_text s)) None
 number_doubt d = None
+
+-- of what is compared with a truth value
+abbrev pub truth_doubt : Datum → Option Doubt
+truth_doubt (text s) = Some (truth_text s)
+truth_doubt d = None
+
+-- of what is compared with a text that spells a number
+abbrev pub number_word_doubt : Datum → Option Doubt
+number_word_doubt (number z) = Some (no_text (number z))
+number_word_doubt d = None
+
+-- of what is compared with a text that spells a truth value
+abbrev pub truth_word_doubt : Datum → Option Doubt
+truth_word_doubt (truth b) = Some (no_text (truth b))
+truth_word_doubt d = None
+
+-- nothing, 0, or a word that says no
+abbrev pub says_no : Text → Bool
+says_no s = bytes_eq s (codes "") || (bytes_eq s (codes "0") || (bytes_eq s (codes "n")
+    || (bytes_eq s (codes "N") || (bytes_eq s (codes "no") || (bytes_eq s (codes "No")
+    || (bytes_eq s (codes "NO") || (bytes_eq s (codes "false") || (bytes_eq s (codes "False")
+    || (bytes_eq s (codes "FALSE") || bytes_eq s (codes "off"))))))))))
+
+abbrev pub is_number_zero : ℤ → Bool
+is_number_zero (pos m) = m == 0
+is_number_zero (negsuc m) = false
+
+abbrev pub is_zero_of : Option ℕ → Bool
+is_zero_of (Some n) = n == 0
+is_zero_of None = false
+
+-- it is empty, 0, or a word that says no, and holds in a condition
+abbrev pub looks_false : Datum → Bool
+looks_false (text s) = says_no s
+looks_false (number z) = is_number_zero z
+looks_false d = is_zero_of (count_of d)
+
+-- of what a condition tests
+abbrev pub tested_doubt : Datum → Option Doubt
+tested_doubt d = cond (looks_false d) (Some (always_true d)) None
 
 abbrev pub value_doubt : Want → Datum → Option Doubt
 value_doubt Present d = None
@@ -77,6 +128,10 @@ value_doubt Searched d = None
 value_doubt Contained d = None
 value_doubt Date d = date_doubt d
 value_doubt Number d = number_doubt d
+value_doubt Truth d = truth_doubt d
+value_doubt NumberWord d = number_word_doubt d
+value_doubt TruthWord d = truth_word_doubt d
+value_doubt Tested d = tested_doubt d
 value_doubt (Items s) d = items_doubt s d
 
 abbrev pub or_next : Option Doubt → Option Doubt → Option Doubt
@@ -99,6 +154,10 @@ asks_values Searched = false
 asks_values Contained = false
 asks_values Date = true
 asks_values Number = true
+asks_values Truth = true
+asks_values NumberWord = true
+asks_values TruthWord = true
+asks_values Tested = true
 asks_values (Items s) = true
 
 abbrev pub doubt_of : Want → DataPath → Pairs → Option Doubt

@@ -1,9 +1,9 @@
 -- What warnings say.
 --     lack_message words name similar   of a name that nothing has, with a similar one if any
 --     value_message path kind      of a loop over what is no list and no map
-use Rattle.std.specs.Prelude.{ℕ, ◌++◌, Option, Some, None, codes}
+use Rattle.std.specs.Prelude.{ℕ, ◌++◌, [], ◌∷◌, Option, Some, None, codes}
 use Rattle.std.specs.Fmt.{decimal}
-use Rattle.liquid_model.specs.Data.{Datum, number, text}
+use Rattle.liquid_model.specs.Data.{Datum, array, number, text}
 use Rattle.liquid_model.specs.Quotes.{quotation}
 use Rattle.liquid_model.specs.Texts.{Text}
 
@@ -14,6 +14,10 @@ lack_message words name (Some similar) = words ++ (codes " `" ++ (quotation name
 
 abbrev pub unused_message : Text → Text
 unused_message name = codes "`" ++ (quotation name ++ codes "` is set here, and nothing reads it")
+
+abbrev pub escaped_twice_message : Text → Text
+escaped_twice_message name = codes "the outputs in the captured `" ++ (quotation name
+    ++ codes "` are escaped already; end this one with `| raw`")
 
 abbrev pub recursive_message : Text → Text
 recursive_message name = codes "the partial `" ++ (quotation name
@@ -56,6 +60,38 @@ no_date path found = codes "`" ++ (quotation path ++ (codes "` is `" ++ (quotati
 abbrev pub number_text : Text → Text → Text
 number_text path found = codes "`" ++ (quotation path ++ (codes "` is the text `"
     ++ (quotation found ++ codes "` in the data, and no number: such a comparison never holds")))
+
+abbrev pub truth_text : Text → Text → Text
+truth_text path found = codes "`" ++ (quotation path ++ (codes "` is the text `"
+    ++ (quotation found
+    ++ codes "` in the data, and no truth value: such a comparison never holds")))
+
+abbrev pub no_text : Text → Text → Text
+no_text path kind = codes "`" ++ (quotation path ++ (codes "` is " ++ (kind
+    ++ codes " in the data, and no text: such a comparison never holds")))
+
+abbrev pub pattern_message : Text → Text
+pattern_message pattern = codes "`" ++ (quotation pattern
+    ++ codes "` has no `%`, so `date` prints it as it is: write it as `%d.%m.%Y`")
+
+abbrev pub sure_message : Text
+sure_message = codes
+    "a text or a number by itself counts as true: compare with each, as `a == 1 or a == 2`"
+
+-- what looks false
+abbrev pub text_words : Text → Text
+text_words [] = codes "an empty text"
+text_words (b ∷ bs) = codes "the text `" ++ (quotation (b ∷ bs) ++ codes "`")
+
+abbrev pub false_words : Datum → Text
+false_words (text s) = text_words s
+false_words (number z) = codes "0"
+false_words (array ds) = codes "an empty list"
+false_words d = codes "an empty map"
+
+abbrev pub always_true : Text → Text → Text
+always_true path found = codes "`" ++ (quotation path ++ (codes "` is " ++ (found ++ codes
+    " in the data, which counts as true: compare it, or its `size`")))
 
 abbrev pub item_words : Text → Text
 item_words list = codes "an item of `" ++ (quotation list ++ codes "` has no")

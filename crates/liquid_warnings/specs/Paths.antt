@@ -15,6 +15,8 @@ use Rattle.liquid_warnings.specs.declared.data_path.Step.TheVariants.{Each, Key}
 use Rattle.liquid_warnings.specs.declared.doubt.Want.{Want}
 use Rattle.liquid_warnings.specs.declared.doubt.Want.TheVariants.{Present, Perhaps, Date, Items}
 use Rattle.liquid_warnings.specs.declared.doubt.Want.TheVariants.{Searched, Contained, Number}
+use Rattle.liquid_warnings.specs.declared.doubt.Want.TheVariants.{Tested, Truth}
+use Rattle.liquid_warnings.specs.declared.doubt.Want.TheVariants.{NumberWord, TruthWord}
 use Rattle.liquid_warnings.specs.Messages.{item_words}
 
 abbrev pub step_text : Step → Text
@@ -74,4 +76,8 @@ is_needed Searched = true
 is_needed Contained = true
 is_needed Date = false
 is_needed Number = true
+is_needed Truth = true
+is_needed NumberWord = true
+is_needed TruthWord = true
+is_needed Tested = false
 is_needed (Items span) = true

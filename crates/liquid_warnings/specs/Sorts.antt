@@ -6,7 +6,9 @@
 use Rattle.std.specs.Prelude.{◌≡◌, ◌⊎◌, ℕ, Bool, true, false, List, [], ◌++◌, Option, codes}
 use Rattle.liquid_model.specs.Data.{Datum}
 use Rattle.liquid_model.specs.Texts.{Text}
-use Rattle.liquid_warnings.specs.Messages.{else_if_message, in_data, kind_word, lack_message}
+use Rattle.liquid_warnings.specs.Messages.{always_true, else_if_message, escaped_twice_message}
+use Rattle.liquid_warnings.specs.Messages.{false_words, in_data, kind_word, lack_message, no_text}
+use Rattle.liquid_warnings.specs.Messages.{truth_text}
 use Rattle.liquid_warnings.specs.Messages.{no_date, number_text, past_end, recursive_message}
 use Rattle.liquid_warnings.specs.Messages.{unescaped_message, unused_message}
 use Rattle.liquid_warnings.specs.Messages.{unused_partial_message, value_message}
@@ -36,6 +38,10 @@ IsUnknownName s = (name : Text) × (similar : Option Text)
 abbrev pub IsUnusedName : Said → Type 0
 IsUnusedName s = (name : Text) × WarnsOf (codes "UnusedVariable") (unused_message name) s
 
+-- an output that escapes a captured text
+abbrev pub IsEscapedTwice : Said → Type 0
+IsEscapedTwice s = (name : Text) × WarnsOf (codes "EscapedTwice") (escaped_twice_message name) s
+
 -- ---- of the data
 
 -- a map on the way hasn't the key
@@ -55,14 +61,29 @@ IsPastEnd s = (path : Text) × (count : ℕ) × WarnsOf (codes "PastEnd") (past_
 abbrev pub IsUndated : Said → Type 0
 IsUndated s = (path : Text) × (found : Text) × WarnsOf (codes "NoDate") (no_date path found) s
 
--- a text that is a number, compared with one
+-- a text that is compared with a number
 abbrev pub IsNumberText : Said → Type 0
 IsNumberText s = (path : Text) × (found : Text)
     × WarnsOf (codes "TextNumber") (number_text path found) s
 
+-- a text that is compared with a truth value
+abbrev pub IsTruthText : Said → Type 0
+IsTruthText s = (path : Text) × (found : Text)
+    × WarnsOf (codes "TextTruth") (truth_text path found) s
+
+-- a number or a truth value that is compared with a text
+abbrev pub IsNoText : Said → Type 0
+IsNoText s = (path : Text) × (d : Datum)
+    × WarnsOf (codes "NoText") (no_text path (kind_word d)) s
+
+-- a value that looks false, in a condition
+abbrev pub IsAlwaysTrue : Said → Type 0
+IsAlwaysTrue s = (path : Text) × (d : Datum)
+    × WarnsOf (codes "AlwaysTrue") (always_true path (false_words d)) s
+
 abbrev pub IsDoubt : Said → Type 0
-IsDoubt s = IsUnknownPath s
-    ⊎ (IsUnlisted s ⊎ (IsPastEnd s ⊎ (IsUndated s ⊎ IsNumberText s)))
+IsDoubt s = IsUnknownPath s ⊎ (IsUnlisted s ⊎ (IsPastEnd s ⊎ (IsUndated s
+    ⊎ (IsNumberText s ⊎ (IsTruthText s ⊎ (IsNoText s ⊎ IsAlwaysTrue s))))))
 
 -- ---- of partials
 

@@ -15,11 +15,11 @@ use Rattle.liquid_syntax.specs.declared.positions.Position.{Position}
 use Rattle.liquid_syntax.specs.declared.template.Template.{Template}
 use Rattle.liquid_warnings.specs.Differences.{AreOfData}
 use Rattle.liquid_warnings.specs.Modes.{unknown_mode}
-use Rattle.liquid_warnings.specs.Nodes.{no_clock, no_list}
+use Rattle.liquid_warnings.specs.Nodes.{no_clock, no_list, no_pattern, sure_said}
 use Rattle.liquid_warnings.specs.Remarks.{Said, all_said}
-use Rattle.liquid_warnings.specs.Sorts.{InOrder, IsElseIf, IsMissingPartial, IsRecursive}
-use Rattle.liquid_warnings.specs.Sorts.{IsUnescaped, IsUnknownName, IsUnusedPartial, IsUnusedName}
-use Rattle.liquid_warnings.specs.Sorts.{OnlyWhere}
+use Rattle.liquid_warnings.specs.Sorts.{InOrder, IsElseIf, IsEscapedTwice, IsMissingPartial}
+use Rattle.liquid_warnings.specs.Sorts.{IsRecursive, IsUnescaped, IsUnknownName, IsUnusedPartial}
+use Rattle.liquid_warnings.specs.Sorts.{IsUnusedName, OnlyWhere}
 use Rattle.liquid_warnings.specs.declared.remark.Remark.{Remark}
 use Rattle.liquid_warnings.specs.declared.warnings.CheckedFile.{CheckedFile}
 use Rattle.liquid_warnings.specs.declared.warnings.Given.{Given}
@@ -39,7 +39,9 @@ said_or_else (Some s) other = Some s
 
 -- the one that a tag or an output has, whatever engine it is written for
 abbrev pub node_said : Position → Node → Option Said
-node_said position node = said_or_else (no_clock position node) (no_list position node)
+node_said position node = said_or_else (no_clock position node)
+    (said_or_else (no_list position node)
+    (said_or_else (no_pattern position node) (sure_said position node)))
 
 abbrev pub with_said : Option Said → List Said → List Said
 with_said None more = more
@@ -65,7 +67,8 @@ template_said e (Some t) = nodes_said e 0 (template_nodes t) (positions_of t)
 
 -- what the data lacks is known only where data is given
 abbrev pub AreOfNames : Bool → List Said → Type 0
-AreOfNames has_data = InOrder (OnlyWhere has_data (All IsUnknownName)) (All IsUnusedName)
+AreOfNames has_data = InOrder (OnlyWhere has_data (All IsUnknownName))
+    (InOrder (All IsUnusedName) (All IsEscapedTwice))
 
 abbrev pub AreOfPartials : List Said → Type 0
 AreOfPartials = InOrder (All IsMissingPartial)

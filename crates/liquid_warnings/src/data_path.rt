@@ -182,3 +182,15 @@ fn add_items<'d>(
     }
     Ok(())
 }
+
+/// The same path once more.
+pub(crate) fn copy_of(alloc: Global, path: &DataPath) -> std::result::Result<DataPath, AllocError> {
+    let mut copy = DataPath::of_name(alloc, path.name.as_str())?;
+    for step in &path.steps {
+        copy.steps.push(match step {
+            Step::Key(key) => Step::Key(String::from_str(alloc, key.as_str())?),
+            Step::Each => Step::Each,
+        })?;
+    }
+    Ok(copy)
+}

@@ -50,7 +50,9 @@ pub fn difference_of(
             let values = values_at(alloc, data, path)?;
             Ok(any_is_nil(&values).then_some(Difference::NilContained))
         }
-        Want::Present | Want::Perhaps | Want::Date | Want::Number => Ok(None),
+        Want::Present | Want::Perhaps | Want::Tested => Ok(None),
+        Want::Date | Want::Number | Want::Truth => Ok(None),
+        Want::NumberWord | Want::TruthWord => Ok(None),
     }
 }
 

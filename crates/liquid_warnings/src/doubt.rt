@@ -6,8 +6,10 @@ ghost use Rattle.liquid_filters.specs.DateSpelling.{read};
 ghost use Rattle.liquid_warnings.specs.DoubtViews.{doubt_view};
 ghost use Rattle.liquid_warnings.specs.Doubts.{asks_values, amount_within, count_of, date_doubt};
 ghost use Rattle.liquid_warnings.specs.Doubts.{doubt_of, first_doubt, is_empty_or_date};
-ghost use Rattle.liquid_warnings.specs.Doubts.{items_doubt, number_doubt, passes_end, span_doubt};
-ghost use Rattle.liquid_warnings.specs.Doubts.{unlisted_doubt, value_doubt};
+ghost use Rattle.liquid_warnings.specs.Doubts.{has_digit, is_zero_of, items_doubt, looks_false};
+ghost use Rattle.liquid_warnings.specs.Doubts.{number_doubt, number_word_doubt, truth_word_doubt};
+ghost use Rattle.liquid_warnings.specs.Doubts.{passes_end, says_no, span_doubt, tested_doubt};
+ghost use Rattle.liquid_warnings.specs.Doubts.{truth_doubt, unlisted_doubt, value_doubt};
 
 use crate::data_path::{DataPath, Lack, lacking, values_at};
 use liquid_filters::read_date;
@@ -19,8 +21,10 @@ use std::alloc::Global;
 pub enum Want {
     /// That they are there.
     Present,
-    /// Nothing that has to be there: a condition tests it, or a filter gets nil in its place.
+    /// Nothing that has to be there: a filter gets nil in its place.
     Perhaps,
+    /// Nothing that has to be there: a condition tests it, which `false` and nil alone fail.
+    Tested,
     /// That they are there: `contains` looks into them.
     Searched,
     /// That they are there: `contains` looks for them.
@@ -29,6 +33,12 @@ pub enum Want {
     Date,
     /// Numbers: they are compared with one.
     Number,
+    /// Truth values: they are compared with one.
+    Truth,
+    /// No numbers: they are compared with a text that spells one.
+    NumberWord,
+    /// No truth values: they are compared with a text that spells one.
+    TruthWord,
     /// Lists or maps, which a loop goes over.
     Items(Span),
 }
@@ -54,8 +64,15 @@ pub enum Doubt<'d> {
     PastEnd(usize),
     /// What is printed as a date is another text.
     NoDate(&'d str),
-    /// What is compared with a number is a text that is one, which is never equal, less or greater.
+    /// What is compared with a number is a text with a digit: it is never equal, less or greater.
     NumberText(&'d str),
+    /// What is compared with a truth value is a text, which is never equal.
+    TruthText(&'d str),
+    /// What is compared with a text that spells a number or a truth value is one, which is never
+    /// equal.
+    NoText(&'d Value),
+    /// What a condition tests looks false, and isn't.
+    AlwaysTrue(&'d Value),
 }
 
 /// The first doubt about the values at a path in data: a map on the way lacks a key, or one of the
@@ -85,7 +102,10 @@ pub fn doubt_of<'d>(
 fn asks_values(want: Want) -> bool
     ensures { result ≡ asks_values want }
 {
-    matches!(want, Want::Date | Want::Number | Want::Items(_))
+    !matches!(
+        want,
+        Want::Present | Want::Perhaps | Want::Searched | Want::Contained
+    )
 }
 
 fn first_doubt<'d>(want: Want, values: &[&'d Value]) -> Option<Doubt<'d>>
@@ -107,6 +127,10 @@ fn value_doubt<'d>(want: Want, value: &'d Value) -> Option<Doubt<'d>>
         Want::Present | Want::Perhaps | Want::Searched | Want::Contained => None,
         Want::Date => date_doubt(value),
         Want::Number => number_doubt(value),
+        Want::Truth => truth_doubt(value),
+        Want::NumberWord => number_word_doubt(value),
+        Want::TruthWord => truth_word_doubt(value),
+        Want::Tested => tested_doubt(value),
         Want::Items(span) => items_doubt(span, value),
     }
 }
@@ -182,11 +206,83 @@ fn number_doubt<'d>(value: &'d Value) -> Option<Doubt<'d>>
     ensures { option_map doubt_view result ≡ number_doubt (view value.now) }
 {
     match value {
-        Value::Text(text) if value.to_integer().is_some() => {
-            Some(Doubt::NumberText(text.as_str()))
-        }
+        Value::Text(text) if has_digit(text.as_str()) => Some(Doubt::NumberText(text.as_str())),
         _ => None,
     }
+}
+
+fn has_digit(text: &str) -> bool
+    ensures { result ≡ has_digit text.now }
+{
+    text.bytes().any(|byte| byte.is_ascii_digit())
+}
+
+fn truth_doubt<'d>(value: &'d Value) -> Option<Doubt<'d>>
+    ensures { option_map doubt_view result ≡ truth_doubt (view value.now) }
+{
+    match value {
+        Value::Text(text) => Some(Doubt::TruthText(text.as_str())),
+        _ => None,
+    }
+}
+
+fn number_word_doubt<'d>(value: &'d Value) -> Option<Doubt<'d>>
+    ensures { option_map doubt_view result ≡ number_word_doubt (view value.now) }
+{
+    match value {
+        Value::Integer(_) => Some(Doubt::NoText(value)),
+        _ => None,
+    }
+}
+
+fn truth_word_doubt<'d>(value: &'d Value) -> Option<Doubt<'d>>
+    ensures { option_map doubt_view result ≡ truth_word_doubt (view value.now) }
+{
+    match value {
+        Value::Bool(_) => Some(Doubt::NoText(value)),
+        _ => None,
+    }
+}
+
+fn tested_doubt<'d>(value: &'d Value) -> Option<Doubt<'d>>
+    ensures { option_map doubt_view result ≡ tested_doubt (view value.now) }
+{
+    if looks_false(value) {
+        return Some(Doubt::AlwaysTrue(value));
+    }
+    None
+}
+
+/// Whether a value looks false and holds in a condition: it is empty, 0, or a word that says no.
+fn looks_false(value: &Value) -> bool
+    ensures { result ≡ looks_false (view value.now) }
+{
+    match value {
+        Value::Text(text) => says_no(text.as_str()),
+        Value::Integer(number) => *number == 0,
+        Value::Nil | Value::Bool(_) | Value::Array(_) | Value::Object(_) => {
+            is_zero_of(count_of(value))
+        }
+    }
+}
+
+/// Whether a count is 0, where there is one.
+fn is_zero_of(count: Option<usize>) -> bool
+    ensures { result ≡ is_zero_of count }
+{
+    match count {
+        Some(count) => count == 0,
+        None => false,
+    }
+}
+
+fn says_no(text: &str) -> bool
+    ensures { result ≡ says_no text.now }
+{
+    matches!(
+        text,
+        "" | "0" | "n" | "N" | "no" | "No" | "NO" | "false" | "False" | "FALSE" | "off"
+    )
 }
 
 fn is_empty_or_date(text: &str) -> bool

@@ -1,13 +1,16 @@
 //! Where the data isn't as templates ask for it.
 ghost use Rattle.std.specs.Prelude.{◌≡◌, All, IfErr, IfOk, IfSome, OnOk, string_bytes};
-ghost use Rattle.liquid_warnings.specs.Messages.{in_data, no_date, number_text, past_end};
+ghost use Rattle.liquid_model.specs.View.{view};
+ghost use Rattle.liquid_warnings.specs.Messages.{always_true, false_words, in_data, no_date};
+ghost use Rattle.liquid_warnings.specs.Messages.{no_text, number_text, past_end, text_words};
+ghost use Rattle.liquid_warnings.specs.Messages.{truth_text};
 ghost use Rattle.liquid_warnings.specs.Paths.{is_needed};
 ghost use Rattle.liquid_warnings.specs.Remarks.{remark_view};
 ghost use Rattle.liquid_warnings.specs.Sorts.{IsDoubt, IsNumberText, IsPastEnd, IsUndated};
-ghost use Rattle.liquid_warnings.specs.Sorts.{IsUnlisted};
+ghost use Rattle.liquid_warnings.specs.Sorts.{IsAlwaysTrue, IsNoText, IsTruthText, IsUnlisted};
 ghost use Rattle.liquid_warnings.specs.inside.Added.{AddsRemarks};
 
-use crate::loops::no_list_of;
+use crate::loops::{kind_word, no_list_of};
 use crate::messages::{lack_message, most_similar_key, name_of};
 use crate::names::add_name;
 use crate::path_texts::{
@@ -88,6 +91,9 @@ fn remark_of(alloc: Global, asked: &UsedPath, doubt: Option<Doubt<'_>>) -> Found
         Doubt::PastEnd(count) => past_end_in(alloc, at, path, count),
         Doubt::NoDate(text) => no_date_in(alloc, at, path, text),
         Doubt::NumberText(text) => number_text_in(alloc, at, path, text),
+        Doubt::TruthText(text) => truth_text_in(alloc, at, path, text),
+        Doubt::NoText(value) => no_text_in(alloc, at, path, value),
+        Doubt::AlwaysTrue(value) => always_true_in(alloc, at, path, value),
     }
 }
 
@@ -115,12 +121,37 @@ fn no_date_in(alloc: Global, at: Position, path: &str, text: &str) -> Found
     Ok(Some(Remark::warning(at, "NoDate", message)))
 }
 
-/// `TextNumber`: what is compared with a number is a text that is one.
+/// `TextNumber`: what is compared with a number is a text.
 fn number_text_in(alloc: Global, at: Position, path: &str, text: &str) -> Found
     ensures { IfOk result (λ r. IfSome r (λ w. IsNumberText (remark_view w))) }
 {
     let message = number_text(alloc, path, text)?;
     Ok(Some(Remark::warning(at, "TextNumber", message)))
+}
+
+/// `TextTruth`: what is compared with a truth value is a text.
+fn truth_text_in(alloc: Global, at: Position, path: &str, text: &str) -> Found
+    ensures { IfOk result (λ r. IfSome r (λ w. IsTruthText (remark_view w))) }
+{
+    let message = truth_text(alloc, path, text)?;
+    Ok(Some(Remark::warning(at, "TextTruth", message)))
+}
+
+/// `NoText`: what is compared with a text is a number or a truth value.
+fn no_text_in(alloc: Global, at: Position, path: &str, value: &Value) -> Found
+    ensures { IfOk result (λ r. IfSome r (λ w. IsNoText (remark_view w))) }
+{
+    let message = no_text(alloc, path, kind_word(value))?;
+    Ok(Some(Remark::warning(at, "NoText", message)))
+}
+
+/// `AlwaysTrue`: what a condition tests looks false, and isn't.
+fn always_true_in(alloc: Global, at: Position, path: &str, value: &Value) -> Found
+    ensures { IfOk result (λ r. IfSome r (λ w. IsAlwaysTrue (remark_view w))) }
+{
+    let words = false_words(alloc, value)?;
+    let message = always_true(alloc, path, words.as_str())?;
+    Ok(Some(Remark::warning(at, "AlwaysTrue", message)))
 }
 
 /// A path in the data, at the begin of a message.
@@ -158,6 +189,54 @@ fn number_text(alloc: Global, path: &str, text: &str) -> Said
     )
 }
 
+fn truth_text(alloc: Global, path: &str, text: &str) -> Said
+    ensures { IfOk result (λ message. string_bytes message ≡ truth_text path.now text.now) }
+{
+    let path = Quoted { text: path };
+    let text = Quoted { text };
+    format!(in alloc;
+        "`{path}` is the text `{text}` in the data, and no truth value: such a comparison never holds"
+    )
+}
+
+fn no_text(alloc: Global, path: &str, kind: &str) -> Said
+    ensures { IfOk result (λ message. string_bytes message ≡ no_text path.now kind.now) }
+{
+    let path = Quoted { text: path };
+    format!(in alloc; "`{path}` is {kind} in the data, and no text: such a comparison never holds")
+}
+
+/// What looks false.
+fn false_words(alloc: Global, value: &Value) -> Said
+    ensures { IfOk result (λ words. string_bytes words ≡ false_words (view value.now)) }
+{
+    match value {
+        Value::Text(text) => text_words(alloc, text.as_str()),
+        Value::Integer(_) => String::from_str(alloc, "0"),
+        Value::Array(_) => String::from_str(alloc, "an empty list"),
+        Value::Object(_) | Value::Nil | Value::Bool(_) => String::from_str(alloc, "an empty map"),
+    }
+}
+
+fn text_words(alloc: Global, text: &str) -> Said
+    ensures { IfOk result (λ words. string_bytes words ≡ text_words text.now) }
+{
+    if text.is_empty() {
+        return String::from_str(alloc, "an empty text");
+    }
+    let text = Quoted { text };
+    format!(in alloc; "the text `{text}`")
+}
+
+fn always_true(alloc: Global, path: &str, found: &str) -> Said
+    ensures { IfOk result (λ message. string_bytes message ≡ always_true path.now found.now) }
+{
+    let path = Quoted { text: path };
+    format!(in alloc;
+        "`{path}` is {found} in the data, which counts as true: compare it, or its `size`"
+    )
+}
+
 /// `UnknownPath`: a map on the way hasn't the key.
 fn unknown_path(alloc: Global, asked: &UsedPath, lack: Lack<'_>) -> Found
     ensures { IfOk result (λ r. IfSome r (λ w. IsDoubt (remark_view w))) }
@@ -166,7 +245,7 @@ fn unknown_path(alloc: Global, asked: &UsedPath, lack: Lack<'_>) -> Found
     let Some(key) = key_before(&asked.path, count) else {
         return Ok(None);
     };
-    let similar = name_of(most_similar_key(alloc, lack.among, key, None)?);
+    let similar = name_of(most_similar_key(alloc, lack.among, key, None)?, key);
     if similar.is_none() && !is_needed(asked.want) {
         return Ok(None);
     }
@@ -178,7 +257,7 @@ fn unknown_path(alloc: Global, asked: &UsedPath, lack: Lack<'_>) -> Found
 fn is_needed(want: Want) -> bool
     ensures { result ≡ is_needed want }
 {
-    !matches!(want, Want::Perhaps | Want::Date)
+    !matches!(want, Want::Perhaps | Want::Tested | Want::Date)
 }
 
 /// The message for a path whose step number `count` leads to nothing, with a key similar to that

@@ -73,7 +73,7 @@ pub(crate) fn no_list_of(
     Ok(Remark::warning(position, "NoList", message))
 }
 
-fn kind_word(value: &Value) -> &'static str
+pub(crate) fn kind_word(value: &Value) -> &'static str
     ensures { result.now ≡ kind_word (view value.now) }
 {
     match value {

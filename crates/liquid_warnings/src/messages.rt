@@ -58,10 +58,10 @@ pub(crate) fn most_similar_of_set<'n>(
     Ok(similar)
 }
 
-/// The name of a similar one.
-pub(crate) fn name_of<'n>(similar: Option<SimilarName<'n>>) -> Option<&'n str> {
+/// The name that is similar to one that is meant, where at most a third of its letters are edited.
+pub(crate) fn name_of<'n>(similar: Option<SimilarName<'n>>, meant: &str) -> Option<&'n str> {
     match similar {
-        Some(similar) => Some(similar.name),
-        None => None,
+        Some(found) if found.edits.saturating_mul(3) <= meant.len() => Some(found.name),
+        _ => None,
     }
 }

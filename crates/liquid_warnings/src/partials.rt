@@ -22,7 +22,7 @@ pub(crate) fn missing_partial(
     let (Some(name), None) = (call.name, call.file) else {
         return Ok(None);
     };
-    let similar = name_of(most_similar_key(alloc, partials, name, None)?);
+    let similar = name_of(most_similar_key(alloc, partials, name, None)?, name);
     let message = lack_message(alloc, "no partial is named", name, similar)?;
     Ok(Some(Remark::warning(call.position, "MissingPartial", message)))
 }

@@ -30,7 +30,8 @@ impl<'n> KnownNames<'n> {
     /// The name that is most similar to one that nobody has.
     fn most_similar(&self, alloc: Global, name: &str) -> Result<Option<&'n str>, AllocError> {
         let similar = most_similar_key(alloc, self.data, name, None)?;
-        Ok(name_of(most_similar_of_set(alloc, self.set, name, similar)?))
+        let similar = most_similar_of_set(alloc, self.set, name, similar)?;
+        Ok(name_of(similar, name))
     }
 }
 

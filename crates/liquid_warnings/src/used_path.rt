@@ -1,11 +1,14 @@
 //! What the pieces of a template ask of its data.
 ghost use Rattle.std.specs.Prelude.{◌≡◌, IfErr};
 
+use crate::data_path::copy_of;
+use crate::wants::{
+    WHOLE, item_key, keep_items, keeps_items, literal_steps, number_of, want_after, want_before,
+    want_of_entry, want_of_target,
+};
 use crate::{DataPath, Span, Step, Want};
 use liquid_core::{ErrorKind, Expression, Result, Value, Variable};
-use liquid_evaluation::{
-    Atom, ChainFilter, ComparisonOperator, Condition, FilterChain, RangeExpression,
-};
+use liquid_evaluation::{Atom, ChainFilter, Condition, FilterChain, RangeExpression};
 use liquid_syntax::{
     Arm, Binding, Each, For, Node, Position, TableRow, Template, WindowExpression,
 };
@@ -38,6 +41,7 @@ pub fn asked_paths(
         alloc,
         names,
         loops: Vec::new(alloc),
+        aliases: Vec::new(alloc),
         position: Position { line: 1, column: 1 },
         found: Vec::new(alloc),
     };
@@ -46,6 +50,7 @@ pub fn asked_paths(
         alloc: _,
         names: _,
         loops: _,
+        aliases: _,
         position: _,
         found,
     } = asking;
@@ -62,6 +67,14 @@ struct Around<'t> {
     end: usize,
 }
 
+/// A name that an `assign` sets.
+#[derive(Drop)]
+struct Alias<'t> {
+    name: &'t str,
+    /// The path that it has the value or the items of, where no other `assign` sets it.
+    path: Option<DataPath>,
+}
+
 /// The piece that is looked at, and what was found.
 #[derive(Drop)]
 struct Asking<'t> {
@@ -69,6 +82,8 @@ struct Asking<'t> {
     names: &'t BTreeSet<String>,
     /// The innermost is the last.
     loops: Vec<Around<'t>>,
+    /// The names that an `assign` of this template gave the value of a path so far.
+    aliases: Vec<Alias<'t>>,
     position: Position,
     found: Vec<UsedPath>,
 }
@@ -102,7 +117,8 @@ impl<'t> Asking<'t> {
 
     fn ask_node(&mut self, node: &'t Node) -> Done {
         match node {
-            Node::Output(chain) | Node::Assign(_, chain) => self.ask_chain(chain),
+            Node::Output(chain) => self.ask_chain(chain),
+            Node::Assign(name, chain) => self.ask_assign(name.as_str(), chain),
             Node::If(condition, _) | Node::Unless(condition, _) => self.ask_condition(condition),
             Node::Case(target, arms, _) => self.ask_case(target, arms),
             Node::For(head, bodies) => self.ask_for(head, bodies.first_end),
@@ -169,20 +185,79 @@ impl<'t> Asking<'t> {
         self.ask_optional(&window.offset)
     }
 
-    /// An entry before a filter is nil where it is missing.
     fn ask_chain(&mut self, chain: &'t FilterChain) -> Done {
-        let want = match chain.filters.first() {
-            None => Want::Present,
-            Some(filter) if is_date_filter(filter.filter.name()) => Want::Date,
-            Some(_) => Want::Perhaps,
-        };
-        self.ask(&chain.entry, want)?;
+        self.ask(&chain.entry, want_of_entry(&chain.filters))?;
+        self.ask_keys(chain)?;
         self.ask_arguments(&chain.filters)
+    }
+
+    /// An argument that isn't required is nil where it is missing.
+    fn ask_arguments_of(&mut self, filter: &'t ChainFilter) -> Done {
+        for (index, argument) in filter.arguments.iter().enumerate() {
+            let want = if index < filter.required {
+                Want::Present
+            } else {
+                Want::Perhaps
+            };
+            self.ask(argument, want)?;
+        }
+        Ok(())
+    }
+
+    /// The keys of items by which filters sort, choose or map them.
+    fn ask_keys(&mut self, chain: &'t FilterChain) -> Done {
+        let Expression::Variable(variable) = &chain.entry else {
+            return Ok(());
+        };
+        for filter in &chain.filters {
+            if let Some(key) = item_key(filter) {
+                self.ask_key(variable, key)?;
+            }
+            if !keeps_items(filter) {
+                return Ok(());
+            }
+        }
+        Ok(())
+    }
+
+    /// A key of the items of a list.
+    fn ask_key(&mut self, list: &'t Variable, key: &str) -> Done {
+        let Some(mut path) = self.whole_path(list)? else {
+            return Ok(());
+        };
+        path.steps.push(Step::Each)?;
+        path.steps
+            .push(Step::Key(String::from_str(self.alloc, key)?))?;
+        self.found.push(UsedPath {
+            path,
+            position: self.position,
+            want: Want::Perhaps,
+        })?;
+        Ok(())
+    }
+
+    /// The name has the value of a path from there on, or its items in another order.
+    fn ask_assign(&mut self, name: &'t str, chain: &'t FilterChain) -> Done {
+        self.ask_chain(chain)?;
+        let path = match &chain.entry {
+            Expression::Variable(variable) if keep_items(&chain.filters) => {
+                self.whole_path(variable)?
+            }
+            _ => None,
+        };
+        for alias in &mut self.aliases {
+            if alias.name == name {
+                alias.path = None;
+                return Ok(());
+            }
+        }
+        self.aliases.push(Alias { name, path })?;
+        Ok(())
     }
 
     fn ask_arguments(&mut self, filters: &'t [ChainFilter]) -> Done {
         for filter in filters {
-            self.ask_all(&filter.arguments)?;
+            self.ask_arguments_of(filter)?;
         }
         Ok(())
     }
@@ -198,7 +273,7 @@ impl<'t> Asking<'t> {
 
     fn ask_atom(&mut self, atom: &'t Atom) -> Done {
         match atom {
-            Atom::Bare(value) => self.ask(value, Want::Perhaps),
+            Atom::Bare(value) => self.ask(value, Want::Tested),
             Atom::Compared(left, operator, right) => {
                 self.ask(left, want_before(*operator, right))?;
                 self.ask(right, want_after(*operator, left))
@@ -207,7 +282,7 @@ impl<'t> Asking<'t> {
     }
 
     fn ask_case(&mut self, target: &'t Expression, arms: &'t [Arm]) -> Done {
-        self.ask(target, Want::Present)?;
+        self.ask(target, want_of_target(arms))?;
         for arm in arms {
             self.ask_all(&arm.values)?;
         }
@@ -319,81 +394,15 @@ impl<'t> Asking<'t> {
                 };
             }
         }
+        if let Some(alias) = self.aliases.iter().find(|alias| alias.name == name) {
+            return match &alias.path {
+                Some(path) => Ok(Some(copy_of(self.alloc, path)?)),
+                None => Ok(None),
+            };
+        }
         if self.names.contains(name) {
             return Ok(None);
         }
         Ok(Some(DataPath::of_name(self.alloc, name)?))
     }
-}
-
-fn copy_of(alloc: Global, path: &DataPath) -> std::result::Result<DataPath, AllocError> {
-    let mut copy = DataPath::of_name(alloc, path.name.as_str())?;
-    for step in &path.steps {
-        copy.steps.push(match step {
-            Step::Key(key) => Step::Key(String::from_str(alloc, key.as_str())?),
-            Step::Each => Step::Each,
-        })?;
-    }
-    Ok(copy)
-}
-
-/// A loop over all of its items.
-const WHOLE: Span = Span {
-    offset: None,
-    limit: None,
-};
-
-/// How many of the first steps are literal texts.
-fn literal_steps(variable: &Variable) -> usize {
-    let mut count = 0_usize;
-    for index in &variable.indexes {
-        if !matches!(index, Expression::Literal(Value::Text(_))) {
-            return count;
-        }
-        count = count.saturating_add(1);
-    }
-    count
-}
-
-/// What is wanted of the value before an operator, which another one follows.
-fn want_before(operator: ComparisonOperator, other: &Expression) -> Want {
-    match operator {
-        ComparisonOperator::Contains => Want::Searched,
-        _ => want_beside(other),
-    }
-}
-
-/// What is wanted of the value after an operator, before which another one stands.
-fn want_after(operator: ComparisonOperator, other: &Expression) -> Want {
-    match operator {
-        ComparisonOperator::Contains => Want::Contained,
-        _ => want_beside(other),
-    }
-}
-
-/// What is wanted of a value that is compared with another one.
-fn want_beside(other: &Expression) -> Want {
-    match other {
-        Expression::Literal(Value::Integer(_)) => Want::Number,
-        _ => Want::Present,
-    }
-}
-
-fn number_of(value: &Option<Expression>) -> Option<i64> {
-    match value {
-        Some(Expression::Literal(Value::Integer(number))) => Some(*number),
-        _ => None,
-    }
-}
-
-fn is_date_filter(name: &str) -> bool {
-    matches!(
-        name,
-        "date"
-            | "date_in_tz"
-            | "date_to_string"
-            | "date_to_long_string"
-            | "date_to_xmlschema"
-            | "date_to_rfc822"
-    )
 }

@@ -6,11 +6,12 @@ ghost use Rattle.liquid_warnings.specs.Warnings.{AreWarned, AreOfSource, IsWarne
 ghost use Rattle.liquid_warnings.specs.Warnings.{node_said, nodes_said, said_at, template_said};
 
 use crate::attributes::add_unescaped;
-use crate::dates::no_clock;
+use crate::dates::{no_clock, no_pattern};
 use crate::else_if::add_else_if;
 use crate::loops::no_list;
 use crate::modes::unknown_mode;
 use crate::remark::{Remark, push_found};
+use crate::truths::always_true;
 use crate::whole::Whole;
 use crate::written_for::WrittenFor;
 use liquid_core::{ErrorKind, Object, Result};
@@ -197,10 +198,16 @@ fn node_warning(
 ) -> std::result::Result<Option<Remark>, AllocError>
     ensures { IfOk result (λ r. option_map remark_view r ≡ node_said position node.now) }
 {
-    match no_clock(alloc, node, position)? {
-        Some(remark) => Ok(Some(remark)),
-        None => no_list(alloc, node, position),
+    if let Some(remark) = no_clock(alloc, node, position)? {
+        return Ok(Some(remark));
     }
+    if let Some(remark) = no_list(alloc, node, position)? {
+        return Ok(Some(remark));
+    }
+    if let Some(remark) = no_pattern(alloc, node, position)? {
+        return Ok(Some(remark));
+    }
+    always_true(alloc, node, position)
 }
 
 /// Whether no more warnings of this sort are looked for in a file.

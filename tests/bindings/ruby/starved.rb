@@ -101,6 +101,7 @@ CALLS = {
     tags.parse("{% loud %}{% up 'b' %}{% endloud %}").render!
   end,
   'new filters' => -> { Bikleinu::Environment.new(filters: { 'shout' => ->(text) { text.upcase } }).parse("{{ 'a' | shout }}").render! },
+  "jekyll's filters" => -> { Bikleinu::Environment.new(site: ['http://x.org', '/b']).parse("{{ 'a' | absolute_url }}").render! },
   'a fault' => -> { Bikleinu::Template.parse("{{ a | plus: 'x' }}").page(a: 1).fault.kind }
 }.freeze
 

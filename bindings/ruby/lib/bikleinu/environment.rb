@@ -9,7 +9,8 @@ module Bikleinu
   #
   # partials: is a Hash of sources, the path of a folder, or an object that has read_template_file(name). filters: is a Hash of
   # functions, or a module. missing: is :fault or :nil. jekyll: takes the include, the highlight and the sort of Jekyll, and drops the
-  # white space of blocks that write nothing. depth: says how many partials may stand in one another, levels: how many blocks and partials;
+  # white space of blocks that write nothing. site: is the address and the base path of a site of Jekyll's, as
+  # ['https://example.org', '/blog']: the library then has Jekyll's own filters over it, but for those that filters: names. depth: says how many partials may stand in one another, levels: how many blocks and partials;
   # bytes: and turns: bound a page, and rounds: how often it may ask its filters. decimals: :text makes texts of floats, and
   # times: true, or an offset, of times and dates.
   #
@@ -36,12 +37,12 @@ module Bikleinu
     attr_reader :settings, :filters, :near_plans # :nodoc:
 
     # A host is an object of the plugin for Jekyll, which says what is known of its documents and its sources.
-    def initialize(partials: nil, filters: nil, jekyll: false, decimals: nil, times: nil, host: nil, **options)
+    def initialize(partials: nil, filters: nil, jekyll: false, site: nil, decimals: nil, times: nil, host: nil, **options)
       @settings = Settings.new(Conversions.new(decimals, times, host ? host.documents : []), **options)
       @near_plans = NearPlans.new(self, host) if host
       @jekyll = jekyll ? true : false
       @language = Fault.check(Handle.language(@jekyll))
-      @filters = Filters.new
+      @filters = Filters.new(site_of(site))
       @given = partials
       @lock = Monitor.new
       filters.is_a?(Module) ? register_filter(filters) : filters&.each { |name, function| filter(name, function) }
@@ -119,6 +120,17 @@ module Bikleinu
     end
 
     private
+
+    # The address and the base path of a site, whose filters the language then has.
+    def site_of(site)
+      return if site.nil?
+      raise TypeError, "site: is #{site.inspect}, and an address and a base path are wanted" unless site.is_a?(Array) && site.length == 2
+
+      number = @language.register_jekyll
+      raise Error.new("Jekyll's filters are not taken", number:) unless number.zero?
+
+      site.map { |text| Text.utf8(text, 'a part of site:').dup.freeze }.freeze
+    end
 
     def add(name, function)
       least, most = Filters.arity("the filter `#{name}`", function)

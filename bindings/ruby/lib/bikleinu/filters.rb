@@ -14,13 +14,15 @@ module Bikleinu
     # Answers of filters, each to one input and its arguments.
     Table = Struct.new(:handle, :version, :answers)
 
-    def initialize
+    # A site is an address and a base path, over which the library itself answers Jekyll's filters.
+    def initialize(site = nil)
+      @site = site
       @functions = {}
       @tables = []
     end
 
     def empty?
-      @functions.empty?
+      @functions.empty? && @site.nil?
     end
 
     # Adds a function, in place of the one of that name.
@@ -40,6 +42,7 @@ module Bikleinu
 
       table&.handle&.release
       handle = Fault.check(Handle.answers)
+      handle.set_site(*@site) if @site
       functions.each_key { |name| handle.add_filter(name) }
       Table.new(handle, functions, 0)
     end
