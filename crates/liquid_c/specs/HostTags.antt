@@ -44,7 +44,7 @@ refusal_of_name names.Taken = TakenName
 abbrev pub HasSameRest : Language → Language → Type 0
 HasSameRest old new = (new.tags ≡ old.tags) × (new.blocks ≡ old.blocks)
     × (new.filters ≡ old.filters) × (new.include_paths ≡ old.include_paths)
-    × (new.drops_blanks ≡ old.drops_blanks)
+    × (new.drops_blanks ≡ old.drops_blanks) × (new.escapes_html ≡ old.escapes_html)
 
 -- the language is as it was
 abbrev pub HasSameTags : Language → Language → Type 0

@@ -49,6 +49,7 @@ pub record IsJekylls (l : Language) : Type 0 where
       highlight_name (Host 1 1)
   pub include_paths : l.include_paths ≡ true
   pub drops_blanks : l.drops_blanks ≡ true
+  pub escapes_html : l.escapes_html ≡ false
   pub highlight : HasOwnHighlight l
 
 -- that language, or memory ran out
@@ -63,7 +64,7 @@ MakesJekylls _ = ⊥
 abbrev pub IsWith : Text → ℕ → ℕ → Language → Language → Type 0
 IsWith name least most old new = (new.tags ≡ old.tags) × (new.blocks ≡ old.blocks)
     × (new.host_tags ≡ old.host_tags) × (new.include_paths ≡ old.include_paths)
-    × (new.drops_blanks ≡ old.drops_blanks)
+    × (new.drops_blanks ≡ old.drops_blanks) × (new.escapes_html ≡ old.escapes_html)
     × (listed (registered_in new.filters) ≡
     insert (listed (registered_in old.filters)) name (Host least most))
 
@@ -71,7 +72,7 @@ IsWith name least most old new = (new.tags ≡ old.tags) × (new.blocks ≡ old.
 abbrev pub IsSameLanguage : Language → Language → Type 0
 IsSameLanguage old new = (new.tags ≡ old.tags) × (new.blocks ≡ old.blocks)
     × (new.host_tags ≡ old.host_tags) × (new.include_paths ≡ old.include_paths)
-    × (new.drops_blanks ≡ old.drops_blanks)
+    × (new.drops_blanks ≡ old.drops_blanks) × (new.escapes_html ≡ old.escapes_html)
     × (registered_in new.filters ≡ registered_in old.filters)
 
 abbrev pub HoldsLanguage : (Language → Type 0) → Option HandleContent → Type 0

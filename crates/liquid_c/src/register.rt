@@ -68,6 +68,7 @@ fn register_highlight(alloc: Global, language: &mut Language) -> Answer<()>
     ensures filters { language.new.filters ≡ language.old.filters }
     ensures include_paths { language.new.include_paths ≡ language.old.include_paths }
     ensures drops_blanks { language.new.drops_blanks ≡ language.old.drops_blanks }
+    ensures escapes_html { language.new.escapes_html ≡ language.old.escapes_html }
 {
     let name = String::from_str(alloc, "highlight")?;
     let filter = String::from_str(alloc, highlight_name())?;

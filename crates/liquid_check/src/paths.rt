@@ -141,7 +141,7 @@ impl Paths {
         let mut places = Vec::new(rt.alloc());
         for file in files {
             let place = self.add_found(rt, folder, file.as_str())?;
-            if !keeps_pages {
+            if !self.has_folder || !keeps_pages {
                 self.set_page(place, !self.has_folder);
             }
             places.push((file, place))?;

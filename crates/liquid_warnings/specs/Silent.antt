@@ -43,7 +43,7 @@ abbrev pub is_through : Node → Bool
 is_through (Filtered filters end) = true
 is_through _ = false
 
--- the node stands at this line and column, and isn't one in which an output stands that begins there
+-- the node stands at this line and column, and isn't one around an output that begins there
 abbrev pub stands_at : ℕ → ℕ → Node → Position → Bool
 stands_at line column n p =
     not (is_through n) && (nat_eq p.line line && nat_eq p.column column)
@@ -61,5 +61,6 @@ is_fault IsNil = false
 -- the warning is about what a page shows silently; what the data lacks is that only where it is a
 -- fault without a filter
 abbrev pub is_shown_silently : Missing → Said → List Node → List Position → Bool
-is_shown_silently missing said ns ps = is_misread said.kind || (is_lack said.kind && (is_fault missing
-    && (has_similar said.message || is_filtered_at said.line said.column ns ps)))
+is_shown_silently missing said ns ps = is_misread said.kind || (is_lack said.kind
+    && (is_fault missing && (has_similar said.message
+    || is_filtered_at said.line said.column ns ps)))

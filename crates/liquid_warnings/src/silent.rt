@@ -18,8 +18,8 @@ use liquid_syntax::{Node, Position, Template};
 /// that is like one that is there, or of which a filter makes something. The latter counts where an
 /// output or an `assign` asks for it first. It takes no memory.
 pub fn is_silent(remark: &Remark, template: &Template, missing: Missing) -> bool
-    ensures { result ≡ is_shown_silently missing (remark_view remark.now) (template_nodes template.now)
-        (positions_of template.now) }
+    ensures { result ≡ is_shown_silently missing (remark_view remark.now)
+        (template_nodes template.now) (positions_of template.now) }
 {
     is_misread(remark.kind)
         || (is_lack(remark.kind)

@@ -17,4 +17,4 @@ register_highlight-requires-clause-allowed c =
     is_free (listed (kinds_of c.register.new.self)) (listed (kinds_of c.in_ok-language.language.blocks)) tags blocks
 
 pub returns-clause-language : goal.returns-clause-language
-returns-clause-language c = record { tags = search rules; blocks = search rules; filters = search rules; include_paths = search rules; drops_blanks = search rules; highlight = search rules }
+returns-clause-language c = record { tags = search rules; blocks = search rules; filters = search rules; include_paths = search rules; drops_blanks = search rules; escapes_html = search rules; highlight = search rules }
