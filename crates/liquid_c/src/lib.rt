@@ -11,7 +11,6 @@ mod asked;
 mod content;
 mod create_and_free;
 mod data_for;
-mod escaping;
 mod handle;
 mod handle_content;
 mod hosted;
