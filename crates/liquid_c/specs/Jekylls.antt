@@ -34,7 +34,7 @@ with_each_name m (f ∷ fs) =
 abbrev pub IsSameButFilters : Language → Language → Type 0
 IsSameButFilters old new = (new.tags ≡ old.tags) × (new.blocks ≡ old.blocks)
     × (new.host_tags ≡ old.host_tags) × (new.include_paths ≡ old.include_paths)
-    × (new.drops_blanks ≡ old.drops_blanks)
+    × (new.drops_blanks ≡ old.drops_blanks) × (new.escapes_html ≡ old.escapes_html)
 
 -- the new language has each of them at its name, and is else the old one
 abbrev pub HasNames : Language → Language → Type 0

@@ -109,11 +109,11 @@ same('in a partial', '2.50 EUR') { late.parse("{% render 'price', cents: 250 %}"
 
 # Jekyll's filters over a site, which the library answers, but for those of the caller's.
 urls = "{{ '/a b' | absolute_url }} {{ '/t' | relative_url }} {{ xs | where: 'a', 1 | jsonify }}"
-given = { 'xs' => [{ 'a' => 1 }, { 'a' => 2 }] }
+things = { 'xs' => [{ 'a' => 1 }, { 'a' => 2 }] }
 placed = Bikleinu::Environment.new(jekyll: true, site: ['https://example.org', '/blog'])
-same('a site', 'https://example.org/blog/a%20b /blog/t [{"a":1}]') { placed.parse(urls).render!(given) }
+same('a site', 'https://example.org/blog/a%20b /blog/t [{"a":1}]') { placed.parse(urls).render!(things) }
 replaced = Bikleinu::Environment.new(site: ['', '/b'], filters: { 'relative_url' => ->(url) { "own #{url}" } })
-same('a filter in place of one', '/b/a%20b own /t [{"a":1}]') { replaced.parse(urls).render!(given) }
+same('a filter in place of one', '/b/a%20b own /t [{"a":1}]') { replaced.parse(urls).render!(things) }
 same('a date that is none', :invalid_input) { placed.parse('{{ 1 | date_to_string }}').page.fault.kind }
 same('an argument too few', /\ABikleinu::SyntaxError: FilterArguments/) { placed.parse('{{ 1 | where: 2 }}') }
 same('no site', /\ABikleinu::SyntaxError: UnknownFilter/) { Bikleinu::Environment.new(jekyll: true).parse('{{ 1 | jsonify }}') }
