@@ -86,6 +86,10 @@ enum {
     BIKLEINU_NO_SUCH_CALL = 107,   /* no call of this number behind the handle */
     BIKLEINU_SHARED_HANDLE = 108,  /* a change of what another handle shares */
     BIKLEINU_NO_SUCH_MISSING = 109, /* a number that says nothing of missing values */
+    BIKLEINU_NO_WORD = 110,        /* a tag's name that is no word: a letter or _, then letters, digits, _ and - */
+    BIKLEINU_RESERVED_NAME = 111,  /* a tag's name that blocks have a use of: else, elsif, when, and what begins with end */
+    BIKLEINU_TAKEN_NAME = 112,     /* a tag's name at which the language has a tag or a block of its own */
+    BIKLEINU_NO_SUCH_STYLE = 113,  /* a number that is no style */
 
     /* of a page that a limit of the caller's ended: it holds the text up to there, and a fault of the kind Write (18) */
     BIKLEINU_BYTES_REACHED = 104,
@@ -98,14 +102,46 @@ enum {
 /* Makes the standard language. */
 uint32_t bikleinu_language(bikleinu_handle *made);
 
-/* Makes Jekyll's language: the standard one with Jekyll's include and sort in place of its own, and without the white space of blocks
-   that write nothing. */
+/* Makes Jekyll's language: the standard one with Jekyll's include and sort in place of its own, with its block highlight (as it is where no
+ * highlighter is set), and without the white space of blocks that write nothing. The filter of highlight is "{% highlight %}", which the
+ * library answers itself, unless a table has a filter of this name. */
 uint32_t bikleinu_jekyll_language(bikleinu_handle *made);
 
 /* Registers a filter of the caller's in a language, by its name, with the least and the greatest number of arguments that a template may
  * give it. What the name stood for before is forgotten. After anything but 0 nothing changed. What the filter answers, a table tells
  * (below): a page without one ends by BIKLEINU_UNSUPPORTED where it calls the filter. */
 uint32_t bikleinu_register(bikleinu_handle *language, const uint8_t *name, size_t length, size_t least, size_t most);
+
+/* Registers the names of Jekyll's own filters, which bikleinu_answers_jekyll (below) lets the library answer, in a language: relative_url,
+ * absolute_url, the four of dates, xml_escape, cgi_escape, uri_escape, jsonify, normalize_whitespace, number_of_words, to_integer,
+ * array_to_sentence_string, group_by, where, find and highlight. What such a name stood for before is forgotten. After BIKLEINU_MEMORY some
+ * may be registered; after any other number but 0 nothing changed. */
+uint32_t bikleinu_register_jekyll(bikleinu_handle *language);
+
+/* How what stands after the name of a tag of the caller's is read. */
+enum {
+    BIKLEINU_STYLE_ITEMS = 0, /* as values, with commas between them or none */
+    BIKLEINU_STYLE_PATH = 1,  /* as a path without quotes, and then values */
+    BIKLEINU_STYLE_TEXT = 2   /* all of it as one text, up to the first closer; as no value where nothing stands there */
+};
+
+/* Registers a tag of the caller's in a language: {% name a, b %} writes what the filter answers to nil as its input and the values a and
+ * b as its arguments. The filter is one of the caller's, which bikleinu_register gives the language under that name, before or after;
+ * where it has none, or one that doesn't take so many arguments, such a tag is refused (BIKLEINU_UNKNOWN_FILTER,
+ * BIKLEINU_FILTER_ARGUMENTS). A filter's name that is no word, as "{% name %}", no template calls but by its tag. What the caller had
+ * registered at the tag's name is forgotten. A bad style is answered first, then bytes that are no UTF-8, then a refused name. After
+ * anything but 0 nothing changed. */
+uint32_t bikleinu_register_tag(bikleinu_handle *language, const uint8_t *name, size_t length, const uint8_t *filter, size_t filter_length,
+                               uint32_t style);
+
+/* Registers a block in the same way: {% name a, b %}body{% endname %} writes what the filter answers to the text that the body writes as
+ * its input, and to the values. A block without its end is BIKLEINU_MISSING_END. */
+uint32_t bikleinu_register_block(bikleinu_handle *language, const uint8_t *name, size_t length, const uint8_t *filter, size_t filter_length,
+                                 uint32_t style);
+
+/* Makes a language escape for HTML what outputs and cycle write, but not an output that ends with "| raw", in templates that are parsed from
+ * then on. A captured text is escaped already, and needs it. */
+uint32_t bikleinu_escape_html(bikleinu_handle *language);
 
 /* Parses the source of a template in a language. The template doesn't need the language any more, or the source. It keeps a copy of a source
  * of at most 1 MiB, so that the fault of a run stands at its item, and else at the output or the tag. */
@@ -161,8 +197,9 @@ typedef struct {
     uint32_t levels; /* how many levels it may reach: fewer on a smaller stack, and more on a larger one; 0 for BIKLEINU_LEVELS */
     uint32_t missing; /* what becomes of a value that is missing: BIKLEINU_MISSING_IS_FAULT or BIKLEINU_MISSING_IS_NIL */
     uint64_t bytes;  /* how many bytes it may take, or BIKLEINU_ANY: those of each text that it writes, also into the body of a capture or
-                      * an ifchanged, of each answer of a filter and of each value that assign stores; a list or a map takes the bytes of
-                      * its parts, and 32 more for each item or pair */
+                      * an ifchanged, of each answer of a filter, of each value that assign stores or a pair of a partial passes, and of
+                      * each list beyond the data that a loop goes over; a list or a map takes the bytes of its parts, and 32 more for
+                      * each item or pair */
     uint64_t turns;  /* how many turns it may take, or BIKLEINU_ANY: a node takes one each time that it runs, and one more for each filter,
                       * comparison, value of a when and pair of a partial in it; a body without nodes takes one */
 } bikleinu_limits;
@@ -201,12 +238,18 @@ uint32_t bikleinu_data_for(const uint8_t *json, size_t length, bikleinu_handle *
  * caller reads the calls, puts the answers into the table and renders again. A table is kept for further pages, which mostly need no
  * second run. So a filter is to be a function of its input and arguments: it isn't asked again what the table has. */
 
-/* Makes a table without filters and answers. */
+/* Makes a table without filters, answers and a site. */
 uint32_t bikleinu_answers(bikleinu_handle *made);
 
 /* Adds a filter to a table by its name, unless it is there. After anything but 0 nothing changed. A page that calls a registered filter
- * which the table hasn't ends by BIKLEINU_UNSUPPORTED. */
+ * which the table hasn't ends by BIKLEINU_UNSUPPORTED, but for Jekyll's own over a site (below). */
 uint32_t bikleinu_answers_filter(bikleinu_handle *answers, const uint8_t *name, size_t length);
+
+/* Puts a site into a table, in place of the one before: its address, as "https://example.org", and its base path, as "/blog", or no bytes.
+ * The library then answers calls of Jekyll's own filters itself, each with as many arguments as Jekyll's takes, but for those that the
+ * table has by their names. After anything but 0 nothing changed. */
+uint32_t bikleinu_answers_jekyll(bikleinu_handle *answers, const uint8_t *address, size_t address_length, const uint8_t *base,
+                                 size_t base_length);
 
 /* Renders as bikleinu_render_within, with the filters of a table. Where the answer is BIKLEINU_LACKING, page holds calls that the table
  * lacks: at least one, at most BIKLEINU_CALLS, and each once. Each is to be answered (below), and then the same call made again.

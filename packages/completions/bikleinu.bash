@@ -15,27 +15,31 @@ _bikleinu() {
     bikleinu)
       local words= values=
       case ${COMP_WORDS[1]} in
-        render) words='--text --data --define --partials --filters --assets --out --quiet --missing --max-bytes --max-turns --decimals --dates --now --help' ;;
-        merge) words='--text --out --into --data --define --partials --filters --assets --records-format --delimiter --cells --names --separator --missing --max-bytes --max-turns --from --count --dry-run --no-flush --progress --quiet --decimals --dates --now --help' ;;
-        check) words='--data --define --partials --filters --format --warn --strict --ext --exclude --quiet --decimals --dates --now --help' ;;
-        paths) words='--partials --filters --format --help' ;;
+        render) words='--text --data --define --partials --filters --assets --escape --out --quiet --missing --max-bytes --max-turns --decimals --dates --now --help' ;;
+        merge) words='--text --out --into --data --define --partials --filters --assets --escape --records-format --delimiter --cells --names --separator --missing --max-bytes --max-turns --from --count --dry-run --no-flush --progress --quiet --decimals --dates --now --help' ;;
+        check) words='--data --define --partials --filters --escape --format --warn --strict --ext --exclude --quiet --decimals --dates --now --help' ;;
+        paths) words='--partials --filters --escape --format --help' ;;
       esac
       if [ "$COMP_CWORD" -eq 1 ]; then mapfile -t COMPREPLY < <(compgen -W 'render merge check paths help --help --version' -- "$word"); return; fi
       case ${COMP_WORDS[1]}:$before in
         render:--filters) values='decimals jekyll shopify' ;;
+        render:--escape) values='html' ;;
         render:--missing) values='fault nil' ;;
         render:--decimals) values='fault text' ;;
         merge:--filters) values='decimals jekyll shopify' ;;
+        merge:--escape) values='html' ;;
         merge:--records-format) values='csv json jsonl' ;;
         merge:--cells) values='text typed' ;;
         merge:--names) values='written snake' ;;
         merge:--missing) values='fault nil' ;;
         merge:--decimals) values='fault text' ;;
         check:--filters) values='decimals jekyll shopify' ;;
+        check:--escape) values='html' ;;
         check:--format) values='text json github' ;;
         check:--warn) values='unescaped-attributes' ;;
         check:--decimals) values='fault text' ;;
         paths:--filters) values='decimals jekyll shopify' ;;
+        paths:--escape) values='html' ;;
         paths:--format) values='text json-schema' ;;
       esac
       if [ -n "$values" ]; then mapfile -t COMPREPLY < <(compgen -W "$values" -- "$word"); return; fi

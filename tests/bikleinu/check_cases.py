@@ -186,12 +186,15 @@ def attribute_cases():
         warned("what is escaped, literals and a loop's own object", "t --warn unescaped-attributes", {"t": "{% for x in y %}<a b=\"{{ c | escape }}{{ c | url_encode | upcase }}{{ 'x' }}{{ 1 }}{{ forloop.index }}\">{% endfor %}"}, "", 0),
         warned("outside of attributes", "t --warn unescaped-attributes", {"t": "a < b = '{{ c }}' <3 \"{{ d }}\" <p {{ e }}>=\"{{ f }}\"</p {{ g }}><{{ h }} {{ i }}><p q={{ 1 }} {{ j }}>"}, "", 0),
         warned("tags, comments and raw text write nothing", "t --warn unescaped-attributes", {"t": "<a b=\"{% if c %}{{ d }}{% endif %}{% comment %}\">{% endcomment %}{% raw %}\">{% endraw %}{{ e }}\">{{ f }}"}, warning("t", 1, 17, "UnescapedAttribute", QUOTE) + warning("t", 1, 89, "UnescapedAttribute", QUOTE), 2),
+        warned("outputs that the language escapes", "t --warn unescaped-attributes --escape html", {"t": "<a b=\"{{ c }}{{ d | raw }}\">"}, warning("t", 1, 14, "UnescapedAttribute", QUOTE), 1),
+        warned("a captured text that is escaped again", "t --escape html", {"t": "{% capture a %}<b>{{ c }}</b>{% endcapture %}{{ a }}{{ a | raw }}{{ c }}{{ a }}"}, warning("t", 1, 46, "EscapedTwice", "the outputs in the captured `a` are escaped already; end this one with `| raw`"), 1),
         case("another kind", "check t --warn all", {"t": ""}, status=2, errors=("error: invalid value 'all' for '--warn <KIND>'", "  [possible values: unescaped-attributes]")),
     ]
 
 
 MAP = "`%s` in the data is a map: a loop goes by its keys, Ruby's by the file; make it a list of pairs"
 NIL = "`%s` in the data has no value: `contains` is a fault, in Ruby false; use `--missing nil` or `default`"
+SOUGHT = "`%s` in the data is nil: every text contains it, in Ruby none; test for it first"
 MODE = "`slugify` has no mode `%s`: here `default`, in Jekyll `none`; write the one you mean"
 SITE = '{"menu": {"b": 1, "a": 2}, "one": {"b": 1}, "none": {}, "rows": [{"links": {"b": 1, "a": 2}}, {"links": null}], "pairs": [["b", 1], ["a", 2]], "nav": null, "page": {"nav": null, "url": "/a/"}}'
 LOOPS = "{% for m in menu %}{% endfor %}{% tablerow m in rows %}{% for l in m.links %}{% endfor %}{% endtablerow %}{% for m in one %}{% endfor %}{% for m in none %}{% endfor %}{% for m in pairs %}{% endfor %}{% for m in menu %}{% endfor %}{% assign own = menu %}{% for m in own %}{% endfor %}"
@@ -202,7 +205,8 @@ MODES = "{{ a | slugify: 'prety' }}{{ a | slugify: 'pretty' | slugify: 'latin' |
 def ruby_cases():
     """What Ruby's engines do otherwise, which is warned of only in templates for one of them."""
     maps = warning("t", 1, 1, "KeyOrder", MAP % "menu") + warning("t", 1, 56, "KeyOrder", MAP % "rows[].links")
-    nils = "".join(warning("t", 1, column, "NilContains", NIL % path) for column, path in ((1, "nav"), (75, "page.nav"), (116, "page.nav.of"), (294, "rows[].links")))
+    found = ((1, NIL, "nav"), (26, SOUGHT, "page.nav"), (75, NIL, "page.nav"), (116, NIL, "page.nav.of"), (294, NIL, "rows[].links"))
+    nils = "".join(warning("t", 1, column, "NilContains", words % path) for column, words, path in found)
     modes = "".join(warning("t", 1, column, "UnknownMode", MODE % mode) for column, mode in ((1, "prety"), (27, ""), (113, "Raw")))
     return [
         warned("a loop over a map, of Jekyll's templates", "t -d d --filters jekyll", {"t": LOOPS, "d": SITE}, maps, 2),
@@ -210,10 +214,11 @@ def ruby_cases():
         warned("a loop over a map", "t -d d", {"t": LOOPS, "d": SITE}, "", 0),
         warned("a loop over what isn't known to be a map", "t --filters jekyll", {"t": "{% for m in menu %}{{ m[0] }}{% endfor %}"}, "", 0),
         warned("a render for each member of a map", "t -d d -p p --filters jekyll", {"t": "{% render 'q' for menu as m %}", "p/q": "{{ m }}", "d": SITE}, warning("t", 1, 1, "KeyOrder", MAP % "menu"), 1, 2),
-        warned("contains of nil, of Jekyll's templates", "t -d d --filters jekyll", {"t": SEARCHES, "d": SITE}, nils, 4),
-        warned("contains of nil, of Shopify's templates", "t -d d --filters shopify", {"t": SEARCHES, "d": SITE}, nils, 4),
+        warned("contains of nil, of Jekyll's templates", "t -d d --filters jekyll", {"t": SEARCHES, "d": SITE}, nils, 5),
+        warned("contains of nil, of Shopify's templates", "t -d d --filters shopify", {"t": SEARCHES, "d": SITE}, nils, 5),
         warned("contains of nil", "t -d d", {"t": SEARCHES, "d": SITE}, "", 0),
         warned("contains of what the data lacks", "t -d d --filters jekyll", {"t": "{% if page.nva contains 'a' %}{% endif %}{% if xyzzy contains 'a' %}{% endif %}", "d": SITE}, warning("t", 1, 1, "UnknownPath", "the data has no `page.nva`; did you mean `page.nav`?") + warning("t", 1, 1, "NilContains", NIL % "page.nva") + warning("t", 1, 42, "UnknownName", "the data has no `xyzzy`") + warning("t", 1, 42, "NilContains", NIL % "xyzzy"), 4),
+        warned("contains with what the data lacks", "t -d d --filters jekyll", {"t": "{% if 'a' contains page.nva %}{% endif %}", "d": SITE}, warning("t", 1, 1, "UnknownPath", "the data has no `page.nva`; did you mean `page.nav`?"), 1),
         warned("contains of a name that a tag sets", "t -d d --filters jekyll", {"t": "{% assign nav = nav | default: '' %}{% if nav contains 'a' %}{% endif %}", "d": SITE}, "", 0),
         warned("modes of slugify, of Jekyll's templates", "t --filters jekyll", {"t": MODES}, modes, 3),
         warned("modes of slugify, of Shopify's templates", "t --filters shopify", {"t": MODES}, "", 0),

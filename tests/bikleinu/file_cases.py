@@ -113,6 +113,7 @@ def name_cases():
         merged("a dot of the pattern", ["a", "b"], {}, {".a": "a.", ".b": "b."}, pattern=".{{ id }}"),
         merged("a folder with a dot of the pattern", ["a", ".b"], {}, {".m/a": "a."}, (2,), pattern=".m/{{ id }}"),
         merged("a dot of the pattern after the record's", ["a"], {}, {"a/.x": "a."}, pattern="{{ id }}/.x"),
+        case("a dot in a tag of the pattern", """merge t r -o '{{ id | replace: "/.", "/" }}'""", {"t": "{{ id }}.", "r": lines(".bashrc", "a/.b")}, {"a/b": "a/.b."}, 1, (f"error: record 1: the file `.bashrc` {WRITE}: ", counted(1, 1))),
         merged("a name of a part's form", ["a", DEAD], {}, {"m/a": "a."}, (2,)),
         merged("a name of a part's form, the dot of which is the pattern's", ["a", DEAD[1:]], {}, {"m/.a": "a."}, (2,), "m/.{{ id }}"),
         merged("two names of one file", ["real/x", "link/x", "real/y"], {"real/": "", "link": Link("real")}, {"real/x": "real/x.", "real/y": "real/y."}, (2,), "{{ id }}"),

@@ -1,8 +1,10 @@
 """Merges where files can't grow, onto a disk that is full, and onto one that can only be read: a page that doesn't fit leaves no part. Each
-record whose file would be too large is reported, a full disk and a read-only one end the merge by one line, and `--from` goes on."""
+record whose file would be too large is reported, a full disk and a read-only one end the merge by one line, and `--from` goes on. Where
+the signal of a file that grows too large isn't ignored, it ends the program, and the file keeps what it held."""
 import errno
 import os
 import resource
+import signal
 import subprocess
 import tempfile
 
@@ -29,6 +31,31 @@ def filled_up(program):
             return f"it leaves {sorted(left)}, or a part"
         printed, status = merged(program, room, "--from", str(FIT + 1))
         return None if status == 0 and pages_in(room) == wanted else f"gone on with: status {status}, and it prints {printed}"
+
+
+def ended(program):
+    """What went wrong of a page that is too large for a file where the signal for that isn't ignored, and of the next call, or None."""
+    with tempfile.TemporaryDirectory() as room:
+        for name, text in (("t", "x" * 99), ("o", "old")):
+            with open(f"{room}/{name}", "w", encoding="utf-8") as file:
+                file.write(text)
+        call = {"cwd": room, "stdin": subprocess.DEVNULL, "capture_output": True}
+        status = subprocess.run([program, "render", "t", "-o", "o"], preexec_fn=bound_files, **call).returncode
+        if (status, text_at(f"{room}/o")) != (-signal.SIGXFSZ, "old"):
+            return f"too large a page: status {status}, and the file holds {text_at(f'{room}/o')}"
+        status = subprocess.run([program, "render", "t", "-o", "o"], **call).returncode
+        left = sorted(os.listdir(room))
+        return None if (status, left) == (0, ["o", "t"]) else f"the next call: status {status}, and it leaves {left}"
+
+
+def bound_files():
+    resource.setrlimit(resource.RLIMIT_CORE, (0, 0))
+    resource.setrlimit(resource.RLIMIT_FSIZE, (50, 50))
+
+
+def text_at(path):
+    with open(path, encoding="utf-8") as file:
+        return file.read()
 
 
 def filled(program, library):
@@ -90,6 +117,5 @@ def merged(program, room, *words, **how):
 def pages_in(room):
     pages = {}
     for name in os.listdir(f"{room}/mails"):
-        with open(f"{room}/mails/{name}", encoding="utf-8") as file:
-            pages[name] = file.read()
+        pages[name] = text_at(f"{room}/mails/{name}")
     return pages

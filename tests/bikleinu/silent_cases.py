@@ -49,7 +49,7 @@ def truths():
         case("a truth value that is compared with a text", "render t d", {"t": "{% if a == 'true' %}x{% endif %}!", "d": '{"a": true}'}, "!", ("warning: t: NoText: line 1, column 1: `a` is a truth value in the data, and no text: such a comparison never holds",)),
         case("a number that is compared with a word", "render t d", {"t": "{% if a == 'all' %}x{% endif %}!", "d": '{"a": 3}'}, "!"),
         case("a number of a case", "render t d", {"t": "{% case a %}{% when 3 %}y{% endcase %}!", "d": '{"a": "3"}'}, "!", ("warning: t: TextNumber: line 1, column 1: `a` is the text `3` in the data",)),
-        case("a text by itself", "render t d", {"t": "{% if a == 'x' or 'y' %}z{% endif %}{% unless 1 %}{% endunless %}", "d": '{"a": "b"}'}, "z", ("warning: t: AlwaysTrue: line 1, column 1: a text or a number by itself counts as true: compare with each, as `a == 1 or a == 2`", "warning: t: AlwaysTrue: line 1, column 39: a text or a number by itself")),
+        case("a text by itself", "render t d", {"t": "{% if a == 'x' or 'y' %}z{% endif %}{% unless 1 %}{% endunless %}", "d": '{"a": "b"}'}, "z", ("warning: t: AlwaysTrue: line 1, column 1: a text or a number by itself counts as true: compare with each, as `a == 1 or a == 2`", "warning: t: AlwaysTrue: line 1, column 37: a text or a number by itself")),
         case("a truth value by itself", "render t", {"t": "{% if true %}z{% endif %}{% if nil %}{% endif %}"}, "z"),
         case("a truth value that is compared with one", "render t d", {"t": "{% if a == true %}x{% endif %}!", "d": '{"a": true}'}, "x!"),
     ]

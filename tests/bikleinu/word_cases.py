@@ -15,7 +15,7 @@ def case(title, words, files, out="", errors=(), status=None):
 
 
 def word_cases():
-    return value_cases() + tip_cases() + out_cases() + text_cases() + size_cases() + limit_cases()
+    return value_cases() + tip_cases() + out_cases() + text_cases() + escape_cases() + size_cases() + limit_cases()
 
 
 def out_cases():
@@ -103,6 +103,15 @@ def text_cases():
         case("a text without records", "merge -t a", page, errors=("error: records are needed",), status=2),
         case("a text and an empty path of data", "render -t a ''", page, errors=("error: the path of the data is empty",), status=2),
         case("no template", "merge", page, errors=("error: the following required arguments were not provided", "  <TEMPLATE>", "  <RECORDS>"), status=2),
+    ]
+
+
+def escape_cases():
+    page = {"t": "{{ a }}{{ a | raw }}{% cycle a %}", "r": '{"a": "<"}\n'}
+    return [
+        case("an escaped page", "render t -D 'a=<' --escape html", page, "&lt;<&lt;"),
+        {**case("an escaped page of a record, whose name isn't", "merge t r --escape html -o '{{ a }}'", page, errors=("pages 1, failed 0",), status=0), "left": {"<": "&lt;<&lt;"}},
+        case("text that is escaped for something else", "render t --escape xml", page, status=2, errors=("error: invalid value 'xml' for '--escape <FOR>'", "  [possible values: html]")),
     ]
 
 

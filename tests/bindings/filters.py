@@ -1,4 +1,4 @@
-"""Filters in Python, Jekyll's language, names, and what stands for names that the data lack."""
+"""Filters, tags and blocks in Python, Jekyll's language, names, and what stands for names that the data lack."""
 import pickle
 import sys
 import threading
@@ -120,6 +120,105 @@ def rounds():
     )
 
 
+def link(path, text="here"):
+    return f"[{text}]({path})"
+
+
+def box(body, *values):
+    return f"<{','.join(map(str, values))}|{body}>"
+
+
+def now(markup=""):
+    return f"now {markup!r}"
+
+
+def inc(path, *values):
+    return f"{path}{values}"
+
+
+def with_tags(**named):
+    made = Environment(**named)
+    made.tag(link)
+    made.block("box")(box)
+    made.tag("now", style="text")(now)
+    made.tag(style="path")(inc)
+    return made
+
+
+def tags():
+    """A tag gets its values, and a block the text of its body first. They go with a pickle, and a function that is added later counts."""
+    made = with_tags(partials={"p": "{% box 1 %}{{ x }}{% endbox %}"})
+    copied = pickle.loads(pickle.dumps(made))
+    source = "{% link 'a' %}{% link b.c 'B' %}{% box 1, b.c %}{% link 'x', 'y' %}{% box %}{{ b.c }}{% endbox what ever %}{% endbox %}"
+    page = "[here](a)[B](7)<1,7|[y](x)<|7>>"
+    again = pickle.loads(pickle.dumps(made.from_string(source)))
+
+    @made.block
+    def twice(body):
+        return body * 2
+
+    return first(
+        [
+            same(lambda: made.from_string(source).render(b={"c": 7}), page),
+            same(lambda: copied.from_string(source).render(b={"c": 7}), page),
+            same(lambda: again.render(b={"c": 7}), page),
+            same(lambda: made.from_string("{% twice %}{% include 'p' %}{% endtwice %}").render(x=3), "<1|3><1|3>"),
+            same(lambda: made.from_string("{%- now -%} | {% now in 'Paris', 5%} | {%now%}").render(), "now ''| now \"in 'Paris', 5\" | now ''"),
+            same(lambda: made.from_string("{% inc a/b.html 1, 'c' %}").render(), "a/b.html(1, 'c')"),
+            same(lambda: (twice("a"), len(made.filters), repr(made)), ("aa", 0, "<bikleinu.Environment>")),
+            same(lambda: Template("{% hi %}", tagged("hi", lambda: "Hi!")).render(), "Hi!"),
+        ]
+    )
+
+
+def tagged(name, function, style="items"):
+    language = Language()
+    language.add_tag(name, function, style)
+    return language
+
+
+def refusal(made, source):
+    """The name, the column and the message of the fault by which a source is refused."""
+    try:
+        made.from_string(source)
+    except LiquidError as fault:
+        return fault.name, fault.place and fault.place.column, fault.message
+    return None
+
+
+def refused_tags():
+    """What a source gets wrong of a tag is said at its place, what a function raises ends the page, and some names are no tag's."""
+    made = with_tags()
+    made.tag("fails")(lambda: 1 // 0)
+    fault = made.from_string("a{% fails %}b").page().fault
+    end, count, many, none = (refusal(made, it) for it in ("a{% box %}b", "{% link %}", "{% link 1 2 3 %}", "{{ 'a' | link }}"))
+    named = [(name, kind) for name, kind in (("a b", "NoWord"), ("endless", "ReservedName"), ("if", "TakenName"), ("\ud800", "NoText"))]
+    return first(
+        [
+            None if end and end[:2] == ("MissingEnd", 2) and "endbox" in end[2] else f"{end}",
+            None if count and count[:2] == ("FilterArguments", 1) and "at least 1 argument" in count[2] else f"{count}",
+            None if many and many[:2] == ("FilterArguments", 1) and "at most 2" in many[2] else f"{many}",
+            None if none and none[0] == "UnknownFilter" else f"{none}",
+            None if (refusal(made, "{% now a") or [None])[0] == "Unclosed" else "an open tag",
+            None if fault and (fault.name, fault.text, fault.place.column) == ("InvalidInput", "a", 2) else f"{fault!r}",
+            None if fault and fault.message.startswith("`{% fails %}`: ZeroDivisionError") else f"{fault}",
+            None if isinstance(fault.__cause__, ZeroDivisionError) else f"{fault.__cause__!r}",
+            *(None if name_of_refusal(name) == kind else f"{name}: {name_of_refusal(name)}" for name, kind in named),
+            raises(lambda: made.tag("x", style="words")(link), ValueError),
+            raises(lambda: made.block("x")(lambda: 1), TypeError),
+            raises(lambda: made.tag(3)(link), TypeError),
+        ]
+    )
+
+
+def name_of_refusal(name):
+    try:
+        tagged(name, link)
+    except LiquidError as error:
+        return error.name if error.message else "no message"
+    return None
+
+
 def shown():
     """What a repr shows: the beginning of a source, and the first names."""
     made = Environment(filters={f"f{number}": money for number in range(7)})
@@ -160,12 +259,29 @@ def names():
     )
 
 
+def own(value):
+    return value
+
+
 def jekyll():
-    made = Environment(jekyll=True, partials={"card.html": "[{{ include.a }}]"})
+    made = Environment(jekyll=True, partials={"card.html": "[{{ include.a }}]"}, filters={"own": own})
     copied = pickle.loads(pickle.dumps(made))
     page = same(lambda: made.from_string("{% include card.html a='b' %}").render(), "[b]")
     copy = same(lambda: copied.from_string("{% include card.html a='b' %}").render(), "[b]")
-    return page or copy or raises(lambda: Template("{% include card.html a='b' %}"), LiquidError)
+    code = made.from_string("{% highlight c++ %}\na&{{ b }}\n{% endhighlight %}{{ b | own }}")
+    figure = '<figure class="highlight"><pre><code class="language-c--" data-lang="c++">a&amp;1</code></pre></figure>'
+    code = same(lambda: code.render(b=1), f"{figure}1")
+    made.block("highlight", style="text")(lambda body, markup: f"{markup}:{body}")
+    code = code or same(lambda: made.from_string("{% highlight c++ %}a{% endhighlight %}").render(), "c++:a")
+    return page or copy or code or raises(lambda: Template("{% include card.html a='b' %}"), LiquidError)
+
+
+def escaped():
+    made = Environment(autoescape=True, partials={"p": "{{ a }}"}, filters={"own": own})
+    copied = pickle.loads(pickle.dumps(made))
+    source = "{{ a }}{{ a | raw }}{{ a | own }}{% include 'p' %}{% cycle a %}"
+    page, copy = (same(lambda: it.from_string(source).render(a="<"), "&lt;<&lt;&lt;&lt;") for it in (made, copied))
+    return page or copy or raises(lambda: Template("{{ a | raw }}"), LiquidError)
 
 
 def mails():
@@ -196,6 +312,32 @@ def mails():
     return wrong[0] if wrong else None if sorted(faults) == wanted else f"{sorted(faults)}"
 
 
+def sites():
+    """Jekyll's filters over a site, which the library answers, but for those of the caller's."""
+    source = "{{ '/a b' | absolute_url }} {{ '/t' | relative_url }} {{ xs | where: 'a', 1 | jsonify }}"
+    data = {"xs": [{"a": 1}, {"a": 2}]}
+    place = ("https://example.org", "/blog")
+    made = Environment(jekyll=True, site=place)
+    own = Environment(site=("", "/b"), filters={"relative_url": lambda url: f"own {url}"})
+    wanted = 'https://example.org/blog/a%20b /blog/t [{"a":1}]'
+    again = Template(source, pickle.loads(pickle.dumps(Language(site=place))))
+    return first(
+        [
+            same(lambda: made.from_string(source).render(data), wanted),
+            same(lambda: pickle.loads(pickle.dumps(made)).from_string(source).render(data), wanted),
+            same(lambda: again.render(data), wanted),
+            same(lambda: own.from_string(source).render(data), '/b/a%20b own /t [{"a":1}]'),
+            same(lambda: made.from_string("{% highlight c %}1{% endhighlight %}{{ 'x' | xml_escape }}").render()[-1], "x"),
+            same(lambda: made.from_string("{{ 1 | date_to_string }}").page().fault.name, "InvalidInput"),
+            raises(lambda: made.from_string("{{ 1 | where: 2 }}"), LiquidError),
+            raises(lambda: Environment(jekyll=True).from_string("{{ 1 | jsonify }}"), LiquidError),
+            raises(lambda: Environment(site="https://example.org"), TypeError),
+            raises(lambda: Environment(site=("https://example.org", None)), TypeError),
+            raises(lambda: Environment(site=("\ud800", "")), LiquidError),
+        ]
+    )
+
+
 CHECKS = {
     "pages of filters in Python": pages,
     "each call once": asked_once,
@@ -205,6 +347,10 @@ CHECKS = {
     "ten thousand mails on four threads": mails,
     "names": names,
     "Jekyll's language": jekyll,
+    "escaped pages": escaped,
+    "Jekyll's filters over a site": sites,
+    "tags and blocks": tags,
+    "refused tags": refused_tags,
     "what a repr shows": shown,
 }
 

@@ -18,7 +18,7 @@ from folders import random_folders
 from library import built
 
 OUT = f"{TOP}/bindings/out"
-SCRIPTS = ("pages", "values", "filters", "environments", "growth", "strangers", "jekyll")
+SCRIPTS = ("pages", "values", "filters", "tags", "environments", "growth", "strangers", "jekyll")
 PAGES = ("bindings/ruby/README.md", "docs/use/ruby.md")
 PACKAGES = ["ruby", "ruby-dev", "ruby-liquid", "jekyll", "make"]
 HEADERS = 'require "rbconfig"; exit File.exist?("#{RbConfig::CONFIG["rubyhdrdir"]}/ruby.h")'

@@ -24,6 +24,7 @@ static const char *const kinds[][2] = {
     {"{% tablerow i in (1..1) %}", "{% endtablerow %}"},
     {"{% capture c %}", "{% endcapture %}"},
     {"{% ifchanged %}", "{% endifchanged %}"},
+    {"{% box %}", "{% endbox %}"},
 };
 static const char *const calls[] = {
     "{% render 'p', d: d, w: w %}", "{% render 'p' for (1..1) as i, d: d, w: w %}", "{% include 'p' %}", "{% include 'p' d: d, w: w %}"};
@@ -70,6 +71,8 @@ static void *render(void *given) {
     bikleinu_handle data = BIKLEINU_NONE, page = BIKLEINU_NONE;
     write_source(it, source), write_data(json);
     need(bikleinu_language(&language));
+    need(bikleinu_register(&language, bytes("box"), 3, 0, 0));
+    need(bikleinu_register_block(&language, bytes("box"), 3, bytes("box"), 3, BIKLEINU_STYLE_ITEMS));
     need(bikleinu_parse(&language, bytes(source), strlen(source), &template_));
     need(bikleinu_parse(&language, bytes(source), strlen(source), &partial));
     need(bikleinu_partials(&partials));

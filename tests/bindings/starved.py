@@ -59,6 +59,8 @@ def calls(folder):
         "what a function answers": lambda: template.render({}, partials, missing=DATA.get),
         "a page with filters": lambda: mail.render(shop="Leaf"),
         "new filters": lambda: Environment(filters={"shout": upper}).from_string("{{ 'a' | shout }}").render(),
+        "jekyll's filters": lambda: Environment(site=("http://x.org", "/b")).from_string("{{ 'a' | absolute_url }}").render(),
+        "new tags": lambda: tagged().from_string("{% loud %}a{% up 'b' %}{% endloud %}").render(),
         "a fault": lambda: Template("{{ a | plus: 'x' }}").page({"a": 1}).fault.name,
         "a folder": lambda: Environment(partials=folder).from_string(SOURCE).render(DATA),
         "a folder that is read again": lambda: changed(again, folder, data),
@@ -68,6 +70,16 @@ def calls(folder):
 
 def upper(text):
     return text.upper()
+
+
+def tagged():
+    """An environment with a tag and a block."""
+    from bikleinu import Environment
+
+    made = Environment()
+    made.tag("up")(upper)
+    made.block("loud")(upper)
+    return made
 
 
 def changed(template, folder, data):

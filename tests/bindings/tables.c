@@ -1,4 +1,4 @@
-/* Pages with filters of the caller's: which calls a table is said to lack, what becomes of the answers that are put into it, and which
+/* Pages with filters, tags and blocks of the caller's: which calls a table is said to lack, what becomes of the answers that are put into it, and which
  * calls can't be. Each rendering is made once more for each of its requests for memory, of which that one is refused: it then has to
  * answer BIKLEINU_MEMORY, or that calls are lacking, and called again what it answered at first. So are the calls that make a language
  * and a table, and that put answers into it. When all is freed, no memory may be left. A line tells each thing that isn't well, and
@@ -81,9 +81,7 @@ static void end(void) {
 
 static bikleinu_limits limits = {.bytes = BIKLEINU_ANY, .turns = BIKLEINU_ANY};
 
-static uint32_t render(void) {
-    return bikleinu_render_with(&template_, &data, &partials, 32, &limits, &answers, &page);
-}
+static uint32_t render(void) { return bikleinu_render_with(&template_, &data, &partials, 32, &limits, &answers, &page); }
 
 /* The rendering, then with each of its requests refused, and what it leaves. */
 static void renders(uint32_t wanted, uint32_t part, const char *text) {
@@ -147,12 +145,8 @@ static uint32_t add_money(void) { return bikleinu_answers_filter(&answers, bytes
 static uint32_t find_names(void) { return bikleinu_names(&template_, &partials, &answer); }
 static uint32_t find_partial_names(void) { return bikleinu_partial_names(&template_, &answer); }
 static uint32_t put_answer(void) { return bikleinu_answer(&answers, &page, 0, &data); }
-static uint32_t put_fault(void) {
-    return bikleinu_refuse(&answers, &page, 0, BIKLEINU_NUMBER_RANGE, bytes("too dear"), 8);
-}
-static uint32_t read_names(void) {
-    return strcmp(read_part(&answer, BIKLEINU_TEXT), "[\"p\",\"q\"]") != 0;
-}
+static uint32_t put_fault(void) { return bikleinu_refuse(&answers, &page, 0, BIKLEINU_NUMBER_RANGE, bytes("too dear"), 8); }
+static uint32_t read_names(void) { return strcmp(read_part(&answer, BIKLEINU_TEXT), "[\"p\",\"q\"]") != 0; }
 
 /* A call with each of its requests refused, which changes nothing, and then as it is. */
 static void each(const char *what, uint32_t (*call)(void)) {
@@ -289,9 +283,174 @@ static void of_languages(void) {
     end();
 }
 
+/* A language that escapes, and handles that hold none. */
+static void of_escaping(void) {
+    static const char source[] = "{{ a }}{{ a | raw }}{% cycle a %}";
+    is("language", bikleinu_language(&language), BIKLEINU_DONE);
+    is("raw", bikleinu_parse(&language, bytes(source), strlen(source), &template_), BIKLEINU_UNKNOWN_FILTER);
+    is("escape", bikleinu_escape_html(&language), BIKLEINU_DONE);
+    is("parse", bikleinu_parse(&language, bytes(source), strlen(source), &template_), BIKLEINU_DONE);
+    is("data", bikleinu_data(bytes("{\"a\":\"<\"}"), 9, &data), BIKLEINU_DONE);
+    is("render", bikleinu_render(&template_, &data, &partials, 32, &page), BIKLEINU_DONE);
+    reads("escaped", &page, BIKLEINU_TEXT, "&lt;<&lt;");
+    is("in data", bikleinu_escape_html(&data), BIKLEINU_OTHER_HANDLE);
+    is("share", bikleinu_share(&language, &answer), BIKLEINU_DONE);
+    is("in what is shared", bikleinu_escape_html(&language), BIKLEINU_SHARED_HANDLE);
+    end();
+}
+
+static uint32_t add_tag(const char *name, const char *filter, uint32_t style) {
+    return bikleinu_register_tag(&language, bytes(name), strlen(name), bytes(filter), strlen(filter), style);
+}
+static uint32_t add_block(const char *name, const char *filter, uint32_t style) {
+    return bikleinu_register_block(&language, bytes(name), strlen(name), bytes(filter), strlen(filter), style);
+}
+static uint32_t register_link(void) { return add_tag("link", "{% link %}", BIKLEINU_STYLE_TEXT); }
+static uint32_t register_box(void) { return add_block("box", "{% box %}", BIKLEINU_STYLE_ITEMS); }
+static uint32_t parse(const char *source) { return bikleinu_parse(&language, bytes(source), strlen(source), &template_); }
+
+/* A language with a tag and a block, registered with each of the requests refused, and a table with their filters. */
+static void begin_tags(const char *source, const char *json) {
+    begin("", json);
+    is("the filter of link", bikleinu_register(&language, bytes("{% link %}"), 10, 1, 1), BIKLEINU_DONE);
+    is("the filter of box", bikleinu_register(&language, bytes("{% box %}"), 9, 0, 2), BIKLEINU_DONE);
+    each("a tag", register_link), each("a block", register_box);
+    is("link in the table", bikleinu_answers_filter(&answers, bytes("{% link %}"), 10), BIKLEINU_DONE);
+    is("box in the table", bikleinu_answers_filter(&answers, bytes("{% box %}"), 9), BIKLEINU_DONE);
+    is(source, parse(source), BIKLEINU_DONE);
+}
+
+/* A tag in a block: the tag's filter is given nil and its text, and that of the block the text of the body and its values. */
+static void of_tags(void) {
+    begin_tags("{% box 'a' n %}<{% link tea.md %}>{% endbox ignored %}.", "{\"n\":7}");
+    renders(BIKLEINU_LACKING, BIKLEINU_TEXT, "[[\"{% box %}\",\"<>\",\"a\",7],[\"{% link %}\",null,\"tea.md\"]]");
+    answers_by(0, "{}"), answers_by(1, "{\"answer\":\"/tea\"}");
+    renders(BIKLEINU_LACKING, BIKLEINU_TEXT, "[[\"{% box %}\",\"</tea>\",\"a\",7]]");
+    answers_by(0, "{\"answer\":\"Tea\"}");
+    renders(BIKLEINU_DONE, BIKLEINU_TEXT, "Tea.");
+    limits.levels = 1;
+    is("a block is a level", render(), BIKLEINU_TOO_MANY_LEVELS);
+    limits.levels = 0;
+    end();
+    begin_tags("a{% link tea.md %}b", "{}");
+    renders(BIKLEINU_LACKING, BIKLEINU_TEXT, "[[\"{% link %}\",null,\"tea.md\"]]");
+    is("refuse", bikleinu_refuse(&answers, &page, 0, BIKLEINU_INVALID_ARGUMENT, bytes("no tea"), 6), BIKLEINU_DONE);
+    renders(BIKLEINU_INVALID_ARGUMENT, BIKLEINU_TEXT, "a");
+    reads("the message", &page, BIKLEINU_MESSAGE, "`{% link %}`: no tea");
+    size_t line = 0, column = 0;
+    is("the place", bikleinu_location(&page, &line, &column), BIKLEINU_IN_TEMPLATE);
+    is("the column", (uint32_t)column, 2);
+    end();
+}
+
+/* A source that is refused, at a column, by a message that has these words. */
+static void refuses(const char *source, uint32_t wanted, size_t at, const char *words) {
+    size_t line = 0, column = 0;
+    is(source, parse(source), wanted);
+    is(source, bikleinu_location(&template_, &line, &column), BIKLEINU_IN_TEMPLATE);
+    is("its column", (uint32_t)column, (uint32_t)at);
+    tests++;
+    if (!strstr(read_part(&template_, BIKLEINU_MESSAGE), words)) wrong++, printf("%s: %s\n", source, read_part(&template_, BIKLEINU_MESSAGE));
+}
+
+/* Tags that are refused in a source, and names and styles that no tag has. */
+static void of_refused_tags(void) {
+    begin_tags("{% link a b, c %}{% box 1 2 %}{% endbox %}", "{}");
+    refuses("a{% box %}b", BIKLEINU_MISSING_END, 2, "endbox");
+    refuses("{% link %}", BIKLEINU_FILTER_ARGUMENTS, 1, "link");
+    refuses("{% box 1, 2, 3 %}{% endbox %}", BIKLEINU_FILTER_ARGUMENTS, 1, "box");
+    refuses("{% link a", BIKLEINU_UNCLOSED, 1, "");
+    refuses("{% boxes %}", BIKLEINU_UNKNOWN_TAG, 1, "boxes");
+    refuses("{{ 1 | box }}", BIKLEINU_UNKNOWN_FILTER, 8, "box");
+    is("a tag without its filter", add_tag("bare", "none", BIKLEINU_STYLE_ITEMS), BIKLEINU_DONE);
+    refuses("{% bare %}", BIKLEINU_UNKNOWN_FILTER, 1, "bare");
+    is("a path", add_tag("bare", "{% box %}", BIKLEINU_STYLE_PATH), BIKLEINU_DONE);
+    is("a path first", parse("{% bare a/b.md 'x' %}"), BIKLEINU_DONE);
+    renders(BIKLEINU_LACKING, BIKLEINU_TEXT, "[[\"{% box %}\",null,\"a/b.md\",\"x\"]]");
+    is("no word", add_tag("1a", "f", 0), BIKLEINU_NO_WORD);
+    is("an end", add_block("ending", "f", 0), BIKLEINU_RESERVED_NAME);
+    is("a block of the language", add_tag("if", "f", 0), BIKLEINU_TAKEN_NAME);
+    is("no style", add_tag("else", "\xff", 3), BIKLEINU_NO_SUCH_STYLE);
+    is("no text of a filter", add_tag("else", "\xff", 2), BIKLEINU_NO_TEXT);
+    is("no text of a name", add_block("\xff", "f", 2), BIKLEINU_NO_TEXT);
+    is("in data", bikleinu_register_tag(&data, bytes("a"), 1, bytes("f"), 1, 9), BIKLEINU_OTHER_HANDLE);
+    is("in nothing", bikleinu_register_block(&partials, bytes("a"), 1, bytes("f"), 1, 9), BIKLEINU_OTHER_HANDLE);
+    is("share", bikleinu_share(&language, &answer), BIKLEINU_DONE);
+    is("in what is shared", add_tag("a", "f", 9), BIKLEINU_SHARED_HANDLE);
+    end();
+}
+
+/* Jekyll's highlight, which needs no table: with one, and in place of its own answer that of the table. */
+static void of_highlight(void) {
+    static const char source[] = "a{% highlight Ruby linenos %}\nx < {{ n }}\n{% endhighlight %}b";
+    static const char wanted[] = "a<figure class=\"highlight\"><pre><code class=\"language-ruby\" data-lang=\"ruby\">x &lt; 3</code></pre></figure>b";
+    is("language", bikleinu_jekyll_language(&language), BIKLEINU_DONE);
+    is("parse", parse(source), BIKLEINU_DONE);
+    is("data", bikleinu_data(bytes("{\"n\":3,\"answer\":\"own\"}"), 22, &data), BIKLEINU_DONE);
+    is("render", bikleinu_render(&template_, &data, &partials, 32, &page), BIKLEINU_DONE);
+    reads("highlight", &page, BIKLEINU_TEXT, wanted);
+    is("within", bikleinu_render_within(&template_, &data, &partials, 32, &(bikleinu_limits){.bytes = 99, .turns = 99}, &page), 104);
+    is("answers", bikleinu_answers(&answers), BIKLEINU_DONE);
+    renders(BIKLEINU_DONE, BIKLEINU_TEXT, wanted);
+    is("its filter in the table", bikleinu_answers_filter(&answers, bytes("{% highlight %}"), 15), BIKLEINU_DONE);
+    renders(BIKLEINU_LACKING, BIKLEINU_TEXT, "[[\"{% highlight %}\",\"\\nx < 3\\n\",\"Ruby linenos\"]]");
+    is("answer", bikleinu_answer(&answers, &page, 0, &data), BIKLEINU_DONE);
+    renders(BIKLEINU_DONE, BIKLEINU_TEXT, "aownb");
+    is("markup that is none", parse("{% highlight a=1 %}{% endhighlight %}"), BIKLEINU_DONE);
+    is("render", bikleinu_render(&template_, &data, &partials, 32, &page), BIKLEINU_INVALID_ARGUMENT);
+    refuses("{% highlight %}{% endhighlight %}", BIKLEINU_FILTER_ARGUMENTS, 1, "highlight");
+    refuses("{{ 1 | highlight: 'a' }}", BIKLEINU_UNKNOWN_FILTER, 8, "highlight");
+    is("the standard language", bikleinu_language(&language), BIKLEINU_DONE);
+    is("no block of the standard language", parse(source), BIKLEINU_UNKNOWN_TAG);
+    end();
+}
+
+static uint32_t register_jekyll(void) { return bikleinu_register_jekyll(&language); }
+static uint32_t put_site(bikleinu_handle *into, const char *address, const char *base) {
+    return bikleinu_answers_jekyll(into, bytes(address), strlen(address), bytes(base), strlen(base));
+}
+static uint32_t put_example(void) { return put_site(&answers, "https://example.org", "/blog"); }
+
+/* Jekyll's filters, which the library answers over the table's site, but for those that the table has. */
+static void of_sites(void) {
+    static const char source[] = "{{ '/a b' | absolute_url }} {{ '/t' | relative_url }} {{ p | shout }}";
+    begin("", "{\"p\":\"x\"}");
+    is("a filter that isn't registered", parse(source), BIKLEINU_UNKNOWN_FILTER);
+    each("jekyll's filters", register_jekyll);
+    is(source, parse(source), BIKLEINU_DONE);
+    renders(BIKLEINU_UNSUPPORTED, BIKLEINU_TEXT, "");
+    each("a site", put_example);
+    renders(BIKLEINU_LACKING, BIKLEINU_TEXT, "[[\"shout\",\"x\"]]");
+    answers_by(0, "{\"answer\":\"X\"}");
+    renders(BIKLEINU_DONE, BIKLEINU_TEXT, "https://example.org/blog/a%20b /blog/t X");
+    is("another site", put_site(&answers, "", "/b/"), BIKLEINU_DONE);
+    renders(BIKLEINU_DONE, BIKLEINU_TEXT, "/b/a%20b /b/t X");
+    is("a filter of the table's", bikleinu_answers_filter(&answers, bytes("relative_url"), 12), BIKLEINU_DONE);
+    renders(BIKLEINU_LACKING, BIKLEINU_TEXT, "[[\"relative_url\",\"/t\"]]");
+    answers_by(0, "{\"answer\":\"own\"}");
+    renders(BIKLEINU_DONE, BIKLEINU_TEXT, "/b/a%20b own X");
+    is("no text of an address", put_site(&answers, "\xff", "/c"), BIKLEINU_NO_TEXT);
+    is("no text of a base path", put_site(&answers, "/c", "\xff"), BIKLEINU_NO_TEXT);
+    is("a site for data", put_site(&data, "", ""), BIKLEINU_OTHER_HANDLE);
+    is("a site for nothing", put_site(&partials, "", ""), BIKLEINU_OTHER_HANDLE);
+    is("share a table", bikleinu_share(&answers, &answer), BIKLEINU_DONE);
+    is("a site for what is shared", put_site(&answers, "", ""), BIKLEINU_SHARED_HANDLE);
+    renders(BIKLEINU_DONE, BIKLEINU_TEXT, "/b/a%20b own X");
+    is("an argument too few", parse("{{ 1 | where: 'a' }}"), BIKLEINU_FILTER_ARGUMENTS);
+    is("jsonify with arguments", bikleinu_register(&language, bytes("jsonify"), 7, 0, 5), BIKLEINU_DONE);
+    is("jsonify with one", parse("{{ 1 | jsonify: 2 }}"), BIKLEINU_DONE);
+    renders(BIKLEINU_UNSUPPORTED, BIKLEINU_TEXT, "");
+    is("filters in data", bikleinu_register_jekyll(&data), BIKLEINU_OTHER_HANDLE);
+    is("filters in nothing", bikleinu_register_jekyll(&partials), BIKLEINU_OTHER_HANDLE);
+    is("share a language", bikleinu_share(&language, &answer), BIKLEINU_DONE);
+    is("filters in what is shared", bikleinu_register_jekyll(&language), BIKLEINU_SHARED_HANDLE);
+    end();
+}
+
 int main(void) {
     size_t before = blocks;
-    of_rounds(), of_faults(), of_memory(), of_refusals(), of_languages(), of_bounds(), of_limits();
+    of_rounds(), of_faults(), of_memory(), of_refusals(), of_languages(), of_escaping(), of_bounds(), of_limits();
+    of_tags(), of_refused_tags(), of_highlight(), of_sites();
     if (blocks != before) wrong++, printf("%zu pieces of memory are left\n", blocks - before);
     printf("tables: %zu\n", tests);
     return wrong != 0;

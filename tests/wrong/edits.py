@@ -53,8 +53,12 @@ def read_edit(file):
                 raise Unfit("a line new: before its lines file: and old:")
             pairs.append((named["file"], old, line.removeprefix("new:").removeprefix(" ")))
             old = None
+        elif line:
+            raise Unfit(f"a line that begins with none of file:, goal:, by:, old: and new:: {line[:60]}")
     if not pairs:
         raise Unfit("it has no pair of lines old: and new:")
+    if all(old == new for _, old, new in pairs):
+        raise Unfit("its lines old: and new: say the same")
     return Edit(file, tuple(pairs), named["goal"], named["by"])
 
 

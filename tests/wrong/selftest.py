@@ -83,12 +83,13 @@ EDITS = {
     "spaces.edit": ("let same = number;", "let same = number; "),
     "broken.edit": ("    7", "    let = 7;"),
     "lost.edit": ("    8", "    9"),
+    "lines.edit": ("    1", "    2\n    3"),
     "wrong.edit": ("    1", "    2"),
     "uncalled.edit": ("    itself(given)", "    let same = given; same"),
     "way_out.edit": ("    given", "    if given == 0 { return given; } given"),
     "wrong_way_out.edit": ("    given", "    if given == 0 { return 1; } given"),
 }
-REPORTED = ["broken.edit", "harmless.edit", "lost.edit", "spaces.edit", "uncalled.edit", "way_out.edit"]
+REPORTED = ["broken.edit", "harmless.edit", "lines.edit", "lost.edit", "spaces.edit", "uncalled.edit", "way_out.edit"]
 
 
 @dataclass

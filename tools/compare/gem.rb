@@ -1,6 +1,6 @@
 # frozen_string_literal: true
 
-# Times pages by Liquid and by the gem, for tools/compare/gem: ruby gem.rb FOLDER NAME ..
+# Times pages by Liquid and by the gem, for tools/compare/gem: ruby [-r liquid/c] gem.rb FOLDER NAME ..
 require 'bikleinu'
 require 'json'
 require 'liquid'
@@ -8,6 +8,7 @@ require 'liquid'
 FOLDER, *NAMES = ARGV
 # for how many seconds each engine renders a page
 SECONDS = 2
+LIQUID = defined?(Liquid::C) ? "Liquid with liquid-c #{Liquid::C::VERSION}" : "Liquid #{Liquid::VERSION}"
 
 def text(file) = File.read("#{FOLDER}/#{file}", encoding: 'UTF-8')
 
@@ -40,6 +41,6 @@ NAMES.each do |name|
 
   hash = [took { liquid.render!(data, options) }, took { gem.render!(data) }]
   parsed = [took { liquid.render!(JSON.parse(json), options) }, took { gem.render!(json) }]
-  puts format('%-9s Hash %6d us, Liquid %6d us: %4.1f times; JSON %6d us, Liquid %6d us: %4.1f times', name,
+  puts format("%-9s Hash %6d us, #{LIQUID} %6d us: %4.1f times; JSON %6d us, #{LIQUID} %6d us: %4.1f times", name,
               hash[1], hash[0], hash[0] / hash[1], parsed[1], parsed[0], parsed[0] / parsed[1])
 end

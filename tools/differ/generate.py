@@ -98,6 +98,19 @@ def lacking_case_of(seed, number):
     return replace(case, data=json.dumps(less(rng, data), ensure_ascii=False)) if isinstance(data, dict) else case
 
 
+def escaping_case_of(seed, number):
+    """A case of which some outputs end with `| raw`, and some data has marks of HTML."""
+    rng = random.Random(f"escaping/{seed}/{number}")
+    case = case_of(seed, number)
+    partials = [(name, some_raw(rng, text)) for name, text in case.partials]
+    data = re.sub(r"[a-z](?=\w*\"[,}\]])", lambda found: found[0] if rng.random() < 0.7 else rng.choice("<>&'"), case.data)
+    return Case(some_raw(rng, case.source), data, partials)
+
+
+def some_raw(rng, source):
+    return re.sub(r"-?\}\}", lambda found: (" | raw" if rng.random() < 0.3 else "") + found[0], source)
+
+
 def less(rng, value):
     """The value without some members of its maps."""
     if isinstance(value, dict):

@@ -36,6 +36,7 @@ KINDS = {
     "language": Kind("liquid_page", generate.case_of, read_page(), run_page),
     "projected": Kind("liquid_page", generate.long_case_of, read_page(), run_page),
     "missing": Kind("bikleinu", generate.lacking_case_of, read_page(missing_is_nil=True), run_render("--missing", "nil")),
+    "escaped": Kind("bikleinu", generate.escaping_case_of, read_page("escaped"), run_render("--escape", "html")),
     "paths": Kind("bikleinu", generate.asking_case_of, read_paths, run_paths),
     "faults": Kind("bikleinu", generate.broken_case_of, read_faults, run_check, within_pieces),
     "jekyll": Kind("bikleinu", generate.pack_case_of("jekyll"), read_page("jekyll"), run_render("--filters", "jekyll")),

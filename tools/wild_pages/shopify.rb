@@ -32,6 +32,19 @@ module Addresses
   end
 end
 ShopFilter.prepend(Addresses)
+
+# The object of the page's block `paginate`, which a host has in its data.
+module Pages
+  class << self
+    attr_accessor :paginate
+  end
+
+  def []=(name, value)
+    Pages.paginate = value if name == "paginate"
+    super
+  end
+end
+Liquid::Context.prepend(Pages)
 Liquid::Environment.default.register_filter(ShopFilter)
 
 FileUtils.mkdir_p(folder)
@@ -44,7 +57,9 @@ Dir["#{sources}/performance/tests/*/*.liquid"].sort.each do |path|
     data = { **Database.tables, "page_title" => "Page title", "template" => File.basename(path, ".liquid"), "content_for_layout" => content }
     data = data.compact
     text = Values.new.of(data)
+    Pages.paginate = nil
     page = Liquid::Template.parse(File.read(part)).render(data)
+    text["paginate"] = Values.new.of(Pages.paginate) if Pages.paginate
     content ||= page
     count += 1
     written = { "template" => File.read(part), "data" => text, "partials" => {}, "page" => page, "path" => "#{part} #{File.basename(path)}" }

@@ -1,10 +1,10 @@
-"""Filters of the caller's: functions in Python, and the tables of their answers that the library renders with."""
+"""Filters, tags and blocks of the caller's: functions in Python, and the tables of their answers that the library renders with."""
 from __future__ import annotations
 
 import inspect
 import json
 import threading
-from typing import Any, Callable, Dict, List, Optional, Tuple
+from typing import Any, Callable, Dict, List, NamedTuple, Optional, Tuple
 
 from ._library import library
 from ._owner import TEXT, Owner, utf8
@@ -12,6 +12,8 @@ from ._values import Conversions, encoded
 from .errors import INVALID_INPUT, LACKING, LimitError, LiquidError, refused
 
 Function = Callable[..., Any]
+# where a site of Jekyll's is: its address and its base path
+Site = Tuple[str, str]
 # how many answers a table holds before another one is begun
 _ANSWERS = 10_000
 # how much of what an error says goes into the message of a fault
@@ -22,11 +24,14 @@ _ANY_NUMBER = 2**32
 class Table(Owner):
     """Answers of filters, each to one input and its arguments."""
 
-    def __init__(self, names: List[str], version: int) -> None:
+    def __init__(self, names: List[str], version: int, site: Optional[Site] = None) -> None:
         super().__init__()
         self.version = version
         self.answers = 0
         self._need(library.bikleinu_answers(self._handle))
+        if site:
+            address, base = map(utf8, site)
+            self._need(library.bikleinu_answers_jekyll(self._handle, address, len(address), base, len(base)))
         for name in names:
             text = utf8(name)
             self._need(library.bikleinu_answers_filter(self._handle, text, len(text)))
@@ -52,27 +57,59 @@ class _Tables(threading.local):
     table: Optional[Table] = None
 
 
-class Filters:
-    """Functions by their names. Each thread has a table of its own, so that no two wait for each other."""
+class Tag(NamedTuple):
+    """What stands for a tag: its function, how what stands after its name is read, and whether it is a block."""
 
-    def __init__(self) -> None:
+    function: Function
+    style: str
+    is_block: bool
+
+
+def filter_of(tag: str) -> str:
+    """The name of the filter that a tag calls. It is no word, so no template calls it otherwise, and a fault shows the tag by it."""
+    return f"{{% {tag} %}}"
+
+
+class Filters:
+    """Functions by their names, and the site over which the library itself answers Jekyll's filters. Each thread has a table of its own,
+    so that no two wait for each other."""
+
+    def __init__(self, site: Optional[Site] = None) -> None:
+        self.site = site
         self.functions: Dict[str, Function] = {}
+        self.tags: Dict[str, Tag] = {}
+        self._tag_of: Dict[str, Tag] = {}
         self._version = 0
         self._tables = _Tables()
 
     def __reduce__(self) -> Any:
-        return _filters, (self.functions,)
+        return _filters, (self.functions, self.tags, self.site)
+
+    def __bool__(self) -> bool:
+        return bool(self.functions or self.tags or self.site)
 
     def add(self, name: str, function: Function) -> None:
         """Adds a function, in place of the one of that name."""
         self.functions[name] = function
         self._version += 1
 
+    def add_tag(self, name: str, tag: Tag) -> None:
+        """Adds a tag, in place of the one of that name."""
+        self.tags[name] = self._tag_of[filter_of(name)] = tag
+        self._version += 1
+
+    def answer(self, name: str, value: Any, arguments: List[Any]) -> Any:
+        """What a filter answers, or what a tag writes, whose input is nil."""
+        tag = self._tag_of.get(name)
+        if tag is None:
+            return self.functions[name](value, *arguments)
+        return tag.function(value, *arguments) if tag.is_block else tag.function(*arguments)
+
     def table(self) -> Table:
         """This thread's table, which is begun anew where it holds much, or answers of a function that was replaced."""
         table = self._tables.table
         if table is None or table.version != self._version or table.answers > _ANSWERS:
-            table = self._tables.table = Table(list(self.functions), self._version)
+            table = self._tables.table = Table([*self.functions, *self._tag_of], self._version, self.site)
         return table
 
     def forget(self) -> None:
@@ -80,15 +117,17 @@ class Filters:
         self._tables.table = None
 
 
-def _filters(functions: Dict[str, Function]) -> Filters:
-    made = Filters()
+def _filters(functions: Dict[str, Function], tags: Dict[str, Tag], site: Optional[Site]) -> Filters:
+    made = Filters(site)
     for name, function in functions.items():
         made.add(name, function)
+    for name, tag in tags.items():
+        made.add_tag(name, tag)
     return made
 
 
-def arity(function: Function) -> Tuple[int, int]:
-    """How many arguments beside its input a function takes by their places: at least, and at most."""
+def arity(function: Function, has_input: bool = True) -> Tuple[int, int]:
+    """How many arguments a function takes by their places, beside its input where it has one: at least, and at most."""
     by_place = (inspect.Parameter.POSITIONAL_ONLY, inspect.Parameter.POSITIONAL_OR_KEYWORD)
     try:
         taken = inspect.signature(function).parameters.values()
@@ -96,10 +135,10 @@ def arity(function: Function) -> Tuple[int, int]:
         return 0, _ANY_NUMBER  # a function in C that doesn't say
     places = [it for it in taken if it.kind in by_place]
     takes_any = any(it.kind is inspect.Parameter.VAR_POSITIONAL for it in taken)
-    if not places and not takes_any:
-        raise TypeError("a filter's function takes its input by its place, and then its arguments")
+    if has_input and not places and not takes_any:
+        raise TypeError("the function of a filter or a block takes its input by its place, and then its arguments")
     least = sum(it.default is inspect.Parameter.empty for it in places)
-    return max(least - 1, 0), _ANY_NUMBER if takes_any else len(places) - 1
+    return max(least - has_input, 0), _ANY_NUMBER if takes_any else len(places) - has_input
 
 
 class Run:
@@ -125,7 +164,7 @@ class Run:
     def _answer_all(self, table: Table, calls: Owner) -> None:
         for number, (name, value, *arguments) in enumerate(json.loads(calls._part(TEXT))):
             try:
-                answer = encoded({"answer": self.filters.functions[name](value, *arguments)}, self.how)
+                answer = encoded({"answer": self.filters.answer(name, value, arguments)}, self.how)
             except MemoryError:
                 raise
             except Exception as error:

@@ -7,7 +7,7 @@ from dataclasses import replace
 from datetime import tzinfo
 from typing import Any, Union, overload
 
-from ._filters import Function
+from ._filters import Function, Site, Tag
 from ._folder import FolderPartials
 from ._owner import listed, new_lock, whole
 from ._settings import Missing, Settings, missing_of
@@ -35,7 +35,7 @@ class Environment:
     depth, levels, max_bytes and max_turns are as of Template.page, decimals, dates and default as of Data.
 
     filters are functions in Python by their names (as of Language.add_filter); a page asks them in at most max_rounds rounds. jekyll
-    is as of Language. missing is as of Template.page: with missing="nil" what is missing is nil. The
+    site and autoescape are as of Language. missing is as of Template.page: with missing="nil" what is missing is nil. The
     partials of a mapping are parsed with the first template, so filters that are added until then are known to them; those of a folder
     when they are read.
 
@@ -49,6 +49,8 @@ class Environment:
         filters: Mapping[str, Function] | None = None,
         missing: Missing = "fault",
         jekyll: bool = False,
+        site: Site | None = None,
+        autoescape: bool = False,
         depth: int = 32,
         levels: int | None = None,
         max_bytes: int | None = None,
@@ -63,7 +65,7 @@ class Environment:
         for name, value in bounds.items():
             if value is not None:
                 whole(name, value, 1, 2**32 - 1 if name == "levels" else 2**64 - 1)
-        self._language = Language(jekyll=jekyll, filters=filters)
+        self._language = Language(jekyll=jekyll, filters=filters, site=site, autoescape=autoescape)
         self._given, self._auto_reload = _checked(partials), bool(auto_reload)
         if auto_reload and not isinstance(partials, (str, os.PathLike)):
             raise ValueError("auto_reload is for the path of a folder as partials")
@@ -108,6 +110,27 @@ class Environment:
         """Makes a filter of the function that follows, under this name or its own, for what is parsed from now on."""
         return self._language.filter(name)
 
+    @overload
+    def tag(self, name: Called) -> Called: ...
+
+    @overload
+    def tag(self, name: str | None = None, *, style: str = "items") -> Callable[[Called], Called]: ...
+
+    def tag(self, name: Any = None, *, style: str = "items") -> Any:
+        """Makes a tag of the function that follows, under this name or its own (as of Language.add_tag), for what is parsed from now
+        on."""
+        return self._language.tag(name, style=style)
+
+    @overload
+    def block(self, name: Called) -> Called: ...
+
+    @overload
+    def block(self, name: str | None = None, *, style: str = "items") -> Callable[[Called], Called]: ...
+
+    def block(self, name: Any = None, *, style: str = "items") -> Any:
+        """Makes a block of the function that follows, which gets the text of the body first (as of Language.add_block)."""
+        return self._language.block(name, style=style)
+
     def from_string(self, source: str) -> Template:
         """The template of a source."""
         return Template._of(source, self._language, self._with_partials(), self.from_string)
@@ -130,14 +153,17 @@ class Environment:
     def __reduce__(self) -> Any:
         usual, how = self._usual, self._usual.how
         named = {"partials": self.partials, "filters": self._language._filters.functions, "jekyll": self._language._jekyll}
-        named.update(missing=usual.missing, depth=usual.depth, levels=usual.levels, max_bytes=usual.max_bytes)
+        named.update(site=self._language._filters.site, missing=usual.missing, depth=usual.depth, levels=usual.levels, max_bytes=usual.max_bytes)
         named.update(max_turns=usual.max_turns, max_rounds=usual.max_rounds)
-        named.update(decimals=how.decimals, dates=how.dates, default=how.default)
-        return _environment, (named,)
+        named.update(decimals=how.decimals, dates=how.dates, default=how.default, autoescape=self._language._autoescape)
+        return _environment, (named, self._language._filters.tags)
 
 
-def _environment(named: dict[str, Any]) -> Environment:
-    return Environment(**named)
+def _environment(named: dict[str, Any], tags: Mapping[str, Tag]) -> Environment:
+    made = Environment(**named)
+    for name, tag in tags.items():
+        made._language._add_tag(name, tag)
+    return made
 
 
 def _checked(partials: Any) -> Any:

@@ -44,6 +44,9 @@ class Kind(enum.IntEnum):
     TURNS_REACHED = 105
     LACKING = 106
     SHARED_HANDLE = 108
+    NO_WORD = 110
+    RESERVED_NAME = 111
+    TAKEN_NAME = 112
 
 
 INVALID_INPUT = Kind.INVALID_INPUT.value
@@ -57,6 +60,9 @@ BYTES_REACHED = Kind.BYTES_REACHED.value
 TURNS_REACHED = Kind.TURNS_REACHED.value
 LACKING = Kind.LACKING.value
 SHARED_HANDLE = Kind.SHARED_HANDLE.value
+NO_WORD = Kind.NO_WORD.value
+RESERVED_NAME = Kind.RESERVED_NAME.value
+TAKEN_NAME = Kind.TAKEN_NAME.value
 
 NAMES = {
     INVALID_INPUT: "InvalidInput",
@@ -65,6 +71,9 @@ NAMES = {
     NO_TEXT: "NoText",
     OTHER_HANDLE: "OtherHandle",
     TOO_MANY_LEVELS: "TooManyLevels",
+    NO_WORD: "NoWord",
+    RESERVED_NAME: "ReservedName",
+    TAKEN_NAME: "TakenName",
 }
 LIMITS = {
     BYTES_REACHED: ("BytesReached", "the page takes more bytes than max_bytes"),
@@ -77,6 +86,9 @@ MESSAGES = {
     OTHER_HANDLE: "an object of another kind than the call needs, as Data where a Language is wanted",
     TOO_MANY_LEVELS: "blocks and partials could stand in one another deeper than levels= allows; allow fewer partials by depth=, "
     "or more levels on a thread with a larger stack",
+    NO_WORD: "a tag's name is a word: a letter or `_`, then letters, digits, `_` and `-`",
+    RESERVED_NAME: "blocks have a use of `else`, `elsif`, `when` and what begins with `end`, so no tag has such a name",
+    TAKEN_NAME: "the language has a tag or a block of this name; give yours another",
 }
 
 

@@ -5,13 +5,15 @@ import threading
 from collections.abc import Callable, Iterator, Mapping
 from typing import Any, TypeVar, overload
 
-from ._filters import Filters, Function, arity
+from ._filters import Filters, Function, Site, Tag, arity, filter_of
 from ._library import library
 from ._owner import Owner, listed, utf8
-from .errors import refused
+from .errors import NO_TEXT, refused
 
 # a function that a decorator hands back as it is
 Called = TypeVar("Called", bound=Function)
+# how what stands after the name of a tag is read, by the numbers of the library for C
+_STYLES = {"items": 0, "path": 1, "text": 2}
 
 
 class Functions(Mapping[str, Function]):
@@ -38,13 +40,32 @@ class Functions(Mapping[str, Function]):
 
 class Language(Owner):
     """The standard language: its tags, blocks and filters. With jekyll=True it has the tag include and the filter sort of Jekyll in
-    place of the standard ones, and drops the white space of blocks that write nothing. filters are functions in Python by their names,
-    which templates call as any other."""
+    place of the standard ones and its block highlight, and drops the white space of blocks that write nothing. filters are functions in
+    Python by their names, which templates call as any other. site is the address and the base path of a site of Jekyll's: then the
+    library has Jekyll's own filters over it, but for those that filters name. With autoescape=True what outputs and cycle write is
+    escaped for HTML, but not an output that ends with `| raw`; a captured text is escaped already, and needs it.
 
-    def __init__(self, *, jekyll: bool = False, filters: Mapping[str, Function] | None = None) -> None:
+        >>> import bikleinu
+        >>> language = bikleinu.Language(jekyll=True, site=("https://example.org", "/blog"))
+        >>> bikleinu.Template("{{ '/tea' | absolute_url }}", language).render()
+        'https://example.org/blog/tea'
+    """
+
+    def __init__(
+        self,
+        *,
+        jekyll: bool = False,
+        filters: Mapping[str, Function] | None = None,
+        site: Site | None = None,
+        autoescape: bool = False,
+    ) -> None:
         super().__init__()
-        self._jekyll, self._filters = bool(jekyll), Filters()
+        self._jekyll, self._filters, self._autoescape = bool(jekyll), Filters(_checked(site)), bool(autoescape)
         self._need((library.bikleinu_jekyll_language if jekyll else library.bikleinu_language)(self._handle))
+        if site is not None:
+            self._need(library.bikleinu_register_jekyll(self._handle))
+        if autoescape:
+            self._need(library.bikleinu_escape_html(self._handle))
         for name, function in (filters or {}).items():
             self.add_filter(name, function)
 
@@ -95,15 +116,98 @@ class Language(Owner):
                 raise refused(answer)
             self._filters.add(name, function)
 
+    @overload
+    def tag(self, name: Called) -> Called: ...
+
+    @overload
+    def tag(self, name: str | None = None, *, style: str = "items") -> Callable[[Called], Called]: ...
+
+    def tag(self, name: Any = None, *, style: str = "items") -> Any:
+        """Makes a tag of the function that follows, under this name or its own, which needs no parentheses:
+
+            >>> import bikleinu
+            >>> language = bikleinu.Language()
+            >>> @language.tag
+            ... def link(path, text="here"):
+            ...     return f'<a href="/{path}">{text}</a>'
+            >>> bikleinu.Template("{% link 'tea', 'Tea' %}", language).render()
+            '<a href="/tea">Tea</a>'
+        """
+        return self._decorator(self.add_tag, name, style)
+
+    @overload
+    def block(self, name: Called) -> Called: ...
+
+    @overload
+    def block(self, name: str | None = None, *, style: str = "items") -> Callable[[Called], Called]: ...
+
+    def block(self, name: Any = None, *, style: str = "items") -> Any:
+        """Makes a block of the function that follows, as tag makes a tag: it gets the text of the body first."""
+        return self._decorator(self.add_block, name, style)
+
+    def _decorator(self, add: Callable[..., None], name: Any, style: str) -> Any:
+        if callable(name):
+            return self._decorator(add, None, style)(name)
+
+        def added(function: Called) -> Called:
+            add(function.__name__ if name is None else name, function, style)
+            return function
+
+        return added
+
+    def add_tag(self, name: str, function: Function, style: str = "items") -> None:
+        """Adds a tag, in place of any other of that name that was added, for what is parsed from now on: `{% name a, b %}` writes what
+        the function answers to the values a and b. The rules of functions are those of add_filter.
+
+        In the style "items" there are commas between values, or none; in the style "path" the first one is a path without quotes, and
+        in the style "text" all that stands there is one text, and no value where nothing does. A name that is no word, that a block has
+        a use of (as else, and what begins with end) or that is one of the language's own tags and blocks is refused."""
+        self._add_tag(name, Tag(function, style, False))
+
+    def add_block(self, name: str, function: Function, style: str = "items") -> None:
+        """Adds a block, as add_tag adds a tag, which ends with `end` and its name. The function gets the text of the body, and then the
+        values."""
+        self._add_tag(name, Tag(function, style, True))
+
+    def _add_tag(self, name: str, tag: Tag) -> None:
+        if tag.style not in _STYLES:
+            raise ValueError(f"style is {tag.style!r}, and 'items', 'path' or 'text' is wanted")
+        least, most = arity(tag.function, tag.is_block)
+        text, called = utf8(name), utf8(filter_of(name))
+        register = library.bikleinu_register_block if tag.is_block else library.bikleinu_register_tag
+        with self._lock:
+            answer = library.bikleinu_register(self._handle, called, len(called), least, most)
+            answer = answer or register(self._handle, text, len(text), called, len(called), _STYLES[tag.style])
+            if answer:
+                raise refused(answer)
+            self._filters.add_tag(name, tag)
+
     def __reduce__(self) -> Any:
-        return _language, (self._jekyll, self._filters.functions)
+        return _language, (self._jekyll, self._filters.functions, self._filters.tags, self._filters.site, self._autoescape)
 
     def __repr__(self) -> str:
         return f"<bikleinu.Language{', jekyll' if self._jekyll else ''}{listed(', filters', self.filters)}>"
 
 
-def _language(jekyll: bool, filters: Mapping[str, Function]) -> Language:
-    return Language(jekyll=jekyll, filters=filters)
+def _checked(site: Any) -> Site | None:
+    """The site, which is two texts."""
+    if site is None:
+        return None
+    if not isinstance(site, tuple) or len(site) != 2 or not all(isinstance(it, str) for it in site):
+        raise TypeError(f"site is {site!r}, and two texts are wanted: ('https://example.org', '/blog')")
+    address, base = site
+    try:
+        (address + base).encode()
+    except UnicodeEncodeError:
+        raise refused(NO_TEXT) from None
+    return address, base
+
+
+def _language(jekyll: bool, filters: Mapping[str, Function], tags: Mapping[str, Tag], site: Site | None, autoescape: bool) -> Language:
+    made = Language(jekyll=jekyll, filters=filters, site=site, autoescape=autoescape)
+    for name, tag in tags.items():
+        made._add_tag(name, tag)
+    return made
 
 
 class _Shared(threading.local):

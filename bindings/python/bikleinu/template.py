@@ -90,9 +90,10 @@ class Template(Shared):
         levels says.
 
         With max_bytes the page may take so many bytes of UTF-8: those of each text that it writes or captures, each answer of a
-        filter and each assigned value, and 32 for each item and pair in these. With max_turns it may take so many turns: one each
-        time that a text, an output or a tag runs, one more for each filter, comparison, value of a when and pair of a partial in
-        it, and one for an empty body. The fault of a page that one of them ended is a LimitError.
+        filter, each value that is assigned or that a pair passes and each list beyond the data that a loop goes over, and 32 for
+        each item and pair in these. With max_turns it may take so many turns: one each time that a text, an output or a tag runs,
+        one more for each filter, comparison, value of a when and pair of a partial in it, and one for an empty body. The fault of
+        a page that one of them ended is a LimitError.
 
         What is missing is a fault of a page that comes to it. With missing="nil" it is nil: it writes nothing, and the page goes on. A
         function as missing is called with each name that is lacking in a mapping, and answers the value to take; anything else that is
@@ -114,7 +115,7 @@ class Template(Shared):
                     answer = library.bikleinu_render_with(*given, depth, limits, table._handle, page._handle)
             return answer
 
-        if self._filters and self._filters.functions:
+        if self._filters:
             page = self._asking(render)
         else:
             made = Owner()

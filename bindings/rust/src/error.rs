@@ -11,6 +11,9 @@ pub(crate) const TOO_MANY_LEVELS: u32 = 103;
 pub(crate) const BYTES_REACHED: u32 = 104;
 pub(crate) const TURNS_REACHED: u32 = 105;
 pub(crate) const LACKING: u32 = 106;
+const NO_WORD: u32 = 110;
+const RESERVED_NAME: u32 = 111;
+const TAKEN_NAME: u32 = 112;
 
 /// What kind of fault it is. The guide for writers of templates says what each one means.
 #[derive(Clone, Copy, Debug, PartialEq, Eq, Hash)]
@@ -82,11 +85,17 @@ pub enum Kind {
     TurnsReached,
     /// The page still lacks answers of its filters after [`ROUNDS`](crate::ROUNDS) rounds of calls.
     RoundsReached,
+    /// A name of a tag that is no word.
+    NoWord,
+    /// A name of a tag that blocks have a use of, as `else` and what begins with `end`.
+    ReservedName,
+    /// A name at which the language has a tag or a block of its own.
+    TakenName,
     /// A kind that this version of the crate doesn't know.
     Other,
 }
 
-const KINDS: [(u32, Kind); 33] = [
+const KINDS: [(u32, Kind); 36] = [
     (1, Kind::UnknownVariable),
     (INVALID_INPUT, Kind::InvalidInput),
     (3, Kind::InvalidArgument),
@@ -120,6 +129,9 @@ const KINDS: [(u32, Kind); 33] = [
     (BYTES_REACHED, Kind::BytesReached),
     (TURNS_REACHED, Kind::TurnsReached),
     (LACKING, Kind::RoundsReached),
+    (NO_WORD, Kind::NoWord),
+    (RESERVED_NAME, Kind::ReservedName),
+    (TAKEN_NAME, Kind::TakenName),
 ];
 
 /// Which text a fault stands in.
@@ -259,6 +271,11 @@ pub(crate) fn call_refused(number: u32) -> Option<LiquidError> {
         NO_TEXT => ("NoText", "the bytes are no UTF-8"),
         OTHER_HANDLE => ("OtherHandle", "an object of another kind than the call needs"),
         TOO_MANY_LEVELS => ("TooManyLevels", "blocks and partials could stand in one another deeper than is allowed"),
+        NO_WORD => ("NoWord", "a tag's name is a word: a letter or `_`, then letters, digits, `_` and `-`"),
+        RESERVED_NAME => {
+            ("ReservedName", "blocks have a use of `else`, `elsif`, `when` and what begins with `end`, so no tag has such a name")
+        }
+        TAKEN_NAME => ("TakenName", "the language has a tag or a block of this name; give yours another"),
         _ => return None,
     };
     Some(LiquidError::new(number, words(name), words(message), None))

@@ -44,12 +44,36 @@ extern "C" {
     ) -> u32;
     pub(crate) fn bikleinu_jekyll_language(made: *mut Handle) -> u32;
     pub(crate) fn bikleinu_register(language: *mut Handle, name: *const u8, length: usize, least: usize, most: usize) -> u32;
+    pub(crate) fn bikleinu_register_jekyll(language: *mut Handle) -> u32;
+    pub(crate) fn bikleinu_register_tag(
+        language: *mut Handle,
+        name: *const u8,
+        length: usize,
+        filter: *const u8,
+        filter_length: usize,
+        style: u32,
+    ) -> u32;
+    pub(crate) fn bikleinu_register_block(
+        language: *mut Handle,
+        name: *const u8,
+        length: usize,
+        filter: *const u8,
+        filter_length: usize,
+        style: u32,
+    ) -> u32;
     pub(crate) fn bikleinu_names(template: *mut Handle, partials: *mut Handle, made: *mut Handle) -> u32;
     pub(crate) fn bikleinu_paths(template: *mut Handle, partials: *mut Handle, made: *mut Handle) -> u32;
     pub(crate) fn bikleinu_data_for(json: *const u8, length: usize, paths: *mut Handle, made: *mut Handle) -> u32;
     pub(crate) fn bikleinu_share(handle: *mut Handle, made: *mut Handle) -> u32;
     pub(crate) fn bikleinu_answers(made: *mut Handle) -> u32;
     pub(crate) fn bikleinu_answers_filter(answers: *mut Handle, name: *const u8, length: usize) -> u32;
+    pub(crate) fn bikleinu_answers_jekyll(
+        answers: *mut Handle,
+        address: *const u8,
+        address_length: usize,
+        base: *const u8,
+        base_length: usize,
+    ) -> u32;
     pub(crate) fn bikleinu_render_with(
         template: *mut Handle,
         data: *mut Handle,

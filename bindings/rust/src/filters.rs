@@ -1,7 +1,7 @@
 //! Filters of the caller's: functions, and tables of their answers that the library renders with.
 use crate::error::{call_refused, LiquidError, INVALID_INPUT, LACKING};
 use crate::ffi::{
-    bikleinu_answer, bikleinu_answers, bikleinu_answers_filter, bikleinu_data, bikleinu_refuse, Owner, TEXT,
+    bikleinu_answer, bikleinu_answers, bikleinu_answers_filter, bikleinu_answers_jekyll, bikleinu_data, bikleinu_refuse, Owner, TEXT,
 };
 use crate::value::{Json, Reader, Value};
 use std::collections::BTreeMap;
@@ -19,17 +19,31 @@ const ANSWERS: usize = 10_000;
 /// How many characters of what an error says go into the message of a fault.
 const SHOWN: usize = 300;
 
-/// Functions by their names.
+/// Where a site of Jekyll's is.
+#[derive(Clone)]
+struct Site {
+    address: String,
+    base: String,
+}
+
+/// Functions by their names, and the site over which the library itself answers Jekyll's filters.
 #[derive(Clone, Default)]
-pub(crate) struct Filters(Arc<BTreeMap<String, Arc<Function>>>);
+pub(crate) struct Filters {
+    functions: Arc<BTreeMap<String, Arc<Function>>>,
+    site: Option<Arc<Site>>,
+}
 
 impl Filters {
     pub(crate) fn add(&mut self, name: &str, function: Arc<Function>) {
-        Arc::make_mut(&mut self.0).insert(name.to_owned(), function);
+        Arc::make_mut(&mut self.functions).insert(name.to_owned(), function);
+    }
+
+    pub(crate) fn set_site(&mut self, address: &str, base: &str) {
+        self.site = Some(Arc::new(Site { address: address.to_owned(), base: base.to_owned() }));
     }
 
     pub(crate) fn is_empty(&self) -> bool {
-        self.0.is_empty()
+        self.functions.is_empty() && self.site.is_none()
     }
 
     /// The number that a run ended by, and its page, when each call that it lacked is answered. The table is kept, unless a function
@@ -81,7 +95,7 @@ impl Filters {
     fn answer(&self, call: &Value) -> Result<Value, FilterError> {
         match call.as_list() {
             Some([Value::Text(name), input, arguments @ ..]) => {
-                let function = self.0.get(name).ok_or("no such filter")?;
+                let function = self.functions.get(name).ok_or("no such filter")?;
                 function(input, arguments)
             }
             _ => Err("a call that can't be read".into()),
@@ -114,7 +128,14 @@ impl Table {
         let owner = Owner::new();
         // SAFETY: the handle is an owner's.
         settled(unsafe { bikleinu_answers(owner.at()) })?;
-        for name in filters.0.keys() {
+        if let Some(site) = &filters.site {
+            let (address, base) = (site.address.as_bytes(), site.base.as_bytes());
+            // SAFETY: the handle is an owner's, and the bytes are two texts'.
+            settled(unsafe {
+                bikleinu_answers_jekyll(owner.at(), address.as_ptr(), address.len(), base.as_ptr(), base.len())
+            })?;
+        }
+        for name in filters.functions.keys() {
             // SAFETY: the handle is an owner's, and the bytes are a text's.
             settled(unsafe { bikleinu_answers_filter(owner.at(), name.as_ptr(), name.len()) })?;
         }

@@ -1,12 +1,36 @@
 //! Languages.
 use crate::error::LiquidError;
-use crate::ffi::{bikleinu_jekyll_language, bikleinu_language, bikleinu_parse, bikleinu_register, Owner};
+use crate::ffi::{
+    bikleinu_jekyll_language, bikleinu_language, bikleinu_parse, bikleinu_register, bikleinu_register_block, bikleinu_register_jekyll,
+    bikleinu_register_tag, Owner,
+};
 use crate::filters::{settled, FilterError, Filters};
 use crate::shared::Shared;
 use crate::{Template, Value};
 use std::fmt;
 use std::ops::RangeInclusive;
 use std::sync::Arc;
+
+/// How what stands after the name of a tag or a block of the caller's is read.
+#[derive(Clone, Copy, Debug, PartialEq, Eq)]
+pub enum TagStyle {
+    /// As values, with commas between them or none.
+    Items,
+    /// As a path without quotes, and then values.
+    Path,
+    /// All of it as one text; as no value where nothing stands there.
+    Text,
+}
+
+impl TagStyle {
+    fn number(self) -> u32 {
+        match self {
+            TagStyle::Items => 0,
+            TagStyle::Path => 1,
+            TagStyle::Text => 2,
+        }
+    }
+}
 
 /// A language: its tags, blocks and filters.
 pub struct Language {
@@ -27,8 +51,8 @@ impl Language {
         made.settled(number).map(Language::of)
     }
 
-    /// The standard language with the tag `include` and the filter `sort` of Jekyll in place of its own, and without the white space of
-    /// blocks that write nothing.
+    /// The standard language with the tag `include` and the filter `sort` of Jekyll in place of its own, with its block `highlight`, and
+    /// without the white space of blocks that write nothing.
     ///
     /// # Errors
     ///
@@ -89,6 +113,92 @@ impl Language {
         settled(unsafe { bikleinu_register(self.owner.only().at(), name.as_ptr(), name.len(), least, most) })?;
         self.filters.add(name, Arc::new(function));
         Ok(())
+    }
+
+    /// Adds Jekyll's own filters, which the library answers over a site of this address and this base path, for what is parsed from now
+    /// on. A filter that is added afterwards stands in place of the one of its name.
+    ///
+    /// ```
+    /// use bikleinu::{Data, Language};
+    ///
+    /// let mut language = Language::jekyll()?;
+    /// language.jekyll_filters("https://example.org", "/blog")?;
+    /// let template = language.parse("{{ '/a b' | absolute_url }}")?;
+    /// assert_eq!(template.render_text(&Data::none())?, "https://example.org/blog/a%20b");
+    /// # Ok::<(), bikleinu::LiquidError>(())
+    /// ```
+    ///
+    /// # Errors
+    ///
+    /// Refused memory: then some of them may be there.
+    pub fn jekyll_filters(&mut self, address: &str, base: &str) -> Result<(), LiquidError> {
+        // SAFETY: the handle is an owner's.
+        settled(unsafe { bikleinu_register_jekyll(self.owner.only().at()) })?;
+        self.filters.set_site(address, base);
+        Ok(())
+    }
+
+    /// Adds a tag, in place of any other of that name that was added, for what is parsed from now on: `{% name a, b %}` writes what the
+    /// function answers to the values `a` and `b`, of which a template gives as many as `arguments` has. The rules are those of
+    /// [`filter`](Language::filter).
+    ///
+    /// ```
+    /// use bikleinu::{Data, Language, TagStyle, Value};
+    ///
+    /// let mut language = Language::new()?;
+    /// language.tag("link", TagStyle::Text, 1..=1, |values| {
+    ///     let path = values[0].as_text().unwrap_or_default();
+    ///     Ok(format!("/{}.html", path.trim_end_matches(".md")).into())
+    /// })?;
+    /// language.block("box", TagStyle::Items, 0..=1, |body, values| {
+    ///     let class = values.first().and_then(Value::as_text).unwrap_or("plain");
+    ///     Ok(format!("<div class=\"{class}\">{}</div>", body.as_text().unwrap_or_default()).into())
+    /// })?;
+    /// let template = language.parse("{% box 'tea' %}{% link tea.md %}{% endbox %}")?;
+    /// assert_eq!(template.render_text(&Data::none())?, "<div class=\"tea\">/tea.html</div>");
+    /// # Ok::<(), bikleinu::LiquidError>(())
+    /// ```
+    ///
+    /// # Errors
+    ///
+    /// A name that no tag can have ([`Kind::NoWord`](crate::Kind::NoWord), [`Kind::ReservedName`](crate::Kind::ReservedName)) or that is
+    /// one of the language's own ([`Kind::TakenName`](crate::Kind::TakenName)), or refused memory.
+    pub fn tag<F>(&mut self, name: &str, style: TagStyle, arguments: RangeInclusive<usize>, function: F) -> Result<(), LiquidError>
+    where
+        F: Fn(&[Value]) -> Result<Value, FilterError> + Send + Sync + 'static,
+    {
+        let filter = self.filter_of_tag(name, arguments, move |_, values| function(values))?;
+        // SAFETY: the handle is an owner's, and the bytes are texts'.
+        settled(unsafe {
+            bikleinu_register_tag(self.owner.only().at(), name.as_ptr(), name.len(), filter.as_ptr(), filter.len(), style.number())
+        })
+    }
+
+    /// Adds a block in the same way, which ends with `end` and its name. The function gets the text of the body, and then the values.
+    ///
+    /// # Errors
+    ///
+    /// As of [`tag`](Language::tag).
+    pub fn block<F>(&mut self, name: &str, style: TagStyle, arguments: RangeInclusive<usize>, function: F) -> Result<(), LiquidError>
+    where
+        F: Fn(&Value, &[Value]) -> Result<Value, FilterError> + Send + Sync + 'static,
+    {
+        let filter = self.filter_of_tag(name, arguments, function)?;
+        // SAFETY: the handle is an owner's, and the bytes are texts'.
+        settled(unsafe {
+            bikleinu_register_block(self.owner.only().at(), name.as_ptr(), name.len(), filter.as_ptr(), filter.len(), style.number())
+        })
+    }
+
+    /// Adds the filter that a tag calls, and answers its name. It is no word, so no template calls it otherwise, and a fault shows the tag
+    /// by it.
+    fn filter_of_tag<F>(&mut self, name: &str, arguments: RangeInclusive<usize>, function: F) -> Result<String, LiquidError>
+    where
+        F: Fn(&Value, &[Value]) -> Result<Value, FilterError> + Send + Sync + 'static,
+    {
+        let filter = format!("{{% {name} %}}");
+        self.filter_of(&filter, arguments, function)?;
+        Ok(filter)
     }
 
     /// The template that a source is.

@@ -25,7 +25,8 @@ impl Limits {
     }
 
     /// At most so many bytes: those of each text that the page writes, also into the body of a `capture` or an `ifchanged`, of each
-    /// answer of a filter and of each value that `assign` stores, and 32 for each item and pair in these.
+    /// answer of a filter, of each value that `assign` stores or a pair passes and of each list beyond the data that a loop goes over,
+    /// and 32 for each item and pair in these.
     #[must_use]
     pub fn max_bytes(self, bytes: u64) -> Limits {
         Limits(RawLimits { bytes, ..self.0 })

@@ -1,6 +1,6 @@
 //! How much there is to merge.
 ghost use Rattle.std.specs.Prelude.{◌≡◌};
-ghost use Rattle.bikleinu.specs.Extents.{percent_done, seconds_left};
+ghost use Rattle.bikleinu.specs.Extents.{IsProgress, percent_done, seconds_left};
 ghost use Rattle.bikleinu.specs.declared.extent.Extent.TheVariants.{Records, Unknown};
 
 use liquid_commands::MergeCall;
@@ -55,7 +55,9 @@ impl Extent {
     }
 
     /// How far a merge of so many records in so many seconds is, where it is known how far it goes.
-    pub fn reached(&mut self, records: u64, seconds: u64) -> Option<Reached> {
+    pub fn reached(&mut self, records: u64, seconds: u64) -> Option<Reached>
+        ensures { IsProgress self.old records seconds result }
+    {
         let (done, whole, unit) = match self {
             Extent::Unknown => return None,
             Extent::Records(count) => (records, *count, Unit::Records),

@@ -1,6 +1,9 @@
 //! The files that pages go into.
 use liquid_commands::{Inputs, MergeCall, Sources, Stop, TemplateWord};
-use liquid_files::{Bounds, DiskFault, PageFiles, Reason, ShownPath, SystemFiles, hidden_names};
+use liquid_files::{
+    Bounds, DiskFault, PageFiles, Reason, ShownPath, SystemFiles, hidden_names,
+    written_hidden_names,
+};
 use liquid_records::Disk;
 use std::alloc::AllocError;
 use std::process;
@@ -40,7 +43,7 @@ pub fn record_files<'r>(
     let front = front_of(rt, call.into)?;
     let root = root_of(rt, front.as_str(), pattern)?;
     let bounds = Bounds {
-        hidden: hidden_names(front.as_str()).saturating_add(hidden_names(pattern)),
+        hidden: hidden_names(front.as_str()).saturating_add(written_hidden_names(pattern)),
         front,
         makes_folders: true,
     };

@@ -39,6 +39,21 @@ pub fn language_with(alloc: Global, filters: Option<FilterSet>) -> Result<Langua
     }
 }
 
+/// That language, in which outputs are escaped for HTML where that is asked for. `Memory` where a
+/// growth was refused, and no other kind.
+pub fn language_for(
+    alloc: Global,
+    filters: Option<FilterSet>,
+    escapes_html: bool,
+) -> Result<Language>
+    ensures escapes { IfOk result (λ l. l.escapes_html ≡ escapes_html) }
+    ensures memory { IfErr result (λ e. e.kind ≡ ErrorKind.Memory) }
+{
+    let mut language = language_with(alloc, filters)?;
+    language.escapes_html = escapes_html;
+    Ok(language)
+}
+
 /// What the filters of a set take of the data.
 pub fn setting_uses(alloc: Global, filters: Option<FilterSet>) -> Result<Uses>
     ensures site { filters ≡ Some FilterSet.Jekyll → IfOk result (λ u. SeesSite (uses_view u)) }

@@ -21,7 +21,7 @@ mod target;
 mod tips;
 mod watch;
 
-use crate::filters::language_with;
+use crate::filters::language_for;
 use crate::merge::merge;
 use crate::paths::paths;
 use crate::render::render;
@@ -83,7 +83,7 @@ fn run_command(rt: &HostRuntime, matches: &ArgMatches<'_>) -> Result<(), Stop> {
 /// Checks templates in the language of the filters that are asked for.
 fn checked(rt: &HostRuntime, given: &ArgMatches<'_>) -> Result<(), Stop> {
     let call = check_call(rt.alloc(), given)?;
-    let language = language_with(rt.alloc(), call.filters)?;
+    let language = language_for(rt.alloc(), call.filters, call.escapes_html)?;
     check(rt, &call, &language, &SetTips)
 }
 

@@ -1,7 +1,7 @@
 //! What pages are made of.
 ghost use Rattle.std.specs.Prelude.{◌≡◌};
 
-use crate::filters::{language_with, setting_uses};
+use crate::filters::{language_for, setting_uses};
 use crate::reach::partials_in_reach;
 use crate::tips::tip_for_source;
 use liquid_commands::{
@@ -115,7 +115,7 @@ fn parts_read<'c>(
     inputs: &'c Inputs<'c>,
     reading: Reading<'_>,
 ) -> Result<UsedParts<'c>, Stop> {
-    let language = language_with(rt.alloc(), inputs.filters)?;
+    let language = language_for(rt.alloc(), inputs.filters, inputs.escapes_html)?;
     let mut sources = Sources::read(rt, inputs.template)?;
     let template = parsed(rt, sources.template(), &language)?;
     let texts = DataTexts::read(rt, &inputs.data, &inputs.values, inputs.forms)?;

@@ -1,5 +1,5 @@
 //! What is printed after a page of what it shows silently.
-use crate::filters::language_with;
+use crate::filters::language_for;
 use crate::page_templates::PageTemplates;
 use crate::parts::{PageParts, UsedParts};
 use liquid_commands::{RenderCall, Stop, Tip, print_tip};
@@ -37,7 +37,7 @@ pub fn silent_warnings(
     if take_long(&page, read.bytes) {
         return Ok(Vec::new(alloc));
     }
-    let language = language_with(alloc, call.inputs.filters)?;
+    let language = language_for(alloc, call.inputs.filters, call.inputs.escapes_html)?;
     page.warnings_over(alloc, &read.parts.data, &language, call.missing)
 }
 

@@ -3,7 +3,7 @@ ghost use Rattle.std.specs.Prelude.{◌≡◌, ◌++◌, ◌∷◌, [], OnErr, O
 ghost use Rattle.bikleinu.specs.Watches.{is_new_mark, is_printed_mark, is_same_mark, kept_marks};
 ghost use Rattle.bikleinu.specs.Watches.{left_after, look_cost, looks_on, pays};
 
-use crate::filters::language_with;
+use crate::filters::language_for;
 use crate::page_templates::PageTemplates;
 use liquid_commands::{MergeCall, Sources, Tip, print_tip};
 use liquid_core::{ErrorKind, HostFilters, Object, Result};
@@ -71,7 +71,7 @@ impl<'r> Watch<'r> {
         Ok(Watch {
             rt,
             call,
-            language: language_with(rt.alloc(), call.inputs.filters)?,
+            language: language_for(rt.alloc(), call.inputs.filters, call.inputs.escapes_html)?,
             shared,
             left: MOST_BYTES,
             marks: Vec::with_capacity(rt.alloc(), MOST_PRINTED)?,

@@ -1,4 +1,6 @@
 pub mod Answering
 pub mod Lacking
+pub mod Own
+pub mod Sites
 pub mod Tables
 pub mod inside

@@ -3,7 +3,7 @@
 --     answer_at table call      the answer to it, where the table has one
 --     answers_by is_asking table      what the table's filters answer by name
 use Rattle.std.specs.Prelude.{◌≡◌, Bool, true, false, cond, ◌||◌, List, [], ◌∷◌, ◌++◌, map}
-use Rattle.std.specs.Prelude.{Option, Some, None, Result, Ok, Err, string_bytes}
+use Rattle.std.specs.Prelude.{Option, Some, None, Result, Ok, Err, option_map, string_bytes}
 use Rattle.std.specs.BTreeMap.{get_by}
 use Rattle.std.specs.Ordering.{is_eq}
 use Rattle.liquid_model.specs.Texts.{Text, same_text}
@@ -13,9 +13,9 @@ use Rattle.liquid_model.specs.Order.{order}
 use Rattle.liquid_model.specs.View.{items_of, view}
 use Rattle.liquid_model.specs.declared.error.ErrorKind.{ErrorKind}
 use Rattle.liquid_model.specs.declared.error.ErrorKind.TheVariants.{InvalidInput, Memory}
-use Rattle.liquid_model.specs.declared.error.ErrorKind.TheVariants.{Unsupported}
 use Rattle.liquid_model.specs.declared.value.Value.{Value}
 use Rattle.liquid_model.specs.FilterAnswers.{FilterAnswer}
+use Rattle.liquid_answers.specs.Sites.{site_answers, place_view}
 use Rattle.liquid_answers.specs.declared.answers.Answer.{Answer}
 use Rattle.liquid_answers.specs.declared.answers.Answer.TheVariants as kept
 use Rattle.liquid_answers.specs.declared.answers.Answers.{Answers}
@@ -40,6 +40,10 @@ answer_at table call = get_by (λ k. order call (view k)) table.answers
 -- the names of its filters
 abbrev pub filter_names : Answers → List Text
 filter_names table = map string_bytes table.names.items
+
+-- the address and the base path of its site, where it has one
+abbrev pub site_of : Answers → Option (Text × Text)
+site_of table = option_map place_view table.site
 
 abbrev pub is_listed_filter : Text → List Text → Bool
 is_listed_filter name [] = false
@@ -69,7 +73,7 @@ abbrev pub table_answer : Bool → Answers → Text → FilterAnswer
 table_answer is_asking table name input args =
     said_or (stand_in is_asking) (answer_at table (call_datum name input args))
 
--- by name, where the table has the filter
+-- by name, where the table has the filter;  else as a filter that needs no table, over its site
 abbrev pub answers_by : Bool → Answers → Text → FilterAnswer
 answers_by is_asking table name input args = cond (is_listed_filter name (filter_names table))
-    (table_answer is_asking table name input args) (Err Unsupported)
+    (table_answer is_asking table name input args) (site_answers (site_of table) name input args)

@@ -1,13 +1,14 @@
 //! Tables of answers.
-ghost use Rattle.std.specs.Prelude.{◌≡◌, [], Err, None, IfErr, OnErr, OnOk, map, option_map};
-ghost use Rattle.std.specs.Prelude.{string_bytes};
+ghost use Rattle.std.specs.Prelude.{◌≡◌, [], Err, None, Some, IfErr, OnErr, OnOk, map};
+ghost use Rattle.std.specs.Prelude.{option_map, string_bytes};
 ghost use Rattle.liquid_model.specs.Answer.{Answers as Tells, Faulted, IsValueOrMemory};
 ghost use Rattle.liquid_model.specs.Data.{Datum};
 ghost use Rattle.liquid_model.specs.View.{view};
 ghost use Rattle.liquid_answers.specs.Tables.{IsAnswerStored, answer_at, as_fault, call_datum};
 ghost use Rattle.liquid_answers.specs.Tables.{is_listed_filter};
-ghost use Rattle.liquid_answers.specs.Tables.{filter_names, said_by, with_name};
+ghost use Rattle.liquid_answers.specs.Tables.{filter_names, said_by, site_of, with_name};
 
+use crate::site::Site;
 use liquid_core::{Error, ErrorKind, Result, Value};
 use std::alloc::Global;
 use std::collections::BTreeMap;
@@ -45,25 +46,44 @@ fn fault_of(alloc: Global, kind: ErrorKind, message: &str) -> Error
     }
 }
 
-/// The names of filters, and answers to calls of them.
+/// The names of filters, and answers to calls of them; and a site, over which the library itself
+/// answers as Jekyll's filters.
 ///
 /// A call is a list of its filter's name, its input and its arguments.
 #[derive(Drop)]
 pub struct Answers {
     pub(crate) names: Vec<String>,
     pub(crate) answers: BTreeMap<Value, Answer>,
+    pub(crate) site: Option<Site>,
 }
 
 impl Answers {
-    /// No names, and no answers. It takes no memory.
+    /// No names, no answers and no site. It takes no memory.
     pub fn new(alloc: Global) -> Answers
         ensures names { filter_names result ≡ [] }
         ensures answers { (call : Datum) → answer_at result call ≡ None }
+        ensures site { site_of result ≡ None }
     {
         Answers {
             names: Vec::new(alloc),
             answers: BTreeMap::new(alloc),
+            site: None,
         }
+    }
+
+    /// Puts a site of this address and this base path in place of the one before: Jekyll's filters
+    /// whose names the table hasn't answer over it. `Memory` where there is no room; then nothing
+    /// changed.
+    pub fn set_site(&mut self, alloc: Global, address: &str, base: &str) -> Result<()>
+        ensures site { IsValueOrMemory (λ _. site_of self.new) result
+            (Some (address.now, base.now)) }
+        ensures unchanged { OnErr result (self.new.site ≡ self.old.site) }
+        ensures names { self.new.names ≡ self.old.names }
+        ensures answers { self.new.answers ≡ self.old.answers }
+    {
+        let site = Site::new(alloc, address, base)?;
+        self.site = Some(site);
+        Ok(())
     }
 
     /// Adds the name of a filter, unless it is there. `Memory` where there is no room; then nothing
@@ -73,6 +93,7 @@ impl Answers {
             (with_name (string_bytes name) (filter_names self.old)) }
         ensures unchanged { OnErr result (filter_names self.new ≡ filter_names self.old) }
         ensures answers { self.new.answers ≡ self.old.answers }
+        ensures site { self.new.site ≡ self.old.site }
     {
         if has_name(self.names.as_slice(), name.as_str()) {
             drop(name);
@@ -96,6 +117,7 @@ impl Answers {
         ensures unchanged { OnErr result ((call : Datum) →
             answer_at self.new call ≡ answer_at self.old call) }
         ensures names { self.new.names ≡ self.old.names }
+        ensures site { self.new.site ≡ self.old.site }
     {
         drop(self.answers.insert(call, answer)?);
         Ok(())

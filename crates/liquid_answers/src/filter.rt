@@ -1,19 +1,18 @@
 //! Filters that answer by a table.
 ghost use Rattle.std.specs.Prelude.{is_some};
 ghost use Rattle.liquid_model.specs.Answer.{Answers as Tells};
-ghost use Rattle.liquid_model.specs.ErrorKinds.{IsKindOrMemory};
 ghost use Rattle.liquid_model.specs.View.{view};
-ghost use Rattle.liquid_model.specs.declared.error.ErrorKind.TheVariants.{Unsupported};
 ghost use Rattle.liquid_answers.specs.Tables.{answers_by, stand_in};
 
 use crate::answers::{Answers, call_of, has_name};
 use crate::missing_calls::{MissingCalls, note};
-use liquid_core::{Error, ErrorKind, NamedFilters, Result, Value};
+use crate::site::answer_over;
+use liquid_core::{Error, NamedFilters, Result, Value};
 use std::alloc::{AllocError, Global};
 use std::cell::RefCell;
 
-/// The filters of a table. To a call that isn't there they answer `Memory`; or nil, where lacking
-/// calls are to be kept.
+/// The filters of a table, and those that need none. To a call that isn't there they answer
+/// `Memory`; or nil, where lacking calls are to be kept.
 #[derive(Clone, Copy, Drop)]
 pub(crate) struct TableFilters<'t, 'c> {
     pub(crate) table: &'t Answers,
@@ -32,7 +31,8 @@ impl NamedFilters for TableFilters<'_, '_> {
         args: &[Value],
     ) -> Result<Value> {
         if !has_name(self.table.names.as_slice(), name) {
-            return Err(unsupported(alloc));
+            let site = self.table.site.as_ref();
+            return answer_over(alloc, site, name, input, args);
         }
         let call = call_of(alloc, name, input, args)?;
         match self.table.find(&call) {
@@ -40,17 +40,6 @@ impl NamedFilters for TableFilters<'_, '_> {
             None => answer_without(self.asked, call),
         }
     }
-}
-
-/// The fault of a call of a filter that the table hasn't.
-fn unsupported(alloc: Global) -> Error
-    ensures { IsKindOrMemory Unsupported result.kind }
-{
-    Error::new(
-        alloc,
-        ErrorKind::Unsupported,
-        "the table of answers has no filter of this name",
-    )
 }
 
 /// What is answered to a call that the table lacks.

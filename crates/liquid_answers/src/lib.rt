@@ -1,5 +1,6 @@
 //! Filters of a host that answers between runs. Their answers stand in a table; where a run needs
-//! one that the table lacks, there is no page, and the missing calls are listed.
+//! one that the table lacks, there is no page, and the missing calls are listed. Jekyll's
+//! `highlight` needs no table, nor do Jekyll's other filters over a site.
 #![tactic(auto)]
 
 mod answered_page;
@@ -7,7 +8,10 @@ mod answers;
 mod filter;
 mod lacking;
 mod missing_calls;
+mod own;
+mod site;
 
 pub use answered_page::{Answered, render_page_answered};
 pub use answers::{Answer, Answers};
 pub use lacking::Lacking;
+pub use own::{OwnFilters, highlight_name};

@@ -21,9 +21,11 @@ use Rattle.liquid_language.specs.declared.registry.Language.{Language}
 use Rattle.liquid_syntax.specs.declared.partials.Partials.{Partials}
 use Rattle.liquid_syntax.specs.declared.template.Template.{Template}
 use Rattle.liquid_engine.specs.LimitedPages.{IsPrefixOf}
-use Rattle.liquid_engine.specs.Pages.{page_by, page_view, strict_setting}
+use Rattle.liquid_engine.specs.HostedPages.{hosted_page}
+use Rattle.liquid_engine.specs.Pages.{Shown, page_view, strict_setting}
 use Rattle.liquid_engine.specs.declared.run_setting.RunSetting.{RunSetting}
 use Rattle.liquid_language.specs.Standard.{IsStandard}
+use Rattle.liquid_answers.specs.Own.{own_answers}
 use Rattle.liquid_json.specs.Json.{data_of}
 use Rattle.liquid_c.specs.Levels.{levels_in, no_levels, greater_of, most_levels}
 use Rattle.liquid_c.specs.Numbers.{number_of_refusal}
@@ -94,11 +96,16 @@ abbrev pub levels_of_handle : Option Content → TemplateLevels
 levels_of_handle (Some (content.Partials p levels)) = levels
 levels_of_handle _ = no_levels
 
--- the page of these nodes, unless memory ran out
+-- the page of these nodes, where the filters of a host are those of the library
+abbrev pub own_page : RunSetting → List (Text × Nodes) → Map Datum → Nodes → Shown
+own_page setting partials «data» nodes =
+    hosted_page setting.missing own_answers setting.depth partials «data» nodes
+
+-- that page, unless memory ran out
 abbrev pub ShowsNodes : Nodes → RunSetting → Map Datum → List (Text × Nodes)
     → Result Content Refusal → Type 0
 ShowsNodes nodes setting «data» partials (Ok (content.Page p)) =
-    page_view p ≡ page_by setting partials «data» nodes
+    page_view p ≡ own_page setting partials «data» nodes
 ShowsNodes nodes setting «data» partials (Ok (content.Fault e)) = e.kind ≡ Memory
 ShowsNodes nodes setting «data» partials _ = ⊥
 
@@ -107,7 +114,7 @@ abbrev pub ShowsWithin : Nodes → RunSetting → Map Datum → List (Text × No
     → Result Content Refusal → Type 0
 ShowsWithin nodes setting «data» partials (Ok (content.Ended p limit)) =
     ((page_view p).fault ≡ Some Write)
-    × IsPrefixOf (page_view p).text (page_by setting partials «data» nodes).text
+    × IsPrefixOf (page_view p).text (own_page setting partials «data» nodes).text
 ShowsWithin nodes setting «data» partials answer = ShowsNodes nodes setting «data» partials answer
 
 -- R holds where data and partials are there, and else the call can't be

@@ -2,7 +2,10 @@ pub mod Asked
 pub mod CalledNames
 pub mod Calls
 pub mod DataFor
+pub mod Escaping
+pub mod HostTags
 pub mod Hosted
+pub mod Jekylls
 pub mod Languages
 pub mod Levels
 pub mod Named

@@ -10,7 +10,8 @@ use Rattle.liquid_c.specs.declared.content.Content.TheVariants as content
 use Rattle.liquid_c.specs.declared.refusal.Refusal.{Refusal}
 use Rattle.liquid_c.specs.declared.refusal.Refusal.TheVariants.{NoText, OtherHandle, TooManyLevels}
 use Rattle.liquid_c.specs.declared.refusal.Refusal.TheVariants.{SharedHandle, NoSuchCall}
-use Rattle.liquid_c.specs.declared.refusal.Refusal.TheVariants.{NoSuchMissing}
+use Rattle.liquid_c.specs.declared.refusal.Refusal.TheVariants.{NoSuchMissing, NoSuchStyle, NoWord}
+use Rattle.liquid_c.specs.declared.refusal.Refusal.TheVariants.{ReservedName, TakenName}
 
 -- the fault, also that of a page
 abbrev pub content_fault : Content → Option Error
@@ -43,8 +44,9 @@ text_of_handle (content.Paths uses paths) = string_bytes paths
 text_of_handle _ = []
 
 -- a call that can't be: bytes that are no UTF-8, a handle of another kind, a run that could reach
--- too many levels, no call of the number, a change of what is shared, and a number that says
--- nothing of missing values
+-- too many levels, no call of the number, a change of what is shared, a number that says nothing of
+-- missing values, a name of a tag that is no word, or that blocks or the language have a use of,
+-- and a number that stands for no style
 abbrev pub number_of_refusal : Refusal → ℕ
 number_of_refusal NoText = 101
 number_of_refusal OtherHandle = 102
@@ -52,3 +54,7 @@ number_of_refusal TooManyLevels = 103
 number_of_refusal NoSuchCall = 107
 number_of_refusal SharedHandle = 108
 number_of_refusal NoSuchMissing = 109
+number_of_refusal NoWord = 110
+number_of_refusal ReservedName = 111
+number_of_refusal TakenName = 112
+number_of_refusal NoSuchStyle = 113

@@ -1,20 +1,16 @@
 -- What a caller reads from a handle, part by part.
 --     part_in part held      the part of this number; empty where there is none
-use Rattle.std.specs.Prelude.{ℕ, Option, Some, None, [], String, nat_eq, if◌then◌else◌, option_map}
+use Rattle.std.specs.Prelude.{ℕ, Option, Some, None, [], nat_eq, if◌then◌else◌, option_map}
 use Rattle.std.specs.Prelude.{string_bytes}
-use Rattle.std.specs.declared.alloc.Global.{Global}
 use Rattle.liquid_model.specs.Texts.{Text}
 use Rattle.liquid_model.specs.ErrorKinds.{name_of}
+use Rattle.liquid_model.specs.Errors.{message_text}
 use Rattle.liquid_model.specs.declared.error.Error.{Error}
 use Rattle.liquid_model.specs.declared.origin.Location.{Location}
 use Rattle.liquid_model.specs.declared.origin.Origin.{Origin}
 use Rattle.liquid_model.specs.declared.origin.Origin.TheVariants.{Template, Partial, Data}
 use Rattle.liquid_c.specs.Numbers.{content_fault, text_of_handle}
 use Rattle.liquid_c.specs.declared.content.Content.{Content}
-
-abbrev pub message_bytes : Option (String Global) → Text
-message_bytes None = []
-message_bytes (Some m) = string_bytes m
 
 abbrev pub location_of_fault : Error → Option Location
 location_of_fault e = option_map (λ l. l.value) e.location
@@ -29,7 +25,7 @@ partial_of_location (Some l) = partial_of_origin l.origin
 
 abbrev pub part_of_fault : ℕ → Error → Text
 part_of_fault part e =
-    if nat_eq part 1 then message_bytes e.message else if nat_eq part 2 then name_of e.kind
+    if nat_eq part 1 then message_text e.message else if nat_eq part 2 then name_of e.kind
     else if nat_eq part 3 then partial_of_location (location_of_fault e) else []
 
 abbrev pub part_of_faults : ℕ → Option Error → Text

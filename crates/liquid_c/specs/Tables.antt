@@ -14,7 +14,8 @@ use Rattle.liquid_model.specs.declared.error.ErrorKind.TheVariants as kind
 use Rattle.liquid_model.specs.declared.error.ErrorKind.TheVariants.{InvalidInput, Memory}
 use Rattle.liquid_core.specs.Held.{Outer}
 use Rattle.liquid_answers.specs.Lacking.{calls_in}
-use Rattle.liquid_answers.specs.Tables.{IsAnswerStored, answer_at, filter_names, said_by, with_name}
+use Rattle.liquid_answers.specs.Tables.{IsAnswerStored, answer_at, filter_names, said_by, site_of}
+use Rattle.liquid_answers.specs.Tables.{with_name}
 use Rattle.liquid_answers.specs.declared.answers.Answer.{Answer}
 use Rattle.liquid_answers.specs.declared.answers.Answers.{Answers}
 use Rattle.liquid_c.specs.Numbers.{number_of_refusal}
@@ -26,10 +27,10 @@ use Rattle.liquid_c.specs.declared.refusal.Refusal.{Refusal}
 use Rattle.liquid_c.specs.declared.refusal.Refusal.TheVariants.{NoSuchCall}
 use Rattle.liquid_c.specs.declared.refusal.Refusal.TheVariants.{SharedHandle, NoText, OtherHandle}
 
--- a table without names and answers
+-- a table without names, answers and a site
 abbrev pub IsNewTable : Result Content Refusal → Type 0
 IsNewTable (Ok (content.Answers table)) = (filter_names table ≡ []) ×
-    ((call : Datum) → answer_at table call ≡ None)
+    ((call : Datum) → answer_at table call ≡ None) × (site_of table ≡ None)
 IsNewTable _ = ⊥
 
 -- the table in the handle is such a one
@@ -37,10 +38,10 @@ abbrev pub HoldsTable : (Answers → Type 0) → Option HandleContent → Type 0
 HoldsTable P (Some (Own (content.Answers table))) = P table
 HoldsTable P _ = ⊥
 
--- the names and the answers are the old ones
+-- the names, the answers and the site are the old ones
 abbrev pub IsSameTable : Answers → Answers → Type 0
 IsSameTable old new = (filter_names new ≡ filter_names old)
-    × ((call : Datum) → answer_at new call ≡ answer_at old call)
+    × ((call : Datum) → answer_at new call ≡ answer_at old call) × (site_of new ≡ site_of old)
 
 -- the table changed as R says;  or memory ran out, and nothing changed
 pub data ChangesTable (R : Answers → Answers → Type 0) (old : Answers) (number : ℕ)
@@ -54,7 +55,7 @@ pub data ChangesTable (R : Answers → Answers → Type 0) (old : Answers) (numb
 -- the table has the name too
 abbrev pub HasName : Text → Answers → Answers → Type 0
 HasName name old new = (filter_names new ≡ with_name name (filter_names old))
-    × ((call : Datum) → answer_at new call ≡ answer_at old call)
+    × ((call : Datum) → answer_at new call ≡ answer_at old call) × (site_of new ≡ site_of old)
 
 abbrev pub IsNaming : Option HandleContent → List ℕ → ℕ → Option HandleContent → Type 0
 IsNaming (Some (Own (content.Answers table))) name number left =
@@ -107,7 +108,7 @@ kinds_of_runs = kind.UnknownVariable ∷ kind.InvalidInput ∷ kind.InvalidArgum
 abbrev pub StoresAnswer : Datum → Result Datum ErrorKind → Answers → Answers → Type 0
 StoresAnswer call said old new = (answer : Answer) × (said_by answer ≡ said) ×
     IsAnswerStored old call answer new
-    × (filter_names new ≡ filter_names old)
+    × (filter_names new ≡ filter_names old) × (site_of new ≡ site_of old)
 
 abbrev pub IsAnswering : Option HandleContent → Result Datum Refusal
     → Result (Result Datum ErrorKind) Refusal → ℕ → Option HandleContent → Type 0

@@ -1,6 +1,6 @@
 //! What a caller reads from a handle.
 ghost use Rattle.std.specs.Prelude.{◌≡◌, ◌++◌, drop, length, min, option_map, take};
-ghost use Rattle.liquid_c.specs.Parts.{located, location_in, location_of_fault, message_bytes};
+ghost use Rattle.liquid_c.specs.Parts.{located, location_in, location_of_fault};
 ghost use Rattle.liquid_c.specs.Parts.{number_of_origin, part_in, part_of_handle, part_of_fault};
 ghost use Rattle.liquid_c.specs.Parts.{partial_of_location};
 ghost use Rattle.liquid_c.specs.Shared.{shared_content};
@@ -108,7 +108,7 @@ fn part_of(fault: &Error, part: u32) -> &str
     ensures { result.now ≡ part_of_fault part fault.now }
 {
     if part == 1 {
-        return message_of(fault);
+        return fault.message_text();
     }
     if part == 2 {
         return fault.kind.name();
@@ -117,15 +117,6 @@ fn part_of(fault: &Error, part: u32) -> &str
         return partial_of(fault);
     }
     ""
-}
-
-fn message_of(fault: &Error) -> &str
-    ensures { result.now ≡ message_bytes fault.now.message }
-{
-    match &fault.message {
-        Some(message) => message.as_str(),
-        None => "",
-    }
 }
 
 fn location_of(fault: &Error) -> Option<&Location>

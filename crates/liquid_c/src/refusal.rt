@@ -24,6 +24,14 @@ pub enum Refusal {
     SharedHandle,
     /// A number that says nothing of missing values.
     NoSuchMissing,
+    /// A name of a tag that is no word.
+    NoWord,
+    /// A name of a tag that blocks have a use of.
+    ReservedName,
+    /// A name at which the language has a tag or block of its own.
+    TakenName,
+    /// A number that stands for no style.
+    NoSuchStyle,
 }
 
 impl Refusal {
@@ -38,6 +46,10 @@ impl Refusal {
             Refusal::NoSuchCall => 107,
             Refusal::SharedHandle => 108,
             Refusal::NoSuchMissing => 109,
+            Refusal::NoWord => 110,
+            Refusal::ReservedName => 111,
+            Refusal::TakenName => 112,
+            Refusal::NoSuchStyle => 113,
         }
     }
 }

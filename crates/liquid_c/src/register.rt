@@ -1,7 +1,9 @@
 //! Languages of the caller's choice.
-ghost use Rattle.std.specs.Prelude.{◌≡◌, IfErr, IfOk, option_map};
-ghost use Rattle.liquid_c.specs.Languages.{IsRegistration, MakesIncludeAndSort, RegistersFilter};
-ghost use Rattle.liquid_c.specs.Languages.{WithIncludeAndSort};
+ghost use Rattle.std.specs.Prelude.{◌≡◌, [], IfErr, IfOk, None, OnOk, codes, option_map};
+ghost use Rattle.liquid_language.specs.HostNames.{name_refusal};
+ghost use Rattle.liquid_language.specs.HostTags.{numbers_of};
+ghost use Rattle.liquid_c.specs.Languages.{HasOwnHighlight, IsJekylls, IsRegistration};
+ghost use Rattle.liquid_c.specs.Languages.{MakesJekylls, RegistersFilter};
 ghost use Rattle.liquid_c.specs.ResultStored.{ResultStored};
 ghost use Rattle.liquid_c.specs.Shared.{Regaining};
 ghost use Rattle.std.specs.Prelude.{Some};
@@ -12,31 +14,33 @@ use crate::content::Content;
 use crate::handle::Handle;
 use crate::handle_content::HandleContent;
 use crate::refusal::{Refusal, store_result};
-use liquid_core::{ErrorKind, Result as Answer};
+use liquid_answers::highlight_name;
+use liquid_core::{Error, ErrorKind, Result as Answer};
 use liquid_filters::FilterKind;
-use liquid_language::{Language, TagKind, language};
-use std::alloc::Global;
+use liquid_language::{HostBlock, Language, Style, TagError, TagKind, language};
+use std::alloc::{AllocError, Global};
 
 /// Makes Jekyll's language: the standard one with Jekyll's `include`, which takes a path without
-/// quotes, and `sort`, and without the white space of blocks that write nothing. 0, or `Memory`.
+/// quotes, its block `highlight` and its `sort`, and without the white space of blocks that write
+/// nothing. 0, or `Memory`.
 #[unsafe(no_mangle)]
 pub extern "C" fn bikleinu_jekyll_language(alloc: Global, made: &mut Handle) -> u32
-    ensures { ResultStored MakesIncludeAndSort result made.new.held }
+    ensures { ResultStored MakesJekylls result made.new.held }
 {
-    store_result(alloc, include_and_sort(alloc), made)
+    store_result(alloc, jekylls(alloc), made)
 }
 
-fn include_and_sort(alloc: Global) -> Result<Content, Refusal>
-    ensures { MakesIncludeAndSort result }
+fn jekylls(alloc: Global) -> Result<Content, Refusal>
+    ensures { MakesJekylls result }
 {
-    match with_include_and_sort(alloc) {
+    match jekyll_language(alloc) {
         Ok(language) => Ok(Content::Language(language)),
         Err(fault) => Ok(Content::Fault(fault)),
     }
 }
 
-fn with_include_and_sort(alloc: Global) -> Answer<Language>
-    ensures language { IfOk result WithIncludeAndSort }
+fn jekyll_language(alloc: Global) -> Answer<Language>
+    ensures language { IfOk result IsJekylls }
     ensures memory { IfErr result (λ e. e.kind ≡ ErrorKind.Memory) }
 {
     let mut language = language(alloc)?;
@@ -46,7 +50,38 @@ fn with_include_and_sort(alloc: Global) -> Answer<Language>
     language.drops_blanks = true;
     let sort = String::from_str(alloc, "sort")?;
     language.filters.register(sort, FilterKind::JekyllSort)?;
+    let highlight = String::from_str(alloc, highlight_name())?;
+    language.filters.register_host(highlight, 1, 1)?;
+    register_highlight(alloc, &mut language)?;
     Ok(language)
+}
+
+/// Registers the block `highlight`, whose filter needs no table of the caller's. `Memory` where a
+/// growth was refused.
+fn register_highlight(alloc: Global, language: &mut Language) -> Answer<()>
+    requires allowed { name_refusal language.old (codes "highlight") ≡ None }
+    requires alone { numbers_of language.old.host_tags ≡ [] }
+    ensures highlight { OnOk result (HasOwnHighlight language.new) }
+    ensures memory { IfErr result (λ e. e.kind ≡ ErrorKind.Memory) }
+    ensures tags { language.new.tags ≡ language.old.tags }
+    ensures blocks { language.new.blocks ≡ language.old.blocks }
+    ensures filters { language.new.filters ≡ language.old.filters }
+    ensures include_paths { language.new.include_paths ≡ language.old.include_paths }
+    ensures drops_blanks { language.new.drops_blanks ≡ language.old.drops_blanks }
+    ensures escapes_html { language.new.escapes_html ≡ language.old.escapes_html }
+{
+    let name = String::from_str(alloc, "highlight")?;
+    let filter = String::from_str(alloc, highlight_name())?;
+    let block = HostBlock {
+        filter,
+        style: Style::Text,
+        given: Vec::new(alloc),
+    };
+    match language.register_block(alloc, name, block) {
+        Ok(()) => Ok(()),
+        Err(TagError::Memory) => Err(Error::from(AllocError)),
+        Err(TagError::Refused(_)) => unreachable!(),
+    }
 }
 
 /// Registers a filter of the caller's in a language, at a name and with the least and the greatest

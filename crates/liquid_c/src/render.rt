@@ -16,8 +16,9 @@ use crate::handle::Handle;
 use crate::handle_content::held_content;
 use crate::levels::TemplateLevels;
 use crate::refusal::{Refusal, store_result};
+use liquid_answers::OwnFilters;
 use liquid_core::{Missing, Object};
-use liquid_engine::{LimitedPage, RunSetting, Surroundings, render_page_by, render_page_within};
+use liquid_engine::{LimitedPage, RunSetting, Surroundings, render_hosted_page};
 use liquid_syntax::{Partials, Template};
 use std::alloc::Global;
 use std::collections::BTreeMap;
@@ -252,8 +253,17 @@ fn unlimited_page(
     ensures { ShowsNodes (tree_of template.now) setting
         (map_held «data».now) (partials_of partials.now) (Ok result) }
 {
-    match render_page_by(alloc, template, partials, setting, data) {
-        Ok(page) => Content::Page(page),
+    let around = Surroundings {
+        partials,
+        depth: setting.depth,
+        missing: setting.missing,
+        limits: liquid_engine::Limits {
+            bytes: None,
+            turns: None,
+        },
+    };
+    match render_hosted_page(alloc, template, &OwnFilters, around, data) {
+        Ok(LimitedPage { page, limit: _ }) => Content::Page(page),
         Err(fault) => Content::Fault(fault),
     }
 }
@@ -269,7 +279,8 @@ fn limited(
     ensures { ShowsWithin (tree_of template.now) allowed.setting
         (map_held «data».now) (partials_of partials.now) (Ok result) }
 {
-    match render_page_within(alloc, template, around(partials, allowed), data) {
+    let around = around(partials, allowed);
+    match render_hosted_page(alloc, template, &OwnFilters, around, data) {
         Ok(LimitedPage { page, limit }) => match limit {
             None => Content::Page(page),
             Some(limit) => Content::Ended(page, limit),

@@ -2,18 +2,14 @@
 --     faults_said findings      those that follow from no earlier one
 --     SaysAll findings warnings remarks      the warnings and these faults are said, and no more
 use Rattle.std.specs.Prelude.{◌≡◌, ℕ, false, cond, List, [], ◌∷◌, ◌++◌}
-use Rattle.std.specs.Prelude.{Option, Some, None, option_map, string_bytes}
+use Rattle.std.specs.Prelude.{Option, Some, None, option_map}
 use Rattle.std.specs.List.Sorted.{IsPermutation}
 use Rattle.liquid_model.specs.ErrorKinds.{name_of}
-use Rattle.liquid_model.specs.Texts.{Text}
+use Rattle.liquid_model.specs.Errors.{message_text}
 use Rattle.liquid_model.specs.declared.error.Error.{Error}
 use Rattle.liquid_check.specs.declared.findings.Finding.{Finding}
 use Rattle.liquid_warnings.specs.Remarks.{Said, all_said}
 use Rattle.liquid_warnings.specs.declared.remark.Remark.{Remark}
-
-abbrev pub message_said : Option Text → Text
-message_said None = []
-message_said (Some m) = m
 
 -- a line and a column; those of the start where there is no location
 abbrev pub place_said : Option (ℕ × ℕ) → ℕ × ℕ
@@ -29,7 +25,7 @@ fault_said f = record {
   column = (fault_place f.fault).1;
   kind = name_of f.fault.kind;
   is_warning = false;
-  message = message_said (option_map string_bytes f.fault.message);
+  message = message_text f.fault.message;
 }
 
 abbrev pub faults_said : List Finding → List Said

@@ -24,13 +24,6 @@ pub(crate) fn file_id(rt: &HostRuntime, path: &str) -> Result<FileId, AllocError
     }
 }
 
-pub(crate) fn is_folder(rt: &HostRuntime, path: &str) -> bool {
-    match fs::metadata(rt, path) {
-        Ok(found) => found.is_dir(),
-        Err(_) => false,
-    }
-}
-
 /// Whether a folder is inside one of others, and isn't one of them.
 pub(crate) fn is_inside(
     rt: &HostRuntime,

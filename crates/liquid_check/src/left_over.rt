@@ -1,6 +1,6 @@
 //! Ends and beginnings of blocks that are left over once a tag with a fault is text.
 use liquid_core::{ErrorKind, more_similar};
-use liquid_language::{BlockKind, HostKind, Language};
+use liquid_language::{BlockKind, HostKind, Language, begins_with_end};
 use std::alloc::{AllocError, Global};
 
 /// A tag with a fault: the kind of the fault, the tag's name, and where it stands.
@@ -59,7 +59,7 @@ impl<'s> LeftOver<'s> {
                 Some(end) => self.take_end(alloc, end, wrong.start),
                 None => Ok(false),
             },
-            ErrorKind::UnknownTag if is_end(wrong.name) => {
+            ErrorKind::UnknownTag if begins_with_end(wrong.name) => {
                 if self.take_begun(alloc, wrong)? {
                     return Ok(true);
                 }
@@ -170,14 +170,6 @@ impl Begun<'_> {
 /// Whether a name may be another one, misspelt.
 fn is_similar(alloc: Global, name: &str, meant: &str) -> Result<bool, AllocError> {
     Ok(more_similar(alloc, name, meant, None)?.is_some())
-}
-
-/// Whether a name is meant as the end of a block.
-fn is_end(name: &str) -> bool {
-    match name.get(..3) {
-        Some(front) => front.eq_ignore_ascii_case("end"),
-        None => false,
-    }
 }
 
 fn is_control(name: &str) -> bool {

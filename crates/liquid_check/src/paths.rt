@@ -1,7 +1,7 @@
 //! The files that a call of `check` names.
-use crate::file_id::{FileId, file_id, is_folder, is_inside};
+use crate::file_id::{FileId, file_id, is_inside};
 use liquid_commands::{CheckCall, Selection, Stop, files_below, print_left_out};
-use liquid_files::{LeftOut, PartialNames, ShownPath, joined_path, named_file};
+use liquid_files::{LeftOut, PartialNames, ShownPath, is_folder, joined_path, named_file};
 use std::alloc::AllocError;
 use std::collections::BTreeMap;
 
@@ -141,7 +141,7 @@ impl Paths {
         let mut places = Vec::new(rt.alloc());
         for file in files {
             let place = self.add_found(rt, folder, file.as_str())?;
-            if !keeps_pages {
+            if !self.has_folder || !keeps_pages {
                 self.set_page(place, !self.has_folder);
             }
             places.push((file, place))?;

@@ -1,7 +1,6 @@
 //! All that is said of a template.
-ghost use Rattle.std.specs.Prelude.{◌≡◌, ◌++◌, IfOk, option_map, string_bytes};
+ghost use Rattle.std.specs.Prelude.{◌≡◌, ◌++◌, IfOk};
 ghost use Rattle.liquid_check.specs.Findings.{SaysAll, fault_place, fault_said, faults_said};
-ghost use Rattle.liquid_check.specs.Findings.{message_said};
 ghost use Rattle.liquid_warnings.specs.Remarks.{all_said, remark_view};
 
 use crate::findings::Finding;
@@ -54,7 +53,7 @@ fn fault_remark(alloc: Global, finding: &Finding) -> Result<Remark, AllocError>
         column,
         kind: fault.kind.name(),
         is_warning: false,
-        message: String::from_str(alloc, message_of(fault))?,
+        message: String::from_str(alloc, fault.message_text())?,
     })
 }
 
@@ -65,14 +64,5 @@ fn place_of(fault: &Error) -> (usize, usize)
     match &fault.location {
         Some(location) => (location.line, location.column),
         None => (1, 1),
-    }
-}
-
-fn message_of(fault: &Error) -> &str
-    ensures { result.now ≡ message_said (option_map string_bytes fault.now.message) }
-{
-    match &fault.message {
-        Some(message) => message.as_str(),
-        None => "",
     }
 }

@@ -32,6 +32,8 @@ pub struct CheckCall<'w> {
     pub partials: Vec<&'w str>,
     /// The set of filters that templates call.
     pub filters: Option<FilterSet>,
+    /// Whether outputs are escaped for HTML.
+    pub escapes_html: bool,
     pub format: DiagnosticFormat,
     /// Whether outputs in attributes are looked at.
     pub attributes: bool,
@@ -49,6 +51,7 @@ const ARGUMENTS: &[Argument] = &[
     Argument::Define,
     Argument::Partials,
     Argument::Filters,
+    Argument::Escape,
     Argument::ReportFormat,
     Argument::Warn,
     Argument::Strict,
@@ -82,6 +85,7 @@ pub fn check_call<'w>(alloc: Global, given: &ArgMatches<'w>) -> Result<CheckCall
         forms: Forms::given(given),
         partials,
         filters: filter_set(given.get_str("filters")),
+        escapes_html: given.get_str("escape").is_some(),
         format: format_of(given.get_str("format")),
         attributes: given.get_str("warn").is_some(),
         is_strict: given.get_flag("strict"),

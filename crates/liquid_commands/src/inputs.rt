@@ -52,6 +52,8 @@ pub struct Inputs<'w> {
     pub partials: Vec<&'w str>,
     /// The set of filters that templates call.
     pub filters: Option<FilterSet>,
+    /// Whether outputs are escaped for HTML.
+    pub escapes_html: bool,
     /// What stands before the files of Shopify's theme in their addresses.
     pub assets: Option<&'w str>,
 }
@@ -92,6 +94,7 @@ fn files_of<'w>(
         forms: Forms::given(given),
         partials: partials_of(alloc, given)?,
         filters,
+        escapes_html: given.get_str("escape").is_some(),
         assets: assets_of(given, filters)?,
     })
 }

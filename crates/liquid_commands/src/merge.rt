@@ -65,6 +65,7 @@ const ARGUMENTS: &[Argument] = &[
     Argument::Partials,
     Argument::Filters,
     Argument::Assets,
+    Argument::Escape,
     Argument::RecordsFormat,
     Argument::Delimiter,
     Argument::Cells,

@@ -97,6 +97,16 @@ pub(crate) fn assets<'a>(alloc: Global) -> Arg<'a> {
     )
 }
 
+pub(crate) fn escape<'a>(alloc: Global) -> Arg<'a> {
+    option(
+        alloc,
+        "escape",
+        "FOR",
+        "Escapes what outputs and cycle write, but where an output ends with | raw",
+    )
+    .value_parser(ESCAPES)
+}
+
 pub(crate) fn page_file<'a>(alloc: Global) -> Arg<'a> {
     option(
         alloc,
@@ -340,6 +350,9 @@ pub(crate) fn now<'a>(alloc: Global) -> Arg<'a> {
 
 /// The names of the sets of filters.
 const SETS: &[&str] = &["decimals", "jekyll", "shopify"];
+
+/// What text may be escaped for.
+const ESCAPES: &[&str] = &["html"];
 
 /// What a missing value may be.
 const MISSING: &[&str] = &["fault", "nil"];

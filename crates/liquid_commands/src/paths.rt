@@ -27,6 +27,7 @@ const ARGUMENTS: &[Argument] = &[
     Argument::Template,
     Argument::Partials,
     Argument::Filters,
+    Argument::Escape,
     Argument::PathsFormat,
 ];
 

@@ -31,6 +31,7 @@ const ARGUMENTS: &[Argument] = &[
     Argument::Partials,
     Argument::Filters,
     Argument::Assets,
+    Argument::Escape,
     Argument::PageFile,
     Argument::Quiet,
     Argument::Missing,

@@ -66,13 +66,6 @@ required x e = nil_if_missing e.missing (value_of x e)
 abbrev pub sought : Expression → Environment → Result (Option Datum) ErrorKind
 sought x e = none_if_missing e.missing (value_of x e)
 
-unfoldable pub all_required : List Expression → Environment → Result (List Datum) ErrorKind
-all_required [] e = Ok []
-all_required (x ∷ xs) e = do
-  d ← required x e
-  ds ← all_required xs e
-  Ok (d ∷ ds)
-
 -- nil is no whole number, and counts as none where a missing value is nil
 abbrev pub whole_found : Missing → Option Datum → Result (Option ℤ) ErrorKind
 whole_found missing None = Ok None

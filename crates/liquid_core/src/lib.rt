@@ -30,6 +30,6 @@ pub use liquid_model::{
 };
 pub use missing_value::Missing;
 pub use resolved::{DirectValue, Resolved, Scopes};
-pub use similar_name::{SimilarName, more_similar};
+pub use similar_name::{SimilarName, more_likely, more_similar};
 pub use spelled::Spelled;
 pub use state::{Data, Parts, State};

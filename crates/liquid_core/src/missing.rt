@@ -5,7 +5,7 @@ use crate::expression::{Expression, Variable, expression_value};
 use crate::foreign_name::{filter_meant, is_file_suffix, is_of_data, name_meant};
 use crate::frame::{LoopFrame, LoopKind, Scope};
 use crate::resolved::Resolved;
-use crate::similar_name::{SimilarName, more_similar};
+use crate::similar_name::{SimilarName, may_be_more_similar, more_likely};
 use crate::spelled::{Spelled, SpelledPath};
 use crate::state::State;
 use crate::step_kind::{Kind, kind_of, kind_word};
@@ -16,6 +16,10 @@ use std::fmt::Write;
 /// The most names that are compared with a missing one, so that the search is short, whatever the
 /// data holds.
 const MOST_NAMES: usize = 2000;
+
+/// Counting the edits between two names takes as long as a look at the letters of so many: edits
+/// are counted for a hundred names at most.
+const NAMES_FOR_EDITS: usize = 20;
 
 /// What to do about a path that has no value.
 const CHECK_SPELLING: &str = "; check its spelling, or test for it with `if`";
@@ -43,7 +47,7 @@ static LOOP_PARTS: [&str; 8] = [
 struct Search<'n, 'm> {
     meant: &'m str,
     similar: Option<SimilarName<'n>>,
-    /// How many names may still be compared.
+    /// How many names may still be looked at.
     left: usize,
 }
 
@@ -57,11 +61,12 @@ impl<'n, 'm> Search<'n, 'm> {
     }
 
     fn look(&mut self, alloc: Global, name: &'n str) -> Result<(), AllocError> {
-        if self.left > 0 {
-            self.left -= 1;
-            let similar = more_similar(alloc, name, self.meant, self.similar)?;
-            self.similar = likely(similar, self.meant);
+        if self.left == 0 || !may_be_more_similar(name, self.meant, self.similar) {
+            self.left = self.left.saturating_sub(1);
+            return Ok(());
         }
+        self.left = self.left.saturating_sub(NAMES_FOR_EDITS);
+        self.similar = more_likely(alloc, name, self.meant, self.similar)?;
         Ok(())
     }
 
@@ -73,14 +78,6 @@ impl<'n, 'm> Search<'n, 'm> {
             self.look(alloc, name.as_str())?;
         }
         Ok(())
-    }
-}
-
-/// A name that is similar to one that is meant, where at most a third of its letters are edited.
-fn likely<'n>(similar: Option<SimilarName<'n>>, meant: &str) -> Option<SimilarName<'n>> {
-    match similar {
-        Some(found) if found.edits.saturating_mul(3) <= meant.len() => Some(found),
-        _ => None,
     }
 }
 

@@ -28,20 +28,50 @@ pub fn more_similar<'n>(
     similar: Option<SimilarName<'n>>,
 ) -> Result<Option<SimilarName<'n>>, AllocError> {
     let most = most_edits(meant, similar);
-    if meant.is_empty() || meant.len() > LONGEST || name.len().abs_diff(meant.len()) > most {
+    if !may_be_similar(name, meant, most) {
         return Ok(similar);
     }
     if name.eq_ignore_ascii_case(meant) {
         return Ok(Some(SimilarName { name, edits: 0 }));
-    }
-    if have_other_letters(name, meant, most) {
-        return Ok(similar);
     }
     let edits = generic_damerau_levenshtein(alloc, name.as_bytes(), meant.as_bytes())?;
     if edits > most {
         return Ok(similar);
     }
     Ok(Some(SimilarName { name, edits }))
+}
+
+/// The same, where at least three letters of `meant` stand for each edit: a name that is likely
+/// meant.
+pub fn more_likely<'n>(
+    alloc: Global,
+    name: &'n str,
+    meant: &str,
+    likely: Option<SimilarName<'n>>,
+) -> Result<Option<SimilarName<'n>>, AllocError> {
+    match more_similar(alloc, name, meant, likely)? {
+        Some(found) if found.edits.saturating_mul(3) <= meant.len() => Ok(Some(found)),
+        _ => Ok(None),
+    }
+}
+
+/// Whether a name's length and letters leave it open that it is more similar to `meant` than the
+/// one that was found before. This costs a small part of what counting the edits does, and few
+/// pairs of names pass it.
+pub(crate) fn may_be_more_similar(
+    name: &str,
+    meant: &str,
+    similar: Option<SimilarName<'_>>,
+) -> bool {
+    may_be_similar(name, meant, most_edits(meant, similar))
+}
+
+/// The same for at most so many edits.
+fn may_be_similar(name: &str, meant: &str, most: usize) -> bool {
+    if meant.is_empty() || meant.len() > LONGEST || name.len().abs_diff(meant.len()) > most {
+        return false;
+    }
+    name.eq_ignore_ascii_case(meant) || !have_other_letters(name, meant, most)
 }
 
 /// The most edits between `meant` and a name that is more similar to it than the one that was found
@@ -55,8 +85,7 @@ fn most_edits(meant: &str, similar: Option<SimilarName<'_>>) -> usize {
 }
 
 /// Whether the letters of two names alone show that more edits than these lie between them: an edit
-/// brings at most one letter that wasn't there, and takes at most one away. This costs a small part
-/// of what counting the edits does, and few pairs of names pass it.
+/// brings at most one letter that wasn't there, and takes at most one away.
 fn have_other_letters(name: &str, meant: &str, most: usize) -> bool {
     let name = letters_of(name);
     let meant = letters_of(meant);

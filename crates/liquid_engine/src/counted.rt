@@ -66,7 +66,8 @@ pub trait CountedWrite {
         ensures kept { result ≡ false → left self.new ≡ left self.old };
 
     /// Whether a run may hold this many bytes more: of a text that goes into a buffer, as the body
-    /// of a `capture` or an `ifchanged`, of a filter's answer, or of a value that `assign` stores.
+    /// of a `capture` or an `ifchanged`, of a filter's answer, of a value that `assign` stores or a
+    /// pair passes, or of a list that a loop copies.
     fn room(&mut self, bytes: usize) -> bool
         ensures same { contents self.new ≡ contents self.old }
         ensures goes_on { result ≡ true → failure_count self.new ≡ failure_count self.old }

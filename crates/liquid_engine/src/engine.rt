@@ -29,7 +29,8 @@ use crate::counters::{run_decrement, run_increment};
 use crate::cycle::run_cycle;
 use crate::fault_location::{in_partial, located};
 use crate::node_ends::next_after;
-use crate::node_turns::{run_no_nodes, turns_of_node};
+use crate::node_grants::grant_node;
+use crate::node_turns::run_no_nodes;
 use crate::output::{Output, Turns};
 use crate::output_and_assign::{run_assign, run_output, run_raw, run_text};
 use crate::partial::{enter_include, enter_jekyll_include};
@@ -83,7 +84,7 @@ pub(crate) fn run_range<'d, W: CountedWrite, H: NamedFilters>(
             at += 1;
             continue;
         }
-        let turns = turns_of_node(alloc, nodes, at, to, out)?;
+        let turns = grant_node(alloc, nodes, at, to, out, state)?;
         if let Err(fault) = run_node(alloc, context, nodes, at, to, turns, out, state) {
             return Err(located(alloc, context, nodes, at, state, fault));
         }

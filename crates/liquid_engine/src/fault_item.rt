@@ -140,8 +140,11 @@ fn item_of_chain<H: NamedFilters>(
     };
     let mut index: usize = 0;
     for stored in &chain.filters {
-        if let Some(argument) = first_missing(alloc, &stored.arguments, state)? {
-            return Ok(PieceItem::Argument(index, argument));
+        match first_missing(alloc, &stored.arguments, state)? {
+            Some(argument) if argument < stored.required => {
+                return Ok(PieceItem::Argument(index, argument));
+            }
+            _ => {}
         }
         value = match stored.apply(alloc, &value, state, host) {
             Ok(next) => next,

@@ -21,6 +21,7 @@ mod laws;
 mod limits;
 mod loop_setup;
 mod node_ends;
+mod node_grants;
 mod node_turns;
 mod output;
 mod output_and_assign;

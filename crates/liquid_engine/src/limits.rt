@@ -17,9 +17,10 @@ use std::io;
 pub struct Limits {
     /// How many bytes it may write and hold: those of each text that it writes, to its writer, its
     /// page or the body of a `capture`, an `ifchanged` or a block of the host, of each answer of a
-    /// filter, and of each value that `assign` stores. A list or a map takes the bytes of its
-    /// parts, and 32 more for each item or pair. So what a filter answers takes its bytes again
-    /// where it is written or assigned, and so does a captured text that is written.
+    /// filter, of each value that `assign` stores or a pair of a partial passes, and of each list
+    /// beyond the data that a loop goes over. A list or a map takes the bytes of its parts, and 32
+    /// more for each item or pair. So what a filter answers takes its bytes again where it is
+    /// written or assigned, and so does a captured text that is written.
     pub bytes: Option<u64>,
     /// How many turns it may take. Each node takes one when it runs, and one more for each filter,
     /// each comparison of a condition, each value of a `when` and each pair of a partial that is

@@ -138,6 +138,9 @@ impl<'w, W: CountedWrite> Output<'w, W> {
         ensures refused { OnErr result (Cut result []
             (sink_of W.contents W.failure_count self.old)
             (sink_of W.contents W.failure_count self.new)) }
+        ensures stopped { OnErr result (OneFailed
+            (sink_of W.contents W.failure_count self.old).failures
+            (sink_of W.contents W.failure_count self.new).failures) }
         ensures same_writer { self.new.writer.ghost_name ≡ self.old.writer.ghost_name }
     {
         if !self.counts_bytes() || self.writer.room(value_size(value)) {
@@ -208,7 +211,7 @@ fn refused_value(alloc: Global) -> Error
     Error::new(
         alloc,
         ErrorKind::Write,
-        "the writer left fewer bytes than a filter's answer or an assigned value takes",
+        "the writer left fewer bytes than a filter's answer or a value takes",
     )
 }
 

@@ -1,12 +1,13 @@
 -- Chains of filters, call by call.
-use Rattle.std.proofs.Common.{◌≡◌, ℕ, ◌+◌, ◌<◌, ◌≤◌, List, [], ◌∷◌, ◌++◌, length, drop, map, get_or, Bool, true, false, MatchBool, Option, Some, None, Result, Ok, Err, arith, refl, sym, ap, ◌∙◌, subst, append_assoc, append-nil}
+use Rattle.std.proofs.Common.{◌≡◌, ℕ, zero, suc, ◌+◌, ◌-◌, ◌<◌, ◌≤◌, List, [], ◌∷◌, ◌++◌, length, drop, map, get_or, Bool, true, false, MatchBool, Option, Some, None, Result, Ok, Err, arith, refl, sym, ap, ◌∙◌, subst, append_assoc, append-nil}
 use Rattle.std.specs.Bool.{⊤}
+use Rattle.std.specs.Option.{unwrap_or}
 use Rattle.std.proofs.lemmas.List.{drop_more, drop_all}
 use Rattle.std.specs.List.{list_all}
 use Rattle.std.proofs.lemmas.List.Sums.{AllPass-from_list_all}
 use Rattle.liquid_model.specs.Answer.{Answers, Faulted}
 use Rattle.liquid_model.specs.ErrorKinds.{IsKindOrMemory, is_memory, is_refusal}
-use Rattle.liquid_model.specs.Data.{Datum, number, truth}
+use Rattle.liquid_model.specs.Data.{Datum, nil, number, truth}
 use Rattle.liquid_model.specs.declared.error.Error.{Error}
 use Rattle.liquid_model.specs.declared.error.ErrorKind.{ErrorKind}
 use Rattle.liquid_model.specs.declared.value.Value.{Value}
@@ -14,12 +15,12 @@ use Rattle.liquid_model.specs.View.{view}
 use Rattle.liquid_model.specs.Fallible.{◌>>=◌}
 use Rattle.liquid_core.specs.Expression as tree
 use Rattle.liquid_core.specs.Environment.{Environment}
-use Rattle.liquid_core.specs.Expressions.{value_of, required, all_required}
+use Rattle.liquid_core.specs.Expressions.{nil_if_missing, value_of, required}
 use Rattle.liquid_model.specs.FilterAnswers.{AnswersIf}
 use Rattle.liquid_core.specs.DirectValues.{DirectlyIs}
 use Rattle.liquid_core.specs.declared.resolved.DirectValue.{DirectValue}
 use Rattle.liquid_core.specs.declared.resolved.DirectValue.TheVariants.{Held, Number, Truth, Loop, Nothing, Unknown}
-use Rattle.liquid_evaluation.specs.Calls.{Call, applied}
+use Rattle.liquid_evaluation.specs.Calls.{Call, applied, taken_argument, taken_arguments}
 use Rattle.liquid_evaluation.specs.DirectValues.{ChainDirectlyIs}
 use Rattle.liquid_evaluation.specs.Tree.{FilterCall, Chain}
 use Rattle.liquid_evaluation.specs.Evaluation.{FilterAnswers, answers_in, entry_value, call_by, calls_by, chain_value}
@@ -89,35 +90,35 @@ cons_then : (r : Result (List Datum) ErrorKind) (done : List Datum) (d : Datum)
 cons_then (Ok ds) done d = ap Ok (sym (append_assoc done (d ∷ []) ds))
 cons_then (Err kind) done d = refl
 
-next_argument : {X : Type 0} (f : X → tree.Expression) (e : Environment) (xs : List X) (i : ℕ) (x : X) (done : List Datum) → i < length xs → x ≡ get_or xs i x
-    → (all_required (map f (drop i xs)) e >>= (λ ds. Ok (done ++ ds)))
-    ≡ ((required (f x) e >>= (λ d. all_required (map f (drop (i + 1) xs)) e >>= (λ ds. Ok (d ∷ ds)))) >>= (λ ds. Ok (done ++ ds)))
-unfolding all_required
-next_argument f e xs i x done h is =
-    ap (λ y. all_required (map f y) e >>= (λ ds. Ok (done ++ ds))) (drop_more xs i x h ∙ ap (λ y. y ∷ drop (i + 1) xs) (sym is))
+next_argument : {X : Type 0} (f : X → tree.Expression) (e : Environment) (xs : List X) (n i : ℕ) (x : X) (done : List Datum) → i < length xs → x ≡ get_or xs i x
+    → (taken_arguments n (map f (drop i xs)) e >>= (λ ds. Ok (done ++ ds)))
+    ≡ ((taken_argument n (f x) e >>= (λ d. taken_arguments (n - 1) (map f (drop (i + 1) xs)) e >>= (λ ds. Ok (d ∷ ds)))) >>= (λ ds. Ok (done ++ ds)))
+unfolding taken_arguments
+next_argument f e xs n i x done h is =
+    ap (λ y. taken_arguments n (map f y) e >>= (λ ds. Ok (done ++ ds))) (drop_more xs i x h ∙ ap (λ y. y ∷ drop (i + 1) xs) (sym is))
 
-pub arguments_more : {X : Type 0} (f : X → tree.Expression) (all : Result (List Datum) ErrorKind) (e : Environment) (xs : List X) (i : ℕ) (x : X) (done : List Datum) (d : Datum)
-    → i < length xs → x ≡ get_or xs i x → required (f x) e ≡ Ok d
-    → all ≡ (all_required (map f (drop i xs)) e >>= (λ ds. Ok (done ++ ds)))
-    → all ≡ (all_required (map f (drop (i + 1) xs)) e >>= (λ ds. Ok ((done ++ d ∷ []) ++ ds)))
-arguments_more f all e xs i x done d h is v so_far =
-    so_far ∙ next_argument f e xs i x done h is
-    ∙ ap (λ r. (r >>= (λ d. all_required (map f (drop (i + 1) xs)) e >>= (λ ds. Ok (d ∷ ds)))) >>= (λ ds. Ok (done ++ ds))) v
-    ∙ cons_then (all_required (map f (drop (i + 1) xs)) e) done d
+pub arguments_more : {X : Type 0} (f : X → tree.Expression) (all : Result (List Datum) ErrorKind) (e : Environment) (xs : List X) (n i : ℕ) (x : X) (done : List Datum) (d : Datum)
+    → i < length xs → x ≡ get_or xs i x → taken_argument n (f x) e ≡ Ok d
+    → all ≡ (taken_arguments n (map f (drop i xs)) e >>= (λ ds. Ok (done ++ ds)))
+    → all ≡ (taken_arguments (n - 1) (map f (drop (i + 1) xs)) e >>= (λ ds. Ok ((done ++ d ∷ []) ++ ds)))
+arguments_more f all e xs n i x done d h is v so_far =
+    so_far ∙ next_argument f e xs n i x done h is
+    ∙ ap (λ r. (r >>= (λ d. taken_arguments (n - 1) (map f (drop (i + 1) xs)) e >>= (λ ds. Ok (d ∷ ds)))) >>= (λ ds. Ok (done ++ ds))) v
+    ∙ cons_then (taken_arguments (n - 1) (map f (drop (i + 1) xs)) e) done d
 
-pub arguments_stop : {X : Type 0} (f : X → tree.Expression) (all : Result (List Datum) ErrorKind) (e : Environment) (xs : List X) (i : ℕ) (x : X) (done : List Datum) (kind : ErrorKind)
-    → i < length xs → x ≡ get_or xs i x → Faulted kind (required (f x) e)
-    → all ≡ (all_required (map f (drop i xs)) e >>= (λ ds. Ok (done ++ ds)))
+pub arguments_stop : {X : Type 0} (f : X → tree.Expression) (all : Result (List Datum) ErrorKind) (e : Environment) (xs : List X) (n i : ℕ) (x : X) (done : List Datum) (kind : ErrorKind)
+    → i < length xs → x ≡ get_or xs i x → Faulted kind (taken_argument n (f x) e)
+    → all ≡ (taken_arguments n (map f (drop i xs)) e >>= (λ ds. Ok (done ++ ds)))
     → Faulted kind all
-arguments_stop f all e xs i x done kind h is v so_far =
-    faulted_as kind all _ (so_far ∙ next_argument f e xs i x done h is)
-    (faulted_then kind _ (λ ds. Ok (done ++ ds)) (faulted_then kind (required (f x) e) (λ d. all_required (map f (drop (i + 1) xs)) e >>= (λ ds. Ok (d ∷ ds))) v))
+arguments_stop f all e xs n i x done kind h is v so_far =
+    faulted_as kind all _ (so_far ∙ next_argument f e xs n i x done h is)
+    (faulted_then kind _ (λ ds. Ok (done ++ ds)) (faulted_then kind (taken_argument n (f x) e) (λ d. taken_arguments (n - 1) (map f (drop (i + 1) xs)) e >>= (λ ds. Ok (d ∷ ds))) v))
 
-pub arguments_end : {X : Type 0} (f : X → tree.Expression) (all : Result (List Datum) ErrorKind) (e : Environment) (xs : List X) (i : ℕ) (done : List Datum) → length xs ≤ i
-    → all ≡ (all_required (map f (drop i xs)) e >>= (λ ds. Ok (done ++ ds))) → all ≡ Ok done
-unfolding all_required
-arguments_end f all e xs i done h so_far =
-    so_far ∙ ap (λ y. all_required (map f y) e >>= (λ ds. Ok (done ++ ds))) (drop_all i xs h) ∙ ap Ok (append-nil done)
+pub arguments_end : {X : Type 0} (f : X → tree.Expression) (all : Result (List Datum) ErrorKind) (e : Environment) (xs : List X) (n i : ℕ) (done : List Datum) → length xs ≤ i
+    → all ≡ (taken_arguments n (map f (drop i xs)) e >>= (λ ds. Ok (done ++ ds))) → all ≡ Ok done
+unfolding taken_arguments
+arguments_end f all e xs n i done h so_far =
+    so_far ∙ ap (λ y. taken_arguments n (map f y) e >>= (λ ds. Ok (done ++ ds))) (drop_all i xs h) ∙ ap Ok (append-nil done)
 
 -- nothing is done yet
 none_done : (r : Result (List Datum) ErrorKind) → r ≡ (r >>= (λ ds. Ok ([] ++ ds)))
@@ -125,17 +126,32 @@ none_done (Ok ds) = refl
 none_done (Err kind) = refl
 
 -- a single argument
-pub one_argument : {X : Type 0} (f : X → tree.Expression) (e : Environment) (xs : List X) (x : X) (d : Datum) → 0 < length xs → length xs ≤ 1 → x ≡ get_or xs 0 x
-    → required (f x) e ≡ Ok d → all_required (map f xs) e ≡ Ok (d ∷ [])
-one_argument f e xs x d h l is v =
-    arguments_end f (all_required (map f xs) e) e xs 1 (d ∷ []) l (arguments_more f (all_required (map f xs) e) e xs 0 x [] d h is v (none_done (all_required (map f xs) e)))
+pub one_argument : {X : Type 0} (f : X → tree.Expression) (e : Environment) (xs : List X) (n : ℕ) (x : X) (d : Datum) → 0 < length xs → length xs ≤ 1 → x ≡ get_or xs 0 x
+    → taken_argument n (f x) e ≡ Ok d → taken_arguments n (map f xs) e ≡ Ok (d ∷ [])
+one_argument f e xs n x d h l is v =
+    arguments_end f (taken_arguments n (map f xs) e) e xs (n - 1) 1 (d ∷ []) l (arguments_more f (taken_arguments n (map f xs) e) e xs n 0 x [] d h is v (none_done (taken_arguments n (map f xs) e)))
 
-pub no_argument : {X : Type 0} (f : X → tree.Expression) (e : Environment) (xs : List X) → length xs ≤ 0 → all_required (map f xs) e ≡ Ok []
-no_argument f e xs l = arguments_end f (all_required (map f xs) e) e xs 0 [] l (none_done (all_required (map f xs) e))
+pub no_argument : {X : Type 0} (f : X → tree.Expression) (e : Environment) (xs : List X) (n : ℕ) → length xs ≤ 0 → taken_arguments n (map f xs) e ≡ Ok []
+no_argument f e xs n l = arguments_end f (taken_arguments n (map f xs) e) e xs n 0 [] l (none_done (taken_arguments n (map f xs) e))
 
-pub one_argument_faulted : {X : Type 0} (f : X → tree.Expression) (e : Environment) (xs : List X) (x : X) (kind : ErrorKind) → 0 < length xs → x ≡ get_or xs 0 x
-    → Faulted kind (required (f x) e) → Faulted kind (all_required (map f xs) e)
-one_argument_faulted f e xs x kind h is v = arguments_stop f (all_required (map f xs) e) e xs 0 x [] kind h is v (none_done (all_required (map f xs) e))
+pub one_argument_faulted : {X : Type 0} (f : X → tree.Expression) (e : Environment) (xs : List X) (n : ℕ) (x : X) (kind : ErrorKind) → 0 < length xs → x ≡ get_or xs 0 x
+    → Faulted kind (taken_argument n (f x) e) → Faulted kind (taken_arguments n (map f xs) e)
+one_argument_faulted f e xs n x kind h is v = arguments_stop f (taken_arguments n (map f xs) e) e xs n 0 x [] kind h is v (none_done (taken_arguments n (map f xs) e))
+
+-- ---- whether it is required
+
+-- a value that is there
+pub argument_there : (n : ℕ) (x : tree.Expression) (e : Environment) (d : Datum) → value_of x e ≡ Some d → taken_argument n x e ≡ Ok d
+argument_there zero x e d h = ap (λ o. Ok (unwrap_or o nil)) h
+argument_there (suc n) x e d h = ap (nil_if_missing e.missing) h
+
+pub argument_required : (n : ℕ) (x : tree.Expression) (e : Environment) → 0 < n → taken_argument n x e ≡ required x e
+argument_required zero x e h = absurd (omega arith)
+argument_required (suc n) x e h = refl
+
+pub argument_given : (n : ℕ) (x : tree.Expression) (e : Environment) → n ≤ 0 → taken_argument n x e ≡ Ok (unwrap_or (value_of x e) nil)
+argument_given zero x e h = refl
+argument_given (suc n) x e h = absurd (omega arith)
 
 -- ---- calls
 
@@ -150,7 +166,7 @@ alone (Ok ds) answers d k = on (answers d ds)
     on (Err kind) = refl
 
 -- one call, once its arguments have values
-pub one_call : (within : Bool) (call : Call) (e : Environment) (d : Datum) (ds : List Datum) (r : Result Value Error) → all_required call.arguments e ≡ Ok ds
+pub one_call : (within : Bool) (call : Call) (e : Environment) (d : Datum) (ds : List Datum) (r : Result Value Error) → taken_arguments call.required call.arguments e ≡ Ok ds
     → AnswersIf within view r (call.answers d ds) → AnswersIf within view r (applied (call ∷ []) d e)
 unfolding applied
 one_call within call e d ds r values h =
@@ -161,18 +177,18 @@ one_call within call e d ds r values h =
     as_it_is (Err kind) = refl
 
 -- and where one of them has none
-pub one_call_faulted : (within : Bool) (call : Call) (e : Environment) (d : Datum) (fault : Error) → Faulted fault.kind (all_required call.arguments e)
+pub one_call_faulted : (within : Bool) (call : Call) (e : Environment) (d : Datum) (fault : Error) → Faulted fault.kind (taken_arguments call.required call.arguments e)
     → AnswersIf within view (Err fault) (applied (call ∷ []) d e)
 unfolding applied
 one_call_faulted within call e d fault h =
-    answers_if {X = Value} within view (Err fault) (applied (call ∷ []) d e) (faulted_then fault.kind (all_required call.arguments e) (λ ds. call.answers d ds >>= (λ y. Ok y)) h)
+    answers_if {X = Value} within view (Err fault) (applied (call ∷ []) d e) (faulted_then fault.kind (taken_arguments call.required call.arguments e) (λ ds. call.answers d ds >>= (λ y. Ok y)) h)
 
 next_call : {X : Type 0} (f : X → Call) (e : Environment) (xs : List X) (i : ℕ) (x : X) (d : Datum) → i < length xs → x ≡ get_or xs i x
     → applied (map f (drop i xs)) d e ≡ (applied (f x ∷ []) d e >>= (λ y. applied (map f (drop (i + 1) xs)) y e))
 unfolding applied
 next_call f e xs i x d h is =
     ap (λ y. applied (map f y) d e) (drop_more xs i x h ∙ ap (λ y. y ∷ drop (i + 1) xs) (sym is))
-    ∙ alone (all_required (f x).arguments e) (f x).answers d (λ y. applied (map f (drop (i + 1) xs)) y e)
+    ∙ alone (taken_arguments (f x).required (f x).arguments e) (f x).answers d (λ y. applied (map f (drop (i + 1) xs)) y e)
 
 pub calls_more : {X : Type 0} (f : X → Call) (all : Result Datum ErrorKind) (e : Environment) (xs : List X) (i : ℕ) (x : X) (d answer : Datum)
     → i < length xs → x ≡ get_or xs i x → applied (f x ∷ []) d e ≡ Ok answer
@@ -198,7 +214,7 @@ next_filter : {X : Type 0} (answers : FilterAnswers) (f : X → FilterCall) (e :
 unfolding applied
 next_filter answers f e xs i x d h is =
     ap (λ y. applied (calls_by answers (map f y)) d e) (drop_more xs i x h ∙ ap (λ y. y ∷ drop (i + 1) xs) (sym is))
-    ∙ alone (all_required (f x).arguments e) (answers (f x).filter) d (λ y. applied (calls_by answers (map f (drop (i + 1) xs))) y e)
+    ∙ alone (taken_arguments (f x).required (f x).arguments e) (answers (f x).filter) d (λ y. applied (calls_by answers (map f (drop (i + 1) xs))) y e)
 
 pub filters_more : {X : Type 0} (answers : FilterAnswers) (f : X → FilterCall) (all : Result Datum ErrorKind) (e : Environment) (xs : List X) (i : ℕ) (x : X) (d answer : Datum)
     → i < length xs → x ≡ get_or xs i x → applied (call_by answers (f x) ∷ []) d e ≡ Ok answer

@@ -11,11 +11,10 @@ use Rattle.liquid_model.specs.declared.value.Value.{Value}
 use Rattle.liquid_model.specs.View.{view}
 use Rattle.liquid_model.specs.Fallible.{◌>>=◌}
 use Rattle.liquid_core.specs.Environment.{Environment}
-use Rattle.liquid_core.specs.Expressions.{all_required}
 use Rattle.liquid_core.specs.declared.missing_value.Missing.{Missing}
 use Rattle.liquid_core.specs.declared.missing_value.Missing.TheVariants.{IsFault, IsNil}
 use Rattle.liquid_model.specs.FilterAnswers.{FilterAnswer}
-use Rattle.liquid_evaluation.specs.Calls.{applied}
+use Rattle.liquid_evaluation.specs.Calls.{applied, taken_arguments}
 use Rattle.liquid_evaluation.specs.Tree.{Filter, existing, hosted, FilterCall}
 use Rattle.liquid_evaluation.specs.Evaluation.{FilterAnswers, refuses_input, accepted, accepting_nil, answers_in, call_by}
 use Rattle.liquid_evaluation.specs.inside.Forgiveness.{forgives_nil}
@@ -109,12 +108,12 @@ stand_in answers call e = accepted (used answers call (array no_items) e) (used 
 pub with_stand_in : (m : Missing) (answers : FilterAnswers) (call : FilterCall) (d : Datum) (e : Environment) → forgives_nil m call.filter d ≡ true
     → used (answers_in m answers) call d e ≡ accepted (used answers call d e) (stand_in answers call e)
 unfolding applied
-with_stand_in m answers call d e h = instead_at m answers call.filter d (all_required call.arguments e) h
+with_stand_in m answers call d e h = instead_at m answers call.filter d (taken_arguments call.required call.arguments e) h
 
 pub without_stand_in : (m : Missing) (answers : FilterAnswers) (call : FilterCall) (d : Datum) (e : Environment) → forgives_nil m call.filter d ≡ false
     → used (answers_in m answers) call d e ≡ used answers call d e
 unfolding applied
-without_stand_in m answers call d e h = alone_at m answers call.filter d (all_required call.arguments e) h
+without_stand_in m answers call d e h = alone_at m answers call.filter d (taken_arguments call.required call.arguments e) h
 
 -- ---- what a call answers
 

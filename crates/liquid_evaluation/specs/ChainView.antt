@@ -10,6 +10,7 @@ abbrev pub chain_filter_view : ChainFilter → FilterCall
 chain_filter_view stored = record {
   filter = stored_view stored.filter;
   arguments = map expression_view stored.arguments.items;
+  required = stored.required;
 }
 
 abbrev pub chain_view : FilterChain → Chain

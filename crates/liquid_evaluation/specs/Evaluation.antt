@@ -83,7 +83,11 @@ entry_value missing None (call ∷ calls) = Ok nil
 
 -- a chain's filter with what it answers, and all of them
 abbrev pub call_by : FilterAnswers → FilterCall → Call
-call_by answers call = record { answers = answers call.filter; arguments = call.arguments }
+call_by answers call = record {
+  answers = answers call.filter;
+  arguments = call.arguments;
+  required = call.required;
+}
 
 abbrev pub calls_by : FilterAnswers → List FilterCall → List Call
 calls_by answers = map (call_by answers)

@@ -4,6 +4,7 @@ pub mod ChainView
 pub mod ConditionView
 pub mod Counts
 pub mod DirectValues
+pub mod Escaped
 pub mod Evaluation
 pub mod Groups
 pub mod ItemLists

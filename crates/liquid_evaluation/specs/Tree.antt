@@ -1,5 +1,5 @@
 -- Templates as trees: what a source says, without its spelling.
-use Rattle.std.specs.Prelude.{Bool, List, Option}
+use Rattle.std.specs.Prelude.{ℕ, Bool, List, Option}
 use Rattle.liquid_model.specs.Texts.{Text}
 use Rattle.liquid_core.specs.Expression.{Expression}
 use Rattle.liquid_filters.specs.declared.kind.FilterKind.{FilterKind}
@@ -11,10 +11,12 @@ pub data Filter : Type 0 where
   existing : FilterKind → Filter
   hosted : Text → Filter
 
--- one filter of a chain, as it is registered, with its arguments
+-- one filter of a chain, as it is registered, with its arguments, and how many of the first of them
+-- are required: a missing one of the others is nil
 pub record FilterCall : Type 0 where
   pub filter : Filter
   pub arguments : List Expression
+  pub required : ℕ
 
 -- what an output writes and an `assign` stores
 pub record Chain : Type 0 where

@@ -1,10 +1,11 @@
 //! The values of a call's arguments.
-ghost use Rattle.std.specs.Prelude.{◌≡◌, length, map, IfOk, IfSome, Ok};
+ghost use Rattle.std.specs.Prelude.{◌≡◌, ℕ, length, map, IfOk, IfSome, Ok};
 ghost use Rattle.liquid_model.specs.Answer.{Answers};
+ghost use Rattle.liquid_model.specs.Cow.{cow_view};
 ghost use Rattle.liquid_model.specs.View.{view};
-ghost use Rattle.liquid_core.specs.Expressions.{all_required};
 ghost use Rattle.liquid_core.specs.ExpressionView.{expression_view};
 ghost use Rattle.liquid_core.specs.States.{environment_of};
+ghost use Rattle.liquid_evaluation.specs.Calls.{taken_argument, taken_arguments};
 ghost use Rattle.liquid_evaluation.specs.inside.Arguments.{arguments_view};
 
 use liquid_core::{DirectValue, Expression, Result, State, Value, ValueCow};
@@ -40,13 +41,14 @@ impl Arguments<'_> {
     }
 }
 
-/// The values of the expressions, where there is none, or a single one that a value holds.
+/// The values of the expressions, where there is none, or a single one that a value holds; then it
+/// doesn't matter how many are required.
 pub(crate) fn borrowed_arguments<'x>(
     expressions: &'x [Expression],
     state: &'x State<'_>,
 ) -> Option<&'x [Value]>
-    ensures values { IfSome result (λ values.
-        all_required (map expression_view expressions.now) (environment_of state.now) ≡
+    ensures values { (n : ℕ) → IfSome result (λ values.
+        taken_arguments n (map expression_view expressions.now) (environment_of state.now) ≡
         Ok (map view values.now)) }
     ensures count { IfSome result (λ values. length values.now ≡ length expressions.now) }
 {
@@ -60,33 +62,61 @@ pub(crate) fn borrowed_arguments<'x>(
     }
 }
 
-/// The values of the expressions, from left to right.
+/// The values of the expressions, from left to right, of which the first are required.
 pub(crate) fn evaluate_all<'x>(
     alloc: Global,
     expressions: &'x [Expression],
+    required: usize,
     state: &'x State<'_>,
 ) -> Result<Arguments<'x>>
     ensures values { Answers arguments_view result
-        (all_required (map expression_view expressions.now)
+        (taken_arguments required (map expression_view expressions.now)
         (environment_of state.now)) }
     ensures count { IfOk result (λ a. length (arguments_view a) ≡ length expressions.now) }
 {
     match expressions {
-        [expression] => Ok(Arguments::One(expression.evaluate(alloc, state)?)),
-        _ => Ok(Arguments::Many(evaluate_each(alloc, expressions, state)?)),
+        [expression] => Ok(Arguments::One(argument(alloc, expression, required, state)?)),
+        _ => Ok(Arguments::Many(evaluate_each(alloc, expressions, required, state)?)),
     }
 }
 
-/// Copies of the values of the expressions, from left to right.
-fn evaluate_each(alloc: Global, expressions: &[Expression], state: &State<'_>) -> Result<Vec<Value>>
+/// Copies of the values of the expressions, from left to right, of which the first are required.
+fn evaluate_each(
+    alloc: Global,
+    expressions: &[Expression],
+    required: usize,
+    state: &State<'_>,
+) -> Result<Vec<Value>>
     ensures values { Answers (λ v. map view v.items) result
-        (all_required (map expression_view expressions.now)
+        (taken_arguments required (map expression_view expressions.now)
         (environment_of state.now)) }
     ensures count { IfOk result (λ v. length v.items ≡ length expressions.now) }
 {
     let mut values = Vec::with_capacity(alloc, expressions.len())?;
+    let mut left = required;
     for expression in expressions {
-        values.push(expression.evaluate(alloc, state)?.into_owned(alloc)?)?;
+        values.push(argument(alloc, expression, left, state)?.into_owned(alloc)?)?;
+        left = left.saturating_sub(1);
     }
     Ok(values)
+}
+
+/// The value of an argument, where the next `required` are required; nil where it isn't, and is
+/// missing.
+fn argument<'x>(
+    alloc: Global,
+    expression: &'x Expression,
+    required: usize,
+    state: &'x State<'_>,
+) -> Result<ValueCow<'x>>
+    ensures { Answers cow_view result
+        (taken_argument required (expression_view expression.now) (environment_of state.now)) }
+{
+    if required > 0 {
+        return expression.evaluate(alloc, state);
+    }
+    match expression.try_evaluate(alloc, state)? {
+        Some(value) => Ok(value),
+        None => Ok(ValueCow::Owned(Value::Nil)),
+    }
 }

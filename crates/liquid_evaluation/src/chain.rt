@@ -10,12 +10,15 @@ use liquid_core::{
     DirectValue, Error, ErrorKind, Expression, HostFilters, Missing, NamedFilters, Quoted, Result,
     State, Value, ValueCow,
 };
+use liquid_filters::FilterKind;
 use std::alloc::Global;
 
 /// One filter of a chain with its arguments, of which it accepts the number.
 pub struct ChainFilter {
     pub filter: StoredFilter,
     pub arguments: Vec<Expression>,
+    /// How many of the first arguments are required: a missing one of the others is nil.
+    pub required: usize,
     pub ghost accepted: { IsTrue (stored_counts filter (length arguments.items)) },
 }
 
@@ -26,6 +29,7 @@ impl Drop for ChainFilter {
         let ChainFilter {
             filter: _,
             arguments: _,
+            required: _,
         } = self;
     }
 }
@@ -39,13 +43,25 @@ impl ChainFilter {
     ghost use Rattle.liquid_evaluation.specs.Calls.{applied, call_of};
     ghost use Rattle.liquid_evaluation.specs.ChainView.{chain_filter_view};
     ghost use Rattle.liquid_evaluation.specs.DirectValues.{ChainDirectlyIs};
+    ghost use Rattle.liquid_evaluation.specs.Escaped.{escape_call};
     ghost use Rattle.liquid_evaluation.specs.Evaluation.{accepted, answers_in, answers_with};
     ghost use Rattle.liquid_evaluation.specs.Evaluation.{call_by};
     ghost use Rattle.liquid_evaluation.specs.inside.Forgiveness.{forgives_nil};
 
+    /// The filter `escape`, without arguments.
+    pub fn escape(alloc: Global) -> ChainFilter
+        ensures { chain_filter_view result ≡ escape_call }
+    {
+        ChainFilter {
+            filter: StoredFilter::Kind(FilterKind::Escape),
+            arguments: Vec::new(alloc),
+            required: 0,
+        }
+    }
+
     /// The call by which the filter is run on its arguments, whose number it accepts.
     pub fn call<'h, H: NamedFilters>(&'h self, host: &'h H) -> FilterCall<'h, AnyFilter<'h, H>>
-        ensures call { call_of (any_answer H.named result.filter) result.args.now ≡
+        ensures call { call_of (any_answer H.named result.filter) result.args.now result.required ≡
             call_by (answers_with (H.named host.now)) (chain_filter_view self.now) }
         ensures accepted { IsTrue (any_counts result.filter (length result.args.now)) }
     {
@@ -56,6 +72,7 @@ impl ChainFilter {
         FilterCall {
             filter,
             args: self.arguments.as_slice(),
+            required: self.required,
         }
     }
 
@@ -203,11 +220,12 @@ impl FilterChain {
     /// The value of the chain: that of its entry, through its filters in order.
     ///
     /// A missing entry is nil before a filter, and `UnknownVariable` without one; so is a missing
-    /// argument of a filter. Both are nil where a missing value is nil in this state, and there a
-    /// filter may be given something in the place of a nil that it refuses (`ChainFilter::apply`).
-    /// A filter's fault ends the chain, and its message begins with the filter's name, as does that
-    /// of an argument. A filter of the host is `Unsupported` where `host` has none of its name that
-    /// takes the number of arguments in the chain. `Memory` where a growth was refused.
+    /// argument of a filter that is required. Both are nil where a missing value is nil in this
+    /// state, and there a filter may be given something in the place of a nil that it refuses
+    /// (`ChainFilter::apply`). A filter's fault ends the chain, and its message begins with the
+    /// filter's name, as does that of an argument. A filter of the host is `Unsupported` where
+    /// `host` has none of its name that takes the number of arguments in the chain. `Memory` where
+    /// a growth was refused.
     pub fn evaluate(
         &self,
         alloc: Global,

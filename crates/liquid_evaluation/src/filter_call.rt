@@ -16,13 +16,15 @@ use std::alloc::Global;
 pub struct FilterCall<'c, F> {
     pub filter: F,
     pub args: &'c [Expression],
+    /// How many of the first arguments are required: a missing one of the others is nil.
+    pub required: usize,
 }
 
 /// The value that the entry becomes through the filters, in order. The arguments of each are taken
 /// from left to right.
 ///
-/// A missing argument is `UnknownVariable`, and a filter's fault ends the chain. `Memory` where a
-/// growth was refused.
+/// A missing argument that is required is `UnknownVariable`, and a filter's fault ends the chain.
+/// `Memory` where a growth was refused.
 /// Each filter has to accept the number of its arguments. Without calls the answer is the entry,
 /// which takes no memory.
 pub fn apply_filters<F: Filter>(
@@ -33,8 +35,8 @@ pub fn apply_filters<F: Filter>(
 ) -> Result<Value>
     requires { All (λ c. IsTrue (F.counts c.filter (length c.args.now))) calls.now }
     ensures value { AnswersIf (list_all (λ c. F.within c.filter) calls.now) view result
-        (applied (map (λ c. call_of (F.answer c.filter) c.args.now) calls.now) (view entry)
-        (environment_of state.now)) }
+        (applied (map (λ c. call_of (F.answer c.filter) c.args.now c.required) calls.now)
+        (view entry) (environment_of state.now)) }
     ensures no_memory { calls.now ≡ [] → IsOk result }
 {
     apply_to(alloc, ValueCow::Owned(entry), calls, state)?.into_owned(alloc)
@@ -49,7 +51,7 @@ pub fn apply_to<'v, F: Filter>(
 ) -> Result<ValueCow<'v>>
     requires { All (λ c. IsTrue (F.counts c.filter (length c.args.now))) calls.now }
     ensures value { AnswersIf (list_all (λ c. F.within c.filter) calls.now) cow_view result
-        (applied (map (λ c. call_of (F.answer c.filter) c.args.now) calls.now)
+        (applied (map (λ c. call_of (F.answer c.filter) c.args.now c.required) calls.now)
         (cow_view entry.entry) (environment_of state.now)) }
     ensures without_calls { calls.now ≡ [] → result ≡ Ok entry.entry }
 {
@@ -69,13 +71,13 @@ pub(crate) fn apply_one<F: Filter>(
 ) -> Result<Value>
     requires { IsTrue (F.counts call.now.filter (length call.now.args.now)) }
     ensures { AnswersIf (F.within call.now.filter) view result
-        (applied (call_of (F.answer call.now.filter) call.now.args.now ∷ []) (view input.now)
-        (environment_of state.now)) }
+        (applied (call_of (F.answer call.now.filter) call.now.args.now call.now.required ∷ [])
+        (view input.now) (environment_of state.now)) }
 {
     if let Some(borrowed) = borrowed_arguments(call.args, state) {
         return call.filter.evaluate(alloc, input, borrowed);
     }
-    let arguments = evaluate_all(alloc, call.args, state)?;
+    let arguments = evaluate_all(alloc, call.args, call.required, state)?;
     let answer = call.filter.evaluate(alloc, input, arguments.as_slice());
     drop(arguments);
     answer

@@ -6,7 +6,7 @@ use crate::phrasing::Phrasing;
 use crate::similar::most_similar;
 use crate::wanted::words_of;
 use liquid_core::{SimilarName, more_similar};
-use liquid_language::{Block, Language, end_tag};
+use liquid_language::{Block, Language, begins_with_end, end_tag};
 use liquid_lexer::{Fault, PlacedPiece};
 use std::alloc::{AllocError, Global};
 
@@ -19,21 +19,13 @@ pub(crate) fn unknown_tag<'s>(
     piece: &PlacedPiece<'s>,
 ) -> Result<Phrasing<'s>, AllocError> {
     let name = piece.name;
-    if is_end(name) {
+    if begins_with_end(name) {
         return Ok(wrong_end(language, outline, name));
     }
     if is_control(name) {
         return Ok(wrong_control(language, outline, name));
     }
     unknown_name(alloc, language, outline.at, piece)
-}
-
-/// Whether a name is meant as the end of a block.
-fn is_end(name: &str) -> bool {
-    match name.get(..3) {
-        Some(front) => front.eq_ignore_ascii_case("end"),
-        None => false,
-    }
 }
 
 fn is_control(name: &str) -> bool {

@@ -2,9 +2,7 @@
 //! source that ends inside one.
 use crate::characters::{is_digit, is_letter, is_letter_beyond, is_quote};
 use crate::foreign_syntax::{ErrorSite, PieceContext, advice, context_of};
-use crate::misplaced_items::{
-    closer_of, closer_word, front_before, is_tag, not_wanted, spelling_before,
-};
+use crate::misplaced_items::{closer_of, closer_word, is_tag, not_wanted, spelling_before};
 use crate::names::meant_tag;
 use crate::numbers::{is_fraction, no_whole, number_front};
 use crate::outline::Outline;
@@ -12,7 +10,7 @@ use crate::parentheses::in_parentheses;
 use crate::paths::in_path;
 use crate::phrasing::Phrasing;
 use liquid_language::Language;
-use liquid_lexer::{Delimiter, Expectation, Fault, FaultKind, PlacedPiece};
+use liquid_lexer::{Delimiter, Expectation, Fault, FaultKind, PlacedPiece, front_before};
 
 /// The words that are values, and no names.
 static LITERALS: [&str; 4] = ["nil", "null", "true", "false"];

@@ -5,7 +5,7 @@ use crate::paths::after_path;
 use crate::phrasing::Phrasing;
 use crate::wanted::words_of;
 use liquid_language::Language;
-use liquid_lexer::{Delimiter, Expectation, Fault, PlacedItem, PlacedPiece};
+use liquid_lexer::{Delimiter, Expectation, Fault, PlacedItem, PlacedPiece, front_before};
 
 /// Of an item that isn't allowed, or of a closer before which one is wanted.
 pub(crate) fn misplaced<'s>(
@@ -332,12 +332,6 @@ pub(crate) fn closer_of(text: &str, kind: Delimiter) -> &str {
         Some(after) => front_before(text, after),
         None => "",
     }
-}
-
-/// What a text has before its rest.
-pub(crate) fn front_before<'s>(text: &'s str, rest: &str) -> &'s str {
-    text.get(..text.len().saturating_sub(rest.len()))
-        .unwrap_or(text)
 }
 
 pub(crate) fn closer_word(kind: Delimiter) -> &'static str {

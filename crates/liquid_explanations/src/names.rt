@@ -22,7 +22,7 @@ verbatim: `verbatim` is written `raw`
 literal: `literal` is written `raw`
 filter: `filter` isn't known; `capture` the text, and show it with the filter
 with: `with` isn't known; `assign` sets a name
-autoescape: `autoescape` isn't known; `| escape` escapes a value
+autoescape: `autoescape` isn't known; `| escape` escapes a value, and `--escape html` all
 spaceless: `spaceless` isn't known; `{%-` and `-%}` strip white space
 extends: `extends` isn't known; `{% render 'name' %}` takes in a partial
 layout: `layout` isn't known; `{% render 'name' %}` takes in a partial
@@ -223,7 +223,7 @@ reject: a `for` with `unless` leaves items out
 filter: write `where: 'name', value`
 remove_last: `remove_first` removes the first one, and `remove` all
 replace_last: `replace_first` replaces the first one, and `replace` all
-raw: nothing is escaped by itself, so leave `| raw` out
+raw: it ends an output where outputs are escaped; elsewhere leave `| raw` out
 safe: nothing is escaped by itself, so leave `| safe` out
 safeHTML: nothing is escaped by itself, so leave `| safeHTML` out
 safeURL: nothing is escaped by itself, so leave `| safeURL` out

@@ -1,9 +1,8 @@
 //! Numbers that aren't whole.
 use crate::characters::{ends_value, is_digit, is_sign};
 use crate::foreign_syntax::{ErrorSite, PieceContext, context_of};
-use crate::misplaced_items::front_before;
 use crate::phrasing::Phrasing;
-use liquid_lexer::PlacedPiece;
+use liquid_lexer::{PlacedPiece, front_before};
 
 /// Of a number with a fraction: what it is in a smaller unit, where it can be computed with. It
 /// needs the `before` in front of it to be a text that is a number.

@@ -2,10 +2,10 @@
 use crate::characters::{is_digit, is_letter};
 use crate::filters::{foreign_filter_hint, meant_here};
 use crate::foreign_syntax::{ErrorSite, PieceContext};
-use crate::misplaced_items::{front_before, spelling_before};
+use crate::misplaced_items::spelling_before;
 use crate::phrasing::Phrasing;
 use liquid_language::Language;
-use liquid_lexer::PlacedPiece;
+use liquid_lexer::{PlacedPiece, front_before};
 
 /// What is meant by parentheses that hold no range.
 pub(crate) fn in_parentheses<'s>(

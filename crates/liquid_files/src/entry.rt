@@ -162,6 +162,14 @@ pub fn target_of(found: FileType) -> Target
     }
 }
 
+/// Whether a path leads to a folder.
+pub fn is_folder(rt: &HostRuntime, path: &str) -> bool {
+    match fs::metadata(rt, path) {
+        Ok(found) => found.is_dir(),
+        Err(_) => false,
+    }
+}
+
 /// Whether a file of this name is hidden: it begins with a dot. It takes no memory.
 pub fn is_hidden_name(name: &str) -> bool
     ensures { result ≡ is_hidden_name name.now }

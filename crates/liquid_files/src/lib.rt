@@ -27,7 +27,7 @@ mod unreadable;
 pub use buffered::Buffered;
 pub use disk::{Disk, DiskFault, Protected};
 pub use entry::{
-    Entry, Target, Way, entry_at, folder_entry, has_byte_zero, is_hidden_name, lies_in,
+    Entry, Target, Way, entry_at, folder_entry, has_byte_zero, is_folder, is_hidden_name, lies_in,
     listed_entry, target_of,
 };
 pub use excerpt::Excerpt;
@@ -36,7 +36,7 @@ pub use file_name::{joined_path, named_file, without_suffix};
 pub use full::refuses_every_file;
 pub use host::SystemFiles;
 pub use left_out::{LeftOut, LeftOutLine};
-pub use names::hidden_names;
+pub use names::{hidden_names, written_hidden_names};
 pub use page_files::{Bounds, PageFiles};
 pub use partial_names::PartialNames;
 pub use parts::is_part_path;

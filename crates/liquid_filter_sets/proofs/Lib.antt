@@ -1,7 +1,9 @@
 pub mod ClosedTexts
 pub mod Cuts
 pub mod FreeName
+pub mod FreeShopifyNames
 pub mod JsonData
 pub mod ReadBack
+pub mod SectionCalls
 pub mod SettingUses
 pub mod ValueParts

@@ -1,14 +1,20 @@
 -- The languages of the sets: which tag, block and filter stands under which name.
-use Rattle.std.specs.Prelude.{◌≡◌, ℕ, List, [], ◌∷◌, Some, codes, false, true}
+use Rattle.std.specs.Prelude.{◌≡◌, List, [], ◌∷◌, codes, false, true}
 use Rattle.liquid_model.specs.Maps.{Map, insert, listed}
+use Rattle.liquid_model.specs.Data.{nil, text}
+use Rattle.liquid_model.specs.Texts.{Text}
 use Rattle.liquid_core.specs.Environment.{bind_each}
+use Rattle.liquid_core.specs.Expression.{Expression, literal, no_steps, step, variable}
 use Rattle.liquid_filters.specs.declared.kind.FilterKind.TheVariants.{JekyllSort}
-use Rattle.liquid_language.specs.HostTags.{block_at, end_in, numbers_of}
+use Rattle.liquid_language.specs.HostTags.{BlockCall, TagCall, blocks_of, calls_of, end_names}
+use Rattle.liquid_language.specs.HostTags.{numbers_of}
 use Rattle.liquid_language.specs.Languages.{kinds_of}
 use Rattle.liquid_language.specs.Registered.{registered_in}
 use Rattle.liquid_lexer.specs.declared.style.Style.TheVariants as styles
+use Rattle.liquid_language.specs.declared.host_tags.HostKind.{HostKind}
 use Rattle.liquid_language.specs.declared.host_tags.HostKind.TheVariants as kinds
 use Rattle.liquid_language.specs.declared.registry.Language.{Language}
+use Rattle.liquid_language.specs.declared.registry.TagKind.{TagKind}
 use Rattle.liquid_language.specs.declared.registry.TagKind.TheVariants.{JekyllInclude}
 use Rattle.liquid_language.specs.declared.registered_filter.RegisteredFilter.{RegisteredFilter}
 use Rattle.liquid_language.specs.declared.registered_filter.RegisteredFilter.TheVariants.{Host}
@@ -22,6 +28,7 @@ use Rattle.liquid_decimals.specs.declared.filter.DecimalFilter.TheVariants as d
 use Rattle.liquid_jekyll_host_filters.specs.SiteFilters.{filter_least, filter_most, filter_name}
 use Rattle.liquid_jekyll_host_filters.specs.declared.site_filter.JekyllFilter.{JekyllFilter}
 use Rattle.liquid_jekyll_host_filters.specs.declared.site_filter.JekyllFilter.TheVariants as j
+use Rattle.liquid_filter_sets.specs.ShopifyTags.{HasShopifyTags}
 use Rattle.liquid_shopify_host_filters.specs.Kinds as shopify
 use Rattle.liquid_shopify_host_filters.specs.declared.kind.ShopifyKind.{ShopifyKind}
 use Rattle.liquid_shopify_host_filters.specs.declared.kind.ShopifyKind.TheVariants as s
@@ -39,34 +46,73 @@ jekyll_filters =
     j.RelativeUrl ∷ j.AbsoluteUrl ∷ j.DateToString ∷ j.DateToLongString ∷ j.DateToXmlschema ∷
     j.DateToRfc822 ∷ j.XmlEscape ∷ j.CgiEscape ∷ j.UriEscape ∷ j.Jsonify ∷ j.NormalizeWhitespace ∷
     j.NumberOfWords ∷ j.ToInteger ∷ j.ArrayToSentenceString ∷ j.GroupBy ∷ j.Where ∷ j.Find ∷
-    j.Highlight ∷ []
+    j.Highlight ∷ j.Link ∷ j.PostUrl ∷ j.FeedMeta ∷ []
 
 abbrev pub with_jekyll_filters : Map RegisteredFilter → Map RegisteredFilter
 with_jekyll_filters m = insert (with_sites m jekyll_filters) (codes "where_exp") (Host 2 2)
 
--- the one name of the host is that of a block, `highlight`: its markup is one text, and the filter
--- of its name is called with it on the body's text
-pub record HasHighlight (l : Language) : Type 0 where
-  pub number : ℕ
-  pub name : listed (numbers_of l.host_tags) ≡
-      insert (listed []) (codes "highlight") (kinds.Block number)
-  pub block : block_at l number ≡
-      Some (record { filter = codes "highlight"; style = styles.Text })
-  pub end : end_in l.host_tags number ≡ codes "endhighlight"
+abbrev pub jekyll_tags : Map TagKind
+jekyll_tags = insert (bind_each standard_tags (listed [])) (codes "include") JekyllInclude
 
--- the standard language with Jekyll's `include`, which takes a path, `sort` and the block
--- `highlight`, and the names of Jekyll's filters of a host, without the white space of blocks that
--- write nothing
+-- `site.w`
+abbrev pub of_site : Text → Expression
+of_site w = variable (codes "site") (step (literal (text w)) no_steps)
+
+-- a tag that calls the filter of its name with its markup, as one text, and with these parts of the
+-- site; its input is nil
+abbrev pub site_call : Text → List Expression → TagCall
+site_call w parts = record {
+  filter = w;
+  input = literal nil;
+  style = styles.Text;
+  given = parts;
+}
+
+-- where `link` looks for a page, one after another
+abbrev pub site_lists : List Expression
+site_lists = of_site (codes "pages") ∷ of_site (codes "static_files") ∷
+    of_site (codes "documents") ∷ []
+
+-- what `feed_meta` says of the feed
+abbrev pub feed_parts : List Expression
+feed_parts = of_site (codes "feed") ∷ of_site (codes "title") ∷ of_site (codes "name") ∷ []
+
+abbrev pub jekyll_calls : List TagCall
+jekyll_calls =
+    site_call (codes "link") site_lists ∷
+    site_call (codes "post_url") (of_site (codes "posts") ∷ []) ∷
+    site_call (codes "feed_meta") feed_parts ∷ []
+
+-- with the names of these tags
+abbrev pub with_jekyll_tags : Map HostKind → Map HostKind
+with_jekyll_tags m = insert (insert (insert m (codes "link") (kinds.Tag 0)) (codes "post_url")
+    (kinds.Tag 1)) (codes "feed_meta") (kinds.Tag 2)
+
+-- the filter is called with the markup, as one text, on the body's text
+abbrev pub highlight_call : BlockCall
+highlight_call = record { filter = codes "highlight"; style = styles.Text; given = [] }
+
+-- the names of the host are those of three tags and of a block
+pub record HasJekyllTags (l : Language) : Type 0 where
+  pub names : listed (numbers_of l.host_tags) ≡
+      insert (with_jekyll_tags (listed [])) (codes "highlight") (kinds.Block 0)
+  pub calls : calls_of l.host_tags ≡ jekyll_calls
+  pub blocks : blocks_of l.host_tags ≡ highlight_call ∷ []
+  pub ends : end_names l.host_tags ≡ codes "endhighlight" ∷ []
+
+-- the standard language with Jekyll's `include`, which takes a path, `sort`, the tags `link`,
+-- `post_url` and `feed_meta` and the block `highlight`, and the names of Jekyll's filters of a
+-- host, without the white space of blocks that write nothing
 pub record IsJekyll (l : Language) : Type 0 where
-  pub tags : listed (kinds_of l.tags) ≡
-      insert (bind_each standard_tags (listed [])) (codes "include") JekyllInclude
+  pub tags : listed (kinds_of l.tags) ≡ jekyll_tags
   pub blocks : listed (kinds_of l.blocks) ≡ bind_each standard_blocks (listed [])
   pub filters : listed (registered_in l.filters) ≡ with_jekyll_filters
       (insert (with_filters (listed []) standard_filters) (codes "sort")
       (Kind JekyllSort))
   pub include_paths : l.include_paths ≡ true
   pub drops_blanks : l.drops_blanks ≡ true
-  pub highlight : HasHighlight l
+  pub escapes_html : l.escapes_html ≡ false
+  pub host_tags : HasJekyllTags l
 
 -- ---- Shopify's
 
@@ -77,27 +123,28 @@ with_kinds m (k ∷ ks) = with_kinds (insert m (shopify.shopify_filter_name k)
 
 abbrev pub shopify_filters : List ShopifyKind
 shopify_filters =
-    s.AssetUrl ∷ s.Base64Decode ∷ s.Base64Encode ∷ s.Camelize ∷ s.Find ∷ s.FindIndex ∷
-    s.GlobalAssetUrl ∷ s.Handle ∷ s.Handleize ∷ s.Has ∷ s.HighlightActiveTag ∷
-    s.HmacSha256 ∷ s.ImgTag ∷ s.Json ∷ s.LinkTo ∷ s.LinkToAddTag ∷ s.LinkToRemoveTag ∷
-    s.LinkToTag ∷ s.LinkToType ∷ s.LinkToVendor ∷ s.Md5 ∷ s.Money ∷ s.MoneyWithCurrency ∷
-    s.MoneyWithoutCurrency ∷ s.MoneyWithoutTrailingZeros ∷
-    s.ProductImgUrl ∷ s.Reject ∷ s.RemoveLast ∷ s.ReplaceLast ∷ s.ScriptTag ∷ s.Sha1 ∷ s.Sha256 ∷
-    s.ShopifyAssetUrl ∷ s.Squish ∷ s.StylesheetTag ∷ s.Sum ∷ s.UrlForType ∷ s.UrlForVendor ∷
-    s.WeightWithUnit ∷ s.Within ∷ []
+    s.AssetUrl ∷ s.Base64Decode ∷ s.Base64Encode ∷ s.Camelize ∷ s.DefaultPagination ∷ s.Find ∷
+    s.FindIndex ∷ s.Form ∷ s.GlobalAssetUrl ∷ s.Handle ∷ s.Handleize ∷ s.Has ∷
+    s.HighlightActiveTag ∷ s.HmacSha256 ∷ s.ImgTag ∷ s.Json ∷ s.Layout ∷ s.LinkTo ∷
+    s.LinkToAddTag ∷ s.LinkToRemoveTag ∷ s.LinkToTag ∷ s.LinkToType ∷ s.LinkToVendor ∷ s.Md5 ∷
+    s.Money ∷ s.MoneyWithCurrency ∷ s.MoneyWithoutCurrency ∷ s.MoneyWithoutTrailingZeros ∷
+    s.NoText ∷ s.Paginate ∷ s.ProductImgUrl ∷ s.Reject ∷ s.RemoveLast ∷ s.ReplaceLast ∷
+    s.ScriptTag ∷ s.Section ∷ s.Sha1 ∷ s.Sha256 ∷ s.ShopifyAssetUrl ∷ s.Squish ∷ s.Style ∷
+    s.StylesheetTag ∷ s.Sum ∷ s.UrlForType ∷ s.UrlForVendor ∷ s.WeightWithUnit ∷ s.Within ∷ []
 
 abbrev pub with_shopify_filters : Map RegisteredFilter → Map RegisteredFilter
 with_shopify_filters m = with_kinds m shopify_filters
 
 -- the standard language with the names of Shopify's filters of a host, without the white space of
--- blocks that write nothing; and no tags of a host
+-- blocks that write nothing, with Shopify's tags and blocks
 pub record IsShopify (l : Language) : Type 0 where
   pub tags : listed (kinds_of l.tags) ≡ bind_each standard_tags (listed [])
   pub blocks : listed (kinds_of l.blocks) ≡ bind_each standard_blocks (listed [])
   pub filters : listed (registered_in l.filters) ≡
       with_shopify_filters (with_filters (listed []) standard_filters)
   pub drops_blanks : l.drops_blanks ≡ true
-  pub host_tags : numbers_of l.host_tags ≡ []
+  pub escapes_html : l.escapes_html ≡ false
+  pub host_tags : HasShopifyTags l
 
 -- ---- decimals
 
@@ -121,4 +168,5 @@ pub record HasDecimals (l : Language) : Type 0 where
   pub filters : listed (registered_in l.filters) ≡
       with_decimal_filters (with_filters (listed []) standard_filters)
   pub drops_blanks : l.drops_blanks ≡ false
+  pub escapes_html : l.escapes_html ≡ false
   pub host_tags : numbers_of l.host_tags ≡ []

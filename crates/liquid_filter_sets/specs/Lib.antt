@@ -6,5 +6,6 @@ pub mod ReadBack
 pub mod Selections
 pub mod SettingUses
 pub mod Settings
+pub mod ShopifyTags
 pub mod Truths
 pub mod Views

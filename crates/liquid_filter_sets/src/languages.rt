@@ -1,32 +1,29 @@
 //! The languages of the sets.
-ghost use Rattle.std.specs.Prelude.{◌≡◌, [], IfErr, None, OnOk, IfOk, codes};
+ghost use Rattle.std.specs.Prelude.{◌≡◌, IfErr, IfOk};
 ghost use Rattle.liquid_model.specs.Answer.{IsValueOrMemory};
 ghost use Rattle.liquid_model.specs.Maps.{insert, listed};
-ghost use Rattle.liquid_language.specs.HostNames.{name_refusal};
-ghost use Rattle.liquid_language.specs.HostTags.{numbers_of};
 ghost use Rattle.liquid_language.specs.Registered.{registered_in};
 ghost use Rattle.liquid_language.specs.declared.registered_filter.RegisteredFilter.TheVariants.{Host};
-ghost use Rattle.liquid_filter_sets.specs.Languages.{HasDecimals, HasHighlight, IsJekyll};
+ghost use Rattle.liquid_filter_sets.specs.Languages.{HasDecimals, IsJekyll};
 ghost use Rattle.liquid_filter_sets.specs.Languages.{IsShopify};
 ghost use Rattle.liquid_filter_sets.specs.Languages.{with_decimal_filters, with_each_decimal};
 ghost use Rattle.liquid_filter_sets.specs.Languages.{with_jekyll_filters, with_kinds};
 ghost use Rattle.liquid_filter_sets.specs.Languages.{with_shopify_filters, with_sites};
 
-use liquid_core::{Error, ErrorKind, Result};
+use crate::jekyll_tags::register_jekyll_tags;
+use crate::shopify_tags::{register_shopify_blocks, register_shopify_tags};
+use liquid_core::{ErrorKind, Result};
 use liquid_decimals::{DECIMAL_FILTERS, DecimalFilter};
 use liquid_filters::FilterKind;
 use liquid_jekyll_host_filters::{JEKYLL_FILTERS, JekyllFilter};
-use liquid_language::{
-    FilterRegistry, HostBlock, Language, TagError, TagKind, TagReflection, jekyll, language,
-};
-use liquid_lexer::Style;
+use liquid_language::{FilterRegistry, Language, TagKind, TagReflection, jekyll, language};
 use liquid_shopify_host_filters::{SHOPIFY_FILTERS, ShopifyKind};
-use std::alloc::{AllocError, Global};
+use std::alloc::Global;
 
 /// The language of Jekyll's templates: the standard one with Jekyll's `include`, which takes a path
-/// without quotes, and `sort` in place of the standard ones, the block `highlight`, and the names
-/// of Jekyll's filters of a host; it drops the white space of blocks that write nothing. `Memory`
-/// where a growth was refused.
+/// without quotes, and `sort` in place of the standard ones, the tags `link`, `post_url` and
+/// `feed_meta`, the block `highlight`, and the names of Jekyll's filters of a host; it drops the
+/// white space of blocks that write nothing. `Memory` where a growth was refused.
 pub fn jekyll_language(alloc: Global) -> Result<Language>
     ensures jekyll { IfOk result IsJekyll }
     ensures memory { IfErr result (λ e. e.kind ≡ ErrorKind.Memory) }
@@ -40,38 +37,12 @@ pub fn jekyll_language(alloc: Global) -> Result<Language>
     let name = String::from_str(alloc, "sort")?;
     language.filters.register(name, FilterKind::JekyllSort)?;
     register_jekyll_filters(alloc, &mut language.filters)?;
-    register_highlight(alloc, &mut language)?;
+    register_jekyll_tags(alloc, &mut language)?;
     Ok(language)
 }
 
-/// Registers the block `highlight`, which calls the filter of its name with all that stands after
-/// the name as one text. `Memory` where a growth was refused; then nothing changes.
-fn register_highlight(alloc: Global, language: &mut Language) -> Result<()>
-    requires allowed { name_refusal language.old (codes "highlight") ≡ None }
-    requires alone { numbers_of language.old.host_tags ≡ [] }
-    ensures highlight { OnOk result (HasHighlight language.new) }
-    ensures memory { IfErr result (λ e. e.kind ≡ ErrorKind.Memory) }
-    ensures tags { language.new.tags ≡ language.old.tags }
-    ensures blocks { language.new.blocks ≡ language.old.blocks }
-    ensures filters { language.new.filters ≡ language.old.filters }
-    ensures include_paths { language.new.include_paths ≡ language.old.include_paths }
-    ensures drops_blanks { language.new.drops_blanks ≡ language.old.drops_blanks }
-{
-    let name = String::from_str(alloc, "highlight")?;
-    let filter = String::from_str(alloc, "highlight")?;
-    let block = HostBlock {
-        filter,
-        style: Style::Text,
-    };
-    match language.register_block(alloc, name, block) {
-        Ok(()) => Ok(()),
-        Err(TagError::Memory) => Err(Error::from(AllocError)),
-        Err(TagError::Refused(_)) => unreachable!(),
-    }
-}
-
-/// The language of Shopify's templates: the standard one with the names of Shopify's filters of a
-/// host; it drops the white space of blocks that write nothing. `Memory` where a growth was
+/// The language of Shopify's templates: the standard one with Shopify's tags, blocks and filters of
+/// a host; it drops the white space of blocks that write nothing. `Memory` where a growth was
 /// refused.
 pub fn shopify_language(alloc: Global) -> Result<Language>
     ensures shopify { IfOk result IsShopify }
@@ -80,6 +51,8 @@ pub fn shopify_language(alloc: Global) -> Result<Language>
     let mut language = language(alloc)?;
     language.drops_blanks = true;
     register_shopify_filters(alloc, &mut language.filters)?;
+    register_shopify_tags(alloc, &mut language)?;
+    register_shopify_blocks(alloc, &mut language)?;
     Ok(language)
 }
 

@@ -4,6 +4,7 @@
 #![tactic(auto)]
 
 mod condition_text;
+mod jekyll_tags;
 mod json_texts;
 mod languages;
 pub mod laws;
@@ -11,6 +12,7 @@ mod member;
 mod money;
 mod setting_uses;
 mod shop;
+mod shopify_tags;
 mod site;
 mod truth;
 mod where_exp;

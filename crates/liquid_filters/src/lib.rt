@@ -19,6 +19,7 @@ pub use argument::text_or;
 pub use kind::FilterKind;
 pub use laws::{answer_law, join_gives_back};
 pub use read::read_date;
+pub use stdlib::filters::array::selection::is_wanted;
 pub use stdlib::filters::array::sequence::{all_maps, property, sequence};
 pub use stdlib::filters::html::escape::escaped;
 pub use stdlib::filters::math::decimal::Decimal as DecimalText;

@@ -2,6 +2,7 @@
 use crate::paths::lies_in;
 use crate::stop::FolderStop;
 use crate::words::FolderCall;
+use liquid_files::is_folder;
 use liquid_site::Folder;
 use std::alloc::AllocError;
 use std::{fs, io};
@@ -26,13 +27,6 @@ pub fn check_folders(
         }
     }
     Ok(())
-}
-
-fn is_folder(rt: &HostRuntime, path: &str) -> bool {
-    match fs::metadata(rt, path) {
-        Ok(found) => found.is_dir(),
-        Err(_) => false,
-    }
 }
 
 /// Where a path leads, from the root of the system and without links, also where not all of it is

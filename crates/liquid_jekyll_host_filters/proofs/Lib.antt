@@ -5,6 +5,7 @@ pub mod MarkedTexts
 pub mod NamePaths
 pub mod Sentences
 pub mod HighlightedCode
+pub mod Linked
 pub mod SplitWords
 pub mod StrippedEnds
 pub mod UrlTexts

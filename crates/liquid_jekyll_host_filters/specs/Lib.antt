@@ -1,9 +1,12 @@
 pub mod Dates
 pub mod Escapes
+pub mod FeedMeta
 pub mod Groups
 pub mod Highlight
 pub mod Json
 pub mod Laws
+pub mod Links
+pub mod Named
 pub mod Numbers
 pub mod Properties
 pub mod Searches

@@ -8,9 +8,11 @@ use Rattle.liquid_jekyll_host_filters.specs.Dates.{date_to_long_string_answer}
 use Rattle.liquid_jekyll_host_filters.specs.Dates.{date_to_rfc822_answer, date_to_string_answer}
 use Rattle.liquid_jekyll_host_filters.specs.Dates.{date_to_xmlschema_answer}
 use Rattle.liquid_jekyll_host_filters.specs.Escapes.{xml_escape_answer}
+use Rattle.liquid_jekyll_host_filters.specs.FeedMeta.{feed_meta_answer}
 use Rattle.liquid_jekyll_host_filters.specs.Groups.{group_by_answer}
 use Rattle.liquid_jekyll_host_filters.specs.Highlight.{jekyll_highlight_answer}
 use Rattle.liquid_jekyll_host_filters.specs.Json.{jsonify_answer}
+use Rattle.liquid_jekyll_host_filters.specs.Links.{link_answer, post_url_answer}
 use Rattle.liquid_jekyll_host_filters.specs.Numbers.{to_integer_answer}
 use Rattle.liquid_jekyll_host_filters.specs.Searches.{find_answer, jekyll_where_answer}
 use Rattle.liquid_jekyll_host_filters.specs.Sentence.{jekyll_sentence_answer}
@@ -57,6 +59,9 @@ filter_name GroupBy = codes "group_by"
 filter_name Where = codes "where"
 filter_name Find = codes "find"
 filter_name jekyll.TheVariants.Highlight = codes "highlight"
+filter_name jekyll.TheVariants.Link = codes "link"
+filter_name jekyll.TheVariants.PostUrl = codes "post_url"
+filter_name jekyll.TheVariants.FeedMeta = codes "feed_meta"
 
 -- the least and the greatest number of arguments; each number between is taken
 abbrev pub filter_least : JekyllFilter → ℕ
@@ -64,6 +69,9 @@ filter_least GroupBy = 1
 filter_least Where = 2
 filter_least Find = 2
 filter_least jekyll.TheVariants.Highlight = 1
+filter_least jekyll.TheVariants.Link = 4
+filter_least jekyll.TheVariants.PostUrl = 2
+filter_least jekyll.TheVariants.FeedMeta = 3
 filter_least f = 0
 
 abbrev pub filter_most : JekyllFilter → ℕ
@@ -74,6 +82,9 @@ filter_most GroupBy = 1
 filter_most Where = 2
 filter_most Find = 2
 filter_most jekyll.TheVariants.Highlight = 1
+filter_most jekyll.TheVariants.Link = 4
+filter_most jekyll.TheVariants.PostUrl = 2
+filter_most jekyll.TheVariants.FeedMeta = 3
 filter_most f = 0
 
 abbrev pub filter_counts : JekyllFilter → ℕ → Bool
@@ -84,6 +95,9 @@ filter_counts GroupBy n = nat_eq n 1
 filter_counts Where n = nat_eq n 2
 filter_counts Find n = nat_eq n 2
 filter_counts jekyll.TheVariants.Highlight n = nat_eq n 1
+filter_counts jekyll.TheVariants.Link n = nat_eq n 4
+filter_counts jekyll.TheVariants.PostUrl n = nat_eq n 2
+filter_counts jekyll.TheVariants.FeedMeta n = nat_eq n 3
 filter_counts f n = nat_eq n 0
 
 abbrev pub filter_answer : JekyllFilter → Text → Text → Datum → List Datum → Answer
@@ -105,3 +119,6 @@ filter_answer GroupBy address base = group_by_answer
 filter_answer Where address base = jekyll_where_answer
 filter_answer Find address base = find_answer
 filter_answer jekyll.TheVariants.Highlight address base = jekyll_highlight_answer
+filter_answer jekyll.TheVariants.Link address base = link_answer base
+filter_answer jekyll.TheVariants.PostUrl address base = post_url_answer base
+filter_answer jekyll.TheVariants.FeedMeta address base = feed_meta_answer address base

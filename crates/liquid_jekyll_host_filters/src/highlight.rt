@@ -100,7 +100,7 @@ fn stripped_end(bytes: &[u8]) -> usize
 }
 
 /// The text without the white space and zero bytes at its ends.
-fn ruby_stripped(text: &str) -> &str
+pub(crate) fn ruby_stripped(text: &str) -> &str
     ensures { result.now ≡ ruby_stripped text.now }
 {
     let (_, text) = text.split_at(stripped_front(text.as_bytes()));

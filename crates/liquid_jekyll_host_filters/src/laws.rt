@@ -3,6 +3,7 @@ ghost use Rattle.liquid_jekyll_host_filters.specs.Laws.{AbsoluteUrlTwiceIsOnce, 
 ghost use Rattle.liquid_jekyll_host_filters.specs.Laws.{GroupsKeepOrder, GroupsLoseNothing};
 ghost use Rattle.liquid_jekyll_host_filters.specs.Laws.{NormalizeKeepsWords};
 ghost use Rattle.liquid_jekyll_host_filters.specs.Laws.{RelativeUrlTwiceIsOnce};
+ghost use Rattle.liquid_jekyll_host_filters.specs.Named.{EachIsFound};
 
 /// `relative_url` changes nothing a second time where there is no base path.
 pub fn relative_url_twice_is_once()
@@ -29,4 +30,9 @@ pub fn groups_lose_nothing()
 /// the order of the list.
 pub fn groups_keep_order()
     ensures { GroupsKeepOrder }
+{}
+
+/// `JekyllFilter::named` finds each filter by its name.
+pub fn each_is_found_by_its_name()
+    ensures { EachIsFound }
 {}

@@ -3,11 +3,14 @@
 
 mod dates;
 mod escapes;
+mod feed_meta;
 mod groups;
 mod highlight;
 mod highlight_markup;
 mod json;
 pub mod laws;
+mod links;
+mod named;
 mod numbers;
 mod percent;
 mod properties;

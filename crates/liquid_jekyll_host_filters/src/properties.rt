@@ -22,7 +22,7 @@ pub(crate) fn property<'a>(item: &'a Value, name: &str) -> Option<&'a Value>
 }
 
 /// What a value has at the name, where it is a map.
-fn member<'a>(found: Option<&'a Value>, name: &str) -> Option<&'a Value>
+pub(crate) fn member<'a>(found: Option<&'a Value>, name: &str) -> Option<&'a Value>
     ensures { found_or_nil (option_map (λ v. view v.now) result) ≡
         map_member name.now (found_or_nil (option_map (λ v. view v.now) found.entry)) }
 {

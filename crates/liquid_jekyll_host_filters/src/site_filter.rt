@@ -7,9 +7,11 @@ ghost use Rattle.liquid_jekyll_host_filters.specs.SiteFilters.{filter_least, fil
 ghost use Rattle.liquid_jekyll_host_filters.specs.SiteFilters.{filter_name};
 
 use crate::dates::{DateToLongString, DateToRfc822, DateToString, DateToXmlschema};
+use crate::feed_meta::feed_meta;
 use crate::groups::GroupBy;
 use crate::highlight::Highlight;
 use crate::json::Jsonify;
+use crate::links::{link, post_url};
 use crate::numbers::ToInteger;
 use crate::searches::{Find, Where};
 use crate::sentence::ArrayToSentenceString;
@@ -40,10 +42,13 @@ pub enum JekyllFilter {
     Where,
     Find,
     Highlight,
+    Link,
+    PostUrl,
+    FeedMeta,
 }
 
 /// Each of them.
-pub const JEKYLL_FILTERS: [JekyllFilter; 18] = [
+pub const JEKYLL_FILTERS: [JekyllFilter; 21] = [
     JekyllFilter::RelativeUrl,
     JekyllFilter::AbsoluteUrl,
     JekyllFilter::DateToString,
@@ -62,6 +67,9 @@ pub const JEKYLL_FILTERS: [JekyllFilter; 18] = [
     JekyllFilter::Where,
     JekyllFilter::Find,
     JekyllFilter::Highlight,
+    JekyllFilter::Link,
+    JekyllFilter::PostUrl,
+    JekyllFilter::FeedMeta,
 ];
 
 impl JekyllFilter {
@@ -88,6 +96,9 @@ impl JekyllFilter {
             JekyllFilter::Where => "where",
             JekyllFilter::Find => "find",
             JekyllFilter::Highlight => "highlight",
+            JekyllFilter::Link => "link",
+            JekyllFilter::PostUrl => "post_url",
+            JekyllFilter::FeedMeta => "feed_meta",
         }
     }
 
@@ -96,7 +107,9 @@ impl JekyllFilter {
         ensures { result ≡ filter_least self }
     {
         match self {
-            JekyllFilter::Where | JekyllFilter::Find => 2,
+            JekyllFilter::Link => 4,
+            JekyllFilter::FeedMeta => 3,
+            JekyllFilter::Where | JekyllFilter::Find | JekyllFilter::PostUrl => 2,
             JekyllFilter::GroupBy | JekyllFilter::Highlight => 1,
             _ => 0,
         }
@@ -107,7 +120,9 @@ impl JekyllFilter {
         ensures { result ≡ filter_most self }
     {
         match self {
-            JekyllFilter::Where | JekyllFilter::Find => 2,
+            JekyllFilter::Link => 4,
+            JekyllFilter::FeedMeta => 3,
+            JekyllFilter::Where | JekyllFilter::Find | JekyllFilter::PostUrl => 2,
             JekyllFilter::DateToString | JekyllFilter::DateToLongString => 2,
             JekyllFilter::GroupBy | JekyllFilter::Highlight => 1,
             JekyllFilter::ArrayToSentenceString => 1,
@@ -155,7 +170,9 @@ impl Filter for SiteFilter {
             JekyllFilter::DateToString | JekyllFilter::DateToLongString => count <= 2,
             JekyllFilter::ArrayToSentenceString => count <= 1,
             JekyllFilter::GroupBy | JekyllFilter::Highlight => count == 1,
-            JekyllFilter::Where | JekyllFilter::Find => count == 2,
+            JekyllFilter::Link => count == 4,
+            JekyllFilter::FeedMeta => count == 3,
+            JekyllFilter::Where | JekyllFilter::Find | JekyllFilter::PostUrl => count == 2,
             _ => count == 0,
         }
     }
@@ -187,6 +204,15 @@ impl Filter for SiteFilter {
             JekyllFilter::Where => Where.evaluate(alloc, input, args),
             JekyllFilter::Find => Find.evaluate(alloc, input, args),
             JekyllFilter::Highlight => Highlight.evaluate(alloc, input, args),
+            JekyllFilter::Link => link(alloc, self.base.as_str(), input, args),
+            JekyllFilter::PostUrl => post_url(alloc, self.base.as_str(), input, args),
+            JekyllFilter::FeedMeta => feed_meta(
+                alloc,
+                self.address.as_str(),
+                self.base.as_str(),
+                input,
+                args,
+            ),
         }
     }
 }

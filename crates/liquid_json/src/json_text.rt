@@ -20,7 +20,7 @@ pub fn json_of(alloc: Global, value: &Value) -> Result<String>
 }
 
 /// The text of bytes that are UTF-8.
-fn text_of_bytes(bytes: Vec<u8>) -> String
+pub(crate) fn text_of_bytes(bytes: Vec<u8>) -> String
     requires { IsUtf8 bytes.items }
     ensures { string_bytes result ≡ bytes.items }
 {

@@ -1,12 +1,12 @@
 //! A JSON Schema of what a template asks of its data.
 ghost use Rattle.std.specs.Prelude.{◌≡◌, ◌++◌, codes, IfOk, OnOk, string_bytes};
-ghost use Rattle.std.specs.Str.{IsUtf8};
 ghost use Rattle.liquid_model.specs.UseViews.{members_view, turns_view, use_view};
 ghost use Rattle.liquid_json.specs.Schemas.{are_none, bare_tokens, entry_tokens};
 ghost use Rattle.liquid_json.specs.Schemas.{item_use_tokens};
 ghost use Rattle.liquid_json.specs.Schemas.{properties_start, properties_tokens};
 ghost use Rattle.liquid_json.specs.Schemas.{schema_text, use_tokens};
 
+use crate::json_text::text_of_bytes;
 use json::{Pretty, Token};
 use liquid_model::{ItemUse, Use, Uses};
 use std::alloc::{AllocError, Global};
@@ -32,17 +32,6 @@ pub fn schema_of(alloc: Global, uses: &Uses) -> Result<String, AllocError>
     let mut text = text_of_bytes(schema.into_inner());
     text.push_str("\n")?;
     Ok(text)
-}
-
-/// The text of bytes that are UTF-8.
-fn text_of_bytes(bytes: Vec<u8>) -> String
-    requires { IsUtf8 bytes.items }
-    ensures { string_bytes result ≡ bytes.items }
-{
-    match String::from_utf8(bytes) {
-        Ok(text) => text,
-        Err(_) => unreachable!(),
-    }
 }
 
 /// Puts a text under a key.

@@ -15,26 +15,35 @@ use Rattle.liquid_language.specs.declared.host_tags.HostKind.TheVariants as kind
 use Rattle.liquid_language.specs.declared.host_tags.HostTags.{HostTags}
 use Rattle.liquid_language.specs.declared.registry.Language.{Language}
 
--- the filter that a tag calls, the filter's input, and how a tag of the name is read
+-- the filter that a tag calls, the filter's input, how a tag of the name is read, and the values
+-- that are given with it
 pub record TagCall : Type 0 where
   pub filter : Text
   pub input : Expression
   pub style : Style
+  pub given : List Expression
 
 abbrev pub tag_call : HostCall → TagCall
 tag_call call = record {
   filter = string_bytes call.filter;
   input = expression_view call.input;
   style = call.style;
+  given = map expression_view call.given.items;
 }
 
--- the filter that a block's text goes through, and how the tag that begins the block is read
+-- the filter that a block's text goes through, how the tag that begins the block is read, and the
+-- values that are given with it
 pub record BlockCall : Type 0 where
   pub filter : Text
   pub style : Style
+  pub given : List Expression
 
 abbrev pub block_call : HostBlock → BlockCall
-block_call block = record { filter = string_bytes block.filter; style = block.style }
+block_call block = record {
+  filter = string_bytes block.filter;
+  style = block.style;
+  given = map expression_view block.given.items;
+}
 
 -- the numbers of the tags and of the blocks, by name
 abbrev pub numbers_of : HostTags → List (Text × HostKind)

@@ -25,7 +25,7 @@ use Rattle.liquid_filters.specs.declared.kind.FilterKind.TheVariants.{UrlDecode,
 use Rattle.liquid_filters.specs.declared.kind.FilterKind.TheVariants.{Unshift, Pop, Shift}
 use Rattle.liquid_filters.specs.declared.kind.FilterKind.TheVariants.{ArrayToSentenceString}
 use Rattle.liquid_filters.specs.declared.kind.FilterKind.TheVariants.{Slugify, Pluralize, DateInTz}
-use Rattle.liquid_language.specs.HostTags.{numbers_of}
+use Rattle.liquid_language.specs.HostTags.{blocks_of, calls_of, end_names, numbers_of}
 use Rattle.liquid_language.specs.Languages.{kinds_of}
 use Rattle.liquid_language.specs.Registered.{registered_in}
 use Rattle.liquid_language.specs.declared.registry.BlockKind.{BlockKind}
@@ -80,11 +80,15 @@ with_filters m [] = m
 with_filters m (k ∷ ks) = with_filters (insert m (kind_name k) (Kind k)) ks
 
 -- the language of the standard library: these tags, blocks and filters, each under its name, and no
--- others; and no tags of a host
+-- others; and no tags and blocks of a host
 pub record IsStandard (l : Language) : Type 0 where
   pub tags : listed (kinds_of l.tags) ≡ bind_each standard_tags (listed [])
   pub blocks : listed (kinds_of l.blocks) ≡ bind_each standard_blocks (listed [])
   pub filters : listed (registered_in l.filters) ≡ with_filters (listed []) standard_filters
   pub include_paths : l.include_paths ≡ false
   pub drops_blanks : l.drops_blanks ≡ false
+  pub escapes_html : l.escapes_html ≡ false
   pub host_tags : numbers_of l.host_tags ≡ []
+  pub host_calls : calls_of l.host_tags ≡ []
+  pub host_blocks : blocks_of l.host_tags ≡ []
+  pub host_ends : end_names l.host_tags ≡ []

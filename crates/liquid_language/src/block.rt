@@ -151,6 +151,14 @@ pub fn is_end(language: &Language, block: Block, name: &str) -> bool
     name == end_tag(language, block)
 }
 
+/// Whether a name is meant as that of a tag that ends a block.
+pub fn begins_with_end(name: &str) -> bool {
+    match name.get(..3) {
+        Some(front) => front.eq_ignore_ascii_case("end"),
+        None => false,
+    }
+}
+
 /// The name of the tag that ends the block.
 pub fn end_tag(language: &Language, block: Block) -> &str
     ensures { result.now ≡ end_word language.now block }

@@ -58,6 +58,7 @@ impl Language {
         ensures filters { self.new.filters ≡ self.old.filters }
         ensures include_paths { self.new.include_paths ≡ self.old.include_paths }
         ensures drops_blanks { self.new.drops_blanks ≡ self.old.drops_blanks }
+        ensures escapes_html { self.new.escapes_html ≡ self.old.escapes_html }
     {
         if let Some(refusal) = self.name_refusal(name.as_str()) {
             return Err(TagError::Refused(refusal));
@@ -97,6 +98,7 @@ impl Language {
         ensures filters { self.new.filters ≡ self.old.filters }
         ensures include_paths { self.new.include_paths ≡ self.old.include_paths }
         ensures drops_blanks { self.new.drops_blanks ≡ self.old.drops_blanks }
+        ensures escapes_html { self.new.escapes_html ≡ self.old.escapes_html }
     {
         if let Some(reason) = self.name_refusal(name.as_str()) {
             return Err(TagError::Refused(reason));

@@ -14,7 +14,8 @@ use liquid_model::Result;
 use std::alloc::Global;
 use std::collections::btree_map::Keys;
 
-/// What a tag of a host writes: what a filter makes of an input and of the tag's values.
+/// What a tag of a host writes: what a filter makes of an input, of the tag's values and of those
+/// that are given with it.
 pub struct HostCall {
     /// The name that the filter is registered under.
     pub filter: String,
@@ -22,6 +23,9 @@ pub struct HostCall {
     pub input: Expression,
     /// How what stands after the tag's name is read.
     pub style: Style,
+    /// Expressions as `page.title`, whose values the filter is given after those of the tag; nil
+    /// where one is missing.
+    pub given: Vec<Expression>,
 }
 
 /// Drops the fields. Written by hand, so that each early return drops the value by one call to
@@ -32,18 +36,31 @@ impl Drop for HostCall {
             filter: _,
             input: _,
             style: _,
+            given: _,
         } = self;
     }
 }
 
-/// What a block of a host writes: what a filter makes of the text of the block's body and of the
-/// values in the tag that begins it.
-#[derive(Drop)]
+/// What a block of a host writes: what a filter makes of the text of the block's body, of the
+/// values in the tag that begins it and of those that are given with it.
 pub struct HostBlock {
     /// The name that the filter is registered under.
     pub filter: String,
     /// How what stands after the block's name is read.
     pub style: Style,
+    /// Expressions whose values the filter is given after those of the tag, as `HostCall::given`.
+    pub given: Vec<Expression>,
+}
+
+/// Drops the fields, as `HostCall` does.
+impl Drop for HostBlock {
+    fn drop(self) {
+        let HostBlock {
+            filter: _,
+            style: _,
+            given: _,
+        } = self;
+    }
 }
 
 /// What a name of a host stands for, by its number among the tags or among the blocks.

@@ -14,8 +14,8 @@ pub mod stdlib;
 mod style;
 
 pub use block::{
-    Block, BlockContext, Control, Role, body_after, end_tag, is_end, role_of, standard_end,
-    verbatim_body,
+    Block, BlockContext, Control, Role, begins_with_end, body_after, end_tag, is_end, role_of,
+    standard_end, verbatim_body,
 };
 pub use host_names::{NameRefusal, TagError};
 pub use host_tags::{HostBlock, HostCall, HostKind, HostTags};

@@ -120,6 +120,9 @@ pub struct Language {
     pub include_paths: bool,
     /// Whether the white space of blocks that write nothing is dropped, as Liquid for Ruby does.
     pub drops_blanks: bool,
+    /// Whether what outputs and `cycle` write is escaped for HTML, but of an output that ends with
+    /// `| raw`.
+    pub escapes_html: bool,
 }
 
 /// Drops the fields. Written by hand, so that each early return drops the value by one call to
@@ -133,13 +136,14 @@ impl Drop for Language {
             host_tags: _,
             include_paths: _,
             drops_blanks: _,
+            escapes_html: _,
         } = self;
     }
 }
 
 impl Language {
-    /// A language without tags, blocks and filters, in which no tag takes a path without quotes and
-    /// all white space is written.
+    /// A language without tags, blocks and filters, in which no tag takes a path without quotes,
+    /// all white space is written and nothing is escaped.
     pub fn new(alloc: Global) -> Language
         ensures tags { kinds_of result.tags ≡ [] }
         ensures blocks { kinds_of result.blocks ≡ [] }
@@ -150,6 +154,7 @@ impl Language {
         ensures host_ends { end_names result.host_tags ≡ [] }
         ensures include_paths { result.include_paths ≡ false }
         ensures drops_blanks { result.drops_blanks ≡ false }
+        ensures escapes_html { result.escapes_html ≡ false }
     {
         Language {
             tags: Registry::new(alloc),
@@ -158,6 +163,7 @@ impl Language {
             host_tags: HostTags::new(alloc),
             include_paths: false,
             drops_blanks: false,
+            escapes_html: false,
         }
     }
 }

@@ -108,7 +108,7 @@ fn placed_items<'s>(
 }
 
 /// What a text has before its rest.
-fn front_before<'s>(text: &'s str, rest: &str) -> &'s str {
+pub fn front_before<'s>(text: &'s str, rest: &str) -> &'s str {
     text.get(..text.len().saturating_sub(rest.len()))
         .unwrap_or(text)
 }

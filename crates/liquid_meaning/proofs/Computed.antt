@@ -3,8 +3,8 @@ use Rattle.std.specs.Prelude.{ℕ}
 use mathlib.Core.Path.{refl}
 use Rattle.std.specs.Fmt.{digits}
 use Rattle.liquid_model.specs.Maps.{empty, insert, retain_keys, merged, listed}
-use Rattle.liquid_core.specs.Expressions.{value_of, path_of, all_required, sought_whole, needed_whole}
-use Rattle.liquid_evaluation.specs.Calls.{applied}
+use Rattle.liquid_core.specs.Expressions.{value_of, path_of, sought_whole, needed_whole}
+use Rattle.liquid_evaluation.specs.Calls.{applied, taken_arguments}
 use Rattle.liquid_evaluation.specs.Tree.{Nodes}
 use Rattle.liquid_evaluation.specs.Evaluation.{chain_value, comparison_truth, atom_truth, all_true, truth_of, source_items, amount, selected_items, bound_values}
 use Rattle.liquid_evaluation.specs.Names.{expression_names, all_names, optional_names, filters_names, chain_names, atom_names, atoms_names, condition_names, source_names, window_names, bound_names, target_names, include_name, node_names, nodes_names, whens_names, partials_names}
@@ -20,7 +20,7 @@ use Rattle.liquid_meaning.specs.WorkedNames.{WorkedNames}
 
 -- to unfold this is to compute
 computed : Setting → ℕ → Nodes → Run Nothing
-unfolding empty insert retain_keys merged listed digits value_of path_of all_required sought_whole needed_whole applied chain_value comparison_truth atom_truth all_true truth_of source_items amount selected_items bound_values done read_environment evaluate fault change write go_on ◌>>=◌ with_scope buffered apart unless_interrupted until_break for_all loop rows has_equal node_meaning nodes_meaning deeper_meaning meaning
+unfolding empty insert retain_keys merged listed digits value_of path_of taken_arguments sought_whole needed_whole applied chain_value comparison_truth atom_truth all_true truth_of source_items amount selected_items bound_values done read_environment evaluate fault change write go_on ◌>>=◌ with_scope buffered apart unless_interrupted until_break for_all loop rows has_equal node_meaning nodes_meaning deeper_meaning meaning
 computed = meaning
 
 pub worked_stores : WorkedStores

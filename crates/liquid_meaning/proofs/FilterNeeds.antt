@@ -1,5 +1,5 @@
 -- Filters answer alike to inputs that are alike in what they ask.
-use Rattle.std.specs.Prelude.{◌≡◌, Bool, true, false, cond, List, [], ◌∷◌, ◌++◌, Option, Some, None, Result, Ok, Err, bytes_eq, codes, option_and_then, option_map}
+use Rattle.std.specs.Prelude.{◌≡◌, ℕ, zero, suc, ◌-◌, Bool, true, false, cond, List, [], ◌∷◌, ◌++◌, Option, Some, None, Result, Ok, Err, bytes_eq, codes, option_and_then, option_map}
 use mathlib.Core.Path.{refl, sym, ap, subst}
 use Rattle.std.specs.Option.{unwrap_or}
 use Rattle.std.specs.Ordering.{is_lt}
@@ -20,7 +20,8 @@ use Rattle.liquid_filters.specs.declared.kind.FilterKind.{FilterKind}
 use Rattle.liquid_filters.specs.declared.kind.FilterKind.TheVariants.{Sort, SortNatural, Where, Reverse, Map, Concat, First, Last, Size, Compact, Default}
 use Rattle.liquid_evaluation.specs.Tree.{Filter, existing, hosted}
 use Rattle.liquid_evaluation.specs.Evaluation.{answers_with}
-use Rattle.liquid_core.specs.Expressions.{value_of, all_required}
+use Rattle.liquid_core.specs.Expressions.{value_of}
+use Rattle.liquid_evaluation.specs.Calls.{taken_arguments}
 use Rattle.liquid_filters.specs.Sequences.{list, sequence, all_maps, property, of_list}
 use Rattle.liquid_filters.specs.Ends.{or_nil, first_answer, last_answer}
 use Rattle.liquid_filters.specs.Keeping.{is_wanted, where_of, where_by, where_answer, mapped_property, map_answer, compact_by, compact_answer}
@@ -214,25 +215,30 @@ record IsFirst (name : Text) (arguments : List Datum) : Type 0 where
   all : arguments ≡ first ∷ others
   named : text_of first ≡ name
 
-first_argument : (xs : List Expression) (name : Text) (e : Environment) (arguments : List Datum) → literal_first_argument xs ≡ Some name → all_required xs e ≡ Ok arguments → IsFirst name arguments
-unfolding all_required value_of values
-first_argument [] name e arguments h is = absurd cc
-first_argument (variable x steps ∷ xs) name e arguments h is = absurd cc
-first_argument (literal d ∷ xs) name e arguments h is = at (all_required xs e) is
+first_argument : (n : ℕ) (xs : List Expression) (name : Text) (e : Environment) (arguments : List Datum) → literal_first_argument xs ≡ Some name → taken_arguments n xs e ≡ Ok arguments → IsFirst name arguments
+unfolding taken_arguments value_of values
+first_argument n [] name e arguments h is = absurd cc
+first_argument n (variable x steps ∷ xs) name e arguments h is = absurd cc
+first_argument zero (literal d ∷ xs) name e arguments h is = at (taken_arguments (0 - 1) xs e) is
+  where
+    at : (r : Result (List Datum) ErrorKind) → (r >>= (λ ds. Ok (d ∷ ds))) ≡ Ok arguments → IsFirst name arguments
+    at (Ok ds) is = record { first = d; others = ds; all = sym (ap (λ r. values r) is); named = ap (λ o. unwrap_or o name) h }
+    at (Err kind) is = absurd cc
+first_argument (suc n) (literal d ∷ xs) name e arguments h is = at (taken_arguments (suc n - 1) xs e) is
   where
     at : (r : Result (List Datum) ErrorKind) → (r >>= (λ ds. Ok (d ∷ ds))) ≡ Ok arguments → IsFirst name arguments
     at (Ok ds) is = record { first = d; others = ds; all = sym (ap (λ r. values r) is); named = ap (λ o. unwrap_or o name) h }
     at (Err kind) is = absurd cc
 
-no_arguments : (e : Environment) (arguments : List Datum) → all_required [] e ≡ Ok arguments → [] ≡ arguments
-unfolding all_required values
-no_arguments e arguments is = ap values is
+no_arguments : (n : ℕ) (e : Environment) (arguments : List Datum) → taken_arguments n [] e ≡ Ok arguments → [] ≡ arguments
+unfolding taken_arguments values
+no_arguments n e arguments is = ap values is
 
 -- equal inputs where everything is asked, and else what f asks
-by_argument : (v : Use) (answer : Datum → List Datum → Result Datum ErrorKind) (f : Text → Use) (xs : List Expression) (e : Environment) (arguments : List Datum) → all_required xs e ≡ Ok arguments
+by_argument : (v : Use) (answer : Datum → List Datum → Result Datum ErrorKind) (f : Text → Use) (n : ℕ) (xs : List Expression) (e : Environment) (arguments : List Datum) → taken_arguments n xs e ≡ Ok arguments
     → ((name : Text) → bytes_eq name (codes "size") ≡ false → (first : Datum) (others : List Datum) → text_of first ≡ name → (c d : Datum) → AlikeAs (f name) c d → Both (AlikeAs v) (answer c (first ∷ others)) (answer d (first ∷ others)))
     → (c d : Datum) → AlikeAs (by_property (literal_first_argument xs) f) c d → Both (AlikeAs v) (answer c arguments) (answer d arguments)
-by_argument v answer f xs e arguments is k c d a = at (literal_first_argument xs) refl a
+by_argument v answer f n xs e arguments is k c d a = at (literal_first_argument xs) refl a
   where
     equal : Some c ≡ Some d → Both (AlikeAs v) (answer c arguments) (answer d arguments)
     equal a = answers_same v _ _ (ap (λ o. answer (unwrap_or o nil) arguments) a)
@@ -240,41 +246,41 @@ by_argument v answer f xs e arguments is k c d a = at (literal_first_argument xs
     named : (name : Text) → literal_first_argument xs ≡ Some name → (b : Bool) → same_text name (codes "size") ≡ b → AlikeAs (cond b everything (f name)) c d → Both (AlikeAs v) (answer c arguments) (answer d arguments)
     named name h true no_length a = equal a
     named name h false no_length a =
-        let r = first_argument xs name e arguments h is in
+        let r = first_argument n xs name e arguments h is in
         subst (λ zs. Both (AlikeAs v) (answer c zs) (answer d zs)) (sym r.all) (k name no_length r.first r.others r.named c d a)
 
     at : (o : Option Text) → literal_first_argument xs ≡ o → AlikeAs (by_property o f) c d → Both (AlikeAs v) (answer c arguments) (answer d arguments)
     at None h a = equal a
     at (Some name) h a = named name h (same_text name (codes "size")) refl a
 
-kind_respects : (kind : FilterKind) (xs : List Expression) (v : Use) (e : Environment) (arguments : List Datum) → all_required xs e ≡ Ok arguments
+kind_respects : (kind : FilterKind) (n : ℕ) (xs : List Expression) (v : Use) (e : Environment) (arguments : List Datum) → taken_arguments n xs e ≡ Ok arguments
     → (c d : Datum) → AlikeAs (kind_needs kind xs v) c d → Both (AlikeAs v) (kind_answer kind c arguments) (kind_answer kind d arguments)
-kind_respects Size xs v e arguments is c d a = answers_same v _ _ (ap (λ n. Ok (counted n)) (same_size nothing c d a))
-kind_respects First xs v e arguments is c d a = first_respects v arguments c d a
-kind_respects Last xs v e arguments is c d a = last_respects v arguments c d a
-kind_respects Reverse xs v e arguments is c d a = reverse_respects v arguments c d a
-kind_respects Concat xs v e arguments is c d a = concat_respects v arguments c d a
-kind_respects Map xs v e arguments is c d a = by_argument v map_answer _ xs e arguments is
+kind_respects Size n xs v e arguments is c d a = answers_same v _ _ (ap (λ n. Ok (counted n)) (same_size nothing c d a))
+kind_respects First n xs v e arguments is c d a = first_respects v arguments c d a
+kind_respects Last n xs v e arguments is c d a = last_respects v arguments c d a
+kind_respects Reverse n xs v e arguments is c d a = reverse_respects v arguments c d a
+kind_respects Concat n xs v e arguments is c d a = concat_respects v arguments c d a
+kind_respects Map n xs v e arguments is c d a = by_argument v map_answer _ n xs e arguments is
     (λ name no_length first others h c d a. subst (λ t. Both (AlikeAs v) (of_list (mapped_property t) c) (of_list (mapped_property t) d)) (sym h) (map_respects name v c d no_length a)) c d a
-kind_respects Where xs v e arguments is c d a = by_argument v where_answer _ xs e arguments is
+kind_respects Where n xs v e arguments is c d a = by_argument v where_answer _ n xs e arguments is
     (λ name no_length first others h c d a. subst (λ t. Both (AlikeAs v) (where_by t (first_of others) c) (where_by t (first_of others) d)) (sym h) (where_respects name v no_length (first_of others) c d a)) c d a
-kind_respects Sort xs v e arguments is c d a = by_argument v sort_answer _ xs e arguments is
+kind_respects Sort n xs v e arguments is c d a = by_argument v sort_answer _ n xs e arguments is
     (λ name no_length first others h c d a. subst (λ t. Both (AlikeAs v) (sort_named key_of t c) (sort_named key_of t d)) (sym h)
     (sort_respects name v no_length key_of (λ d e p. ap (option_and_then sort_key) p) c d a)) c d a
-kind_respects SortNatural xs v e arguments is c d a = by_argument v sort_natural_answer _ xs e arguments is
+kind_respects SortNatural n xs v e arguments is c d a = by_argument v sort_natural_answer _ n xs e arguments is
     (λ name no_length first others h c d a. subst (λ t. Both (AlikeAs v) (sort_named natural_key_of t c) (sort_named natural_key_of t d)) (sym h)
     (sort_respects name v no_length natural_key_of (λ d e p. ap (λ o. option_map (λ x. text (lower_case (text_of x))) (option_and_then sort_key o)) p) c d a)) c d a
-kind_respects Compact [] v e arguments is c d a =
-    subst (λ zs. Both (AlikeAs v) (compact_answer c zs) (compact_answer d zs)) (no_arguments e arguments is) (compact_respects v c d a)
-kind_respects Compact (x ∷ xs) v e arguments is c d a = by_argument v compact_answer _ (x ∷ xs) e arguments is
+kind_respects Compact n [] v e arguments is c d a =
+    subst (λ zs. Both (AlikeAs v) (compact_answer c zs) (compact_answer d zs)) (no_arguments n e arguments is) (compact_respects v c d a)
+kind_respects Compact n (x ∷ xs) v e arguments is c d a = by_argument v compact_answer _ n (x ∷ xs) e arguments is
     (λ name no_length first others h c d a. subst (λ t. Both (AlikeAs v) (compact_by t c) (compact_by t d)) (sym h) (given_respects v name no_length c d a)) c d a
-kind_respects Default xs v e arguments is c d a = default_respects v arguments c d a
-kind_respects kind xs v e arguments is c d a = answers_same v _ _ (ap (λ o. kind_answer kind (unwrap_or o nil) arguments) a)
+kind_respects Default n xs v e arguments is c d a = default_respects v arguments c d a
+kind_respects kind n xs v e arguments is c d a = answers_same v _ _ (ap (λ o. kind_answer kind (unwrap_or o nil) arguments) a)
 
-respected : (named : Text → FilterAnswer) (filter : Filter) (xs : List Expression) (v : Use) (e : Environment) (arguments : List Datum) → all_required xs e ≡ Ok arguments
+respected : (named : Text → FilterAnswer) (filter : Filter) (n : ℕ) (xs : List Expression) (v : Use) (e : Environment) (arguments : List Datum) → taken_arguments n xs e ≡ Ok arguments
     → (c d : Datum) → AlikeAs (filter_needs filter xs v) c d → Both (AlikeAs v) (answers_with named filter c arguments) (answers_with named filter d arguments)
-respected named (existing kind) xs v e arguments is c d a = kind_respects kind xs v e arguments is c d a
-respected named (hosted name) xs v e arguments is c d a = answers_same v _ _ (ap (λ o. named name (unwrap_or o nil) arguments) a)
+respected named (existing kind) n xs v e arguments is c d a = kind_respects kind n xs v e arguments is c d a
+respected named (hosted name) n xs v e arguments is c d a = answers_same v _ _ (ap (λ o. named name (unwrap_or o nil) arguments) a)
 
 pub known_respected : KnownRespected
-known_respected named call v e arguments is c d a = respected named call.filter call.arguments v e arguments is c d a
+known_respected named call v e arguments is c d a = respected named call.filter call.required call.arguments v e arguments is c d a

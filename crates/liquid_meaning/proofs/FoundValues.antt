@@ -1,17 +1,17 @@
 -- What is evaluated over other data is the same, where each name that is looked up is found the same.
-use Rattle.std.specs.Prelude.{◌≡◌, Bool, true, false, ◌||◌, cond, T, List, [], ◌∷◌, ◌++◌, Option, Some, None, Result, Ok, Err}
+use Rattle.std.specs.Prelude.{◌≡◌, ℕ, zero, suc, ◌-◌, Bool, true, false, ◌||◌, cond, T, List, [], ◌∷◌, ◌++◌, Option, Some, None, Result, Ok, Err}
 use mathlib.Core.Path.{refl, sym, ap, subst, ◌∙◌}
-use Rattle.std.specs.Option.{option_and_then}
+use Rattle.std.specs.Option.{option_and_then, unwrap_or}
 use Rattle.liquid_model.specs.Texts.{Text, same_text}
-use Rattle.liquid_model.specs.Data.{Datum, scalar}
+use Rattle.liquid_model.specs.Data.{Datum, nil, scalar}
 use Rattle.liquid_model.specs.declared.error.ErrorKind.{ErrorKind}
 use Rattle.liquid_model.specs.Find.{find}
 use Rattle.liquid_core.specs.Expression.{Expression, literal, variable, Steps, no_steps, step}
-use Rattle.liquid_evaluation.specs.Calls.{applied}
+use Rattle.liquid_evaluation.specs.Calls.{applied, taken_argument, taken_arguments}
 use Rattle.liquid_evaluation.specs.Tree.{FilterCall, Chain, Atom, bare, compared, Condition, Source, each_of, counted, Window, Bindings}
 use Rattle.liquid_core.specs.Environment.{Environment, lookup}
 use Rattle.liquid_model.specs.Fallible.{◌>>=◌}
-use Rattle.liquid_core.specs.Expressions.{value_of, path_of, nil_if_missing, none_if_missing, required, sought, all_required, sought_whole, needed_whole}
+use Rattle.liquid_core.specs.Expressions.{value_of, path_of, nil_if_missing, none_if_missing, required, sought, sought_whole, needed_whole}
 use Rattle.liquid_evaluation.specs.Evaluation.{FilterAnswers, answers_in, entry_value, calls_by, through, chain_value, bare_truth, atom_truth, all_true, truth_of, source_items, amount, selected_items, bound_values}
 use Rattle.liquid_evaluation.specs.Names.{expression_names, steps_names, all_names, optional_names, filters_names, chain_names, atom_names, atoms_names, condition_names, source_names, window_names, bound_names}
 use Rattle.liquid_model.specs.Maps.{Map}
@@ -90,15 +90,19 @@ module _ (other : Map Datum) (e : Environment) where
   unfolding needed_whole
   whole_same x h = bind_same (sought_whole_same x h) (λ n. refl)
 
-  pub all_required_same : (xs : List Expression) → All P (all_names xs) → all_required xs e ≡ all_required xs f
-  unfolding all_required all_names
-  all_required_same [] h = refl
-  all_required_same (x ∷ xs) h = bind_same (required_same x (left P (expression_names x) _ h)) (λ d. bind_same (all_required_same xs (right P (expression_names x) _ h)) (λ ds. refl))
+  argument_same : (n : ℕ) (x : Expression) → All P (expression_names x) → taken_argument n x e ≡ taken_argument n x f
+  argument_same zero x h = ap (λ o. Ok (unwrap_or o nil)) (value_same x h)
+  argument_same (suc n) x h = required_same x h
+
+  pub arguments_same : (n : ℕ) (xs : List Expression) → All P (all_names xs) → taken_arguments n xs e ≡ taken_arguments n xs f
+  unfolding taken_arguments all_names
+  arguments_same n [] h = refl
+  arguments_same n (x ∷ xs) h = bind_same (argument_same n x (left P (expression_names x) _ h)) (λ d. bind_same (arguments_same (n - 1) xs (right P (expression_names x) _ h)) (λ ds. refl))
 
   calls_same : (answers : FilterAnswers) (calls : List FilterCall) → All P (filters_names calls) → (d : Datum) → applied (calls_by answers calls) d e ≡ applied (calls_by answers calls) d f
   unfolding applied filters_names
   calls_same answers [] h d = refl
-  calls_same answers (call ∷ calls) h d = bind_same (all_required_same call.arguments (left P (all_names call.arguments) _ h)) (λ arguments. bind_same refl (λ answer. calls_same answers calls (right P (all_names call.arguments) _ h) answer))
+  calls_same answers (call ∷ calls) h d = bind_same (arguments_same call.required call.arguments (left P (all_names call.arguments) _ h)) (λ arguments. bind_same refl (λ answer. calls_same answers calls (right P (all_names call.arguments) _ h) answer))
 
   pub through_same : (answers : FilterAnswers) (calls : List FilterCall) → All P (filters_names calls) → (d : Datum) → through answers calls d e ≡ through answers calls d f
   through_same answers calls h d = calls_same (answers_in e.missing answers) calls h d

@@ -1,8 +1,8 @@
 -- A lenient run beside the strict one, run by run.
-use Rattle.std.specs.Prelude.{◌≡◌, ◌⊎◌, ℕ, zero, suc, ◌+ℤ◌, ◌-ℤ◌, pos, ℤ, Bool, true, false, cond, List, [], ◌∷◌, ◌++◌, slice_get, Option, Some, None, Result, Ok, Err}
+use Rattle.std.specs.Prelude.{◌≡◌, ◌⊎◌, ℕ, zero, suc, ◌-◌, ◌+ℤ◌, ◌-ℤ◌, pos, ℤ, Bool, true, false, cond, List, [], ◌∷◌, ◌++◌, slice_get, Option, Some, None, Result, Ok, Err}
 use mathlib.Core.Path.{refl, sym, ap, subst, ◌∙◌}
 use Rattle.std.proofs.Common.{append_assoc, inl, inr}
-use Rattle.std.specs.Option.{ok_or, option_and_then}
+use Rattle.std.specs.Option.{ok_or, option_and_then, unwrap_or}
 use Rattle.liquid_model.specs.Texts.{Text}
 use Rattle.liquid_model.specs.Data.{Datum, nil, truth, number, text, array, object, scalar, text_of}
 use Rattle.liquid_model.specs.Find.{find}
@@ -15,11 +15,11 @@ use Rattle.liquid_filters.proofs.Ended.{kind_in}
 use Rattle.liquid_core.specs.declared.interrupt.Interrupt.{Interrupt}
 use Rattle.liquid_core.specs.declared.missing_value.Missing.TheVariants.{IsFault, IsNil}
 use Rattle.liquid_core.specs.Expression.{Expression, literal, variable, Steps, no_steps, step}
-use Rattle.liquid_core.specs.Expressions.{value_of, path_of, forgiven, if_missing, nil_if_missing, none_if_missing, required, sought, all_required, whole_found, sought_whole, needed_whole}
+use Rattle.liquid_core.specs.Expressions.{value_of, path_of, forgiven, if_missing, nil_if_missing, none_if_missing, required, sought, whole_found, sought_whole, needed_whole}
 use Rattle.liquid_core.specs.Environment.{Environment, own_environment, lookup}
 use Rattle.liquid_evaluation.specs.declared.comparison.ComparisonOperator.{ComparisonOperator}
 use Rattle.liquid_evaluation.specs.declared.comparison.ComparisonOperator.TheVariants.{Equals, NotEquals, LessThan, GreaterThan, LessThanEquals, GreaterThanEquals, Contains}
-use Rattle.liquid_evaluation.specs.Calls.{applied}
+use Rattle.liquid_evaluation.specs.Calls.{applied, taken_argument, taken_arguments}
 use Rattle.liquid_evaluation.specs.Tree.{Filter, existing, hosted, FilterCall, Chain, Atom, bare, compared, Condition, Source, each_of, counted, Window, Bindings, Node, plain, raw, comment, output, assign, increment, decrement, break_loop, continue_loop, cycle, if_true, unless, case_of, for_each, tablerow, capture, ifchanged, filtered, include, jekyll_include, render, Nodes, no_nodes, node, Whens, no_whens, when}
 use Rattle.liquid_evaluation.specs.Evaluation.{FilterAnswers, refuses_input, accepted, answers_in, entry_value, calls_by, chain_value, contains, comparison_truth, truth_of_found, bare_truth, atom_truth, all_true, truth_of, value_items, not_too_long, source_items, amount, selected_items, bound_values}
 use Rattle.liquid_evaluation.proofs.Forgiveness.{refused_is}
@@ -135,10 +135,14 @@ module _ (P : Type 0) where
   unfolding needed_whole
   found_whole x e = found_then (found_sought_whole x e) (λ n. found_ok _)
 
-  found_all_required : (xs : List Expression) (e : Environment) → Found (all_required xs (strictly e)) (all_required xs (leniently e))
-  unfolding all_required
-  found_all_required [] e = found_ok []
-  found_all_required (x ∷ xs) e = found_then (found_required x e) (λ d. found_then (found_all_required xs e) (λ ds. found_ok _))
+  found_argument : (n : ℕ) (x : Expression) (e : Environment) → Found (taken_argument n x (strictly e)) (taken_argument n x (leniently e))
+  found_argument zero x e = subst (λ o. Found (taken_argument zero x (strictly e)) (Ok (unwrap_or o nil))) (value_alike x e) (found_ok _)
+  found_argument (suc n) x e = found_required x e
+
+  found_arguments : (n : ℕ) (xs : List Expression) (e : Environment) → Found (taken_arguments n xs (strictly e)) (taken_arguments n xs (leniently e))
+  unfolding taken_arguments
+  found_arguments n [] e = found_ok []
+  found_arguments n (x ∷ xs) e = found_then (found_argument n x e) (λ d. found_then (found_arguments (n - 1) xs e) (λ ds. found_ok _))
 
   -- one of two answers
   known_one : (b : Bool) (r s : Result Datum ErrorKind) → (P → r ≡ Err UnknownVariable → ⊥) → (P → s ≡ Err UnknownVariable → ⊥) → P → cond b s r ≡ Err UnknownVariable → ⊥
@@ -167,7 +171,7 @@ module _ (P : Type 0) where
   found_calls : (answers : FilterAnswers) → (P → KnowAll answers) → (calls : List FilterCall) (d : Datum) (e : Environment) → Found (applied (calls_by (answers_in IsFault answers) calls) d (strictly e)) (applied (calls_by (answers_in IsNil answers) calls) d (leniently e))
   unfolding applied
   found_calls answers i [] d e = found_ok d
-  found_calls answers i (call ∷ calls) d e = found_then (found_all_required call.arguments e) (λ ds. found_then (found_answer answers i call.filter d ds) (λ answer. found_calls answers i calls answer e))
+  found_calls answers i (call ∷ calls) d e = found_then (found_arguments call.required call.arguments e) (λ ds. found_then (found_answer answers i call.filter d ds) (λ answer. found_calls answers i calls answer e))
 
   found_entry : (o : Option Datum) (calls : List FilterCall) → Found (entry_value IsFault o calls) (entry_value IsNil o calls)
   found_entry (Some d) calls = found_ok d

@@ -7,11 +7,13 @@ pub mod Comparisons
 pub mod Computed
 pub mod ComputedUses
 pub mod Covering
+pub mod Escaping
 pub mod FilterNeeds
 pub mod FoundValues
 pub mod FreeNames
 pub mod FreeRuns
 pub mod Further
+pub mod GivenValues
 pub mod Items
 pub mod KeptNeeds
 pub mod Law

@@ -1,5 +1,5 @@
 -- Runs end by kinds of runs.
-use Rattle.std.specs.Prelude.{ℕ, zero, suc, ◌+ℤ◌, ◌-ℤ◌, pos, ℤ, Bool, true, false, cond, T, List, [], ◌∷◌, slice_get, nat_le, ◌≡◌, ◌≤◌, Option, Some, None, Result, Ok, Err}
+use Rattle.std.specs.Prelude.{ℕ, zero, suc, ◌-◌, ◌+ℤ◌, ◌-ℤ◌, pos, ℤ, Bool, true, false, cond, T, List, [], ◌∷◌, slice_get, nat_le, ◌≡◌, ◌≤◌, Option, Some, None, Result, Ok, Err}
 use mathlib.Core.Path.{refl, ap, subst}
 use Rattle.liquid_model.specs.Texts.{Text}
 use Rattle.liquid_model.specs.Data.{Datum, nil, truth, number, text, array, object}
@@ -7,7 +7,7 @@ use Rattle.liquid_model.specs.declared.error.ErrorKind.{ErrorKind}
 use Rattle.liquid_model.specs.declared.error.ErrorKind.TheVariants.{UnknownVariable, UnexpectedValue, Unsupported}
 use Rattle.liquid_core.specs.declared.interrupt.Interrupt.{Interrupt}
 use Rattle.liquid_core.specs.Expression.{Expression}
-use Rattle.liquid_core.specs.Expressions.{forgiven, if_missing, nil_if_missing, none_if_missing, required, sought, all_required, whole_found, sought_whole, needed_whole, value_of}
+use Rattle.liquid_core.specs.Expressions.{forgiven, if_missing, nil_if_missing, none_if_missing, required, sought, whole_found, sought_whole, needed_whole, value_of}
 use Rattle.liquid_core.specs.declared.missing_value.Missing.{Missing}
 use Rattle.liquid_core.specs.declared.missing_value.Missing.TheVariants.{IsFault, IsNil}
 use Rattle.liquid_model.specs.Whole.{whole}
@@ -15,7 +15,7 @@ use Rattle.liquid_model.specs.Maps.{Map, merged}
 use Rattle.liquid_core.specs.Environment.{Environment}
 use Rattle.liquid_evaluation.specs.declared.comparison.ComparisonOperator.{ComparisonOperator}
 use Rattle.liquid_evaluation.specs.declared.comparison.ComparisonOperator.TheVariants.{Equals, NotEquals, LessThan, GreaterThan, LessThanEquals, GreaterThanEquals, Contains}
-use Rattle.liquid_evaluation.specs.Calls.{applied}
+use Rattle.liquid_evaluation.specs.Calls.{applied, taken_argument, taken_arguments}
 use Rattle.liquid_evaluation.specs.Tree.{Filter, existing, hosted, FilterCall, Chain, Atom, bare, compared, Condition, Source, each_of, counted, Window, Bindings, Node, plain, raw, comment, output, assign, increment, decrement, break_loop, continue_loop, cycle, if_true, unless, case_of, for_each, tablerow, capture, ifchanged, filtered, include, jekyll_include, render, Nodes, no_nodes, node, Whens, no_whens, when}
 use Rattle.liquid_evaluation.specs.Evaluation.{FilterAnswers, answers_in, entry_value, calls_by, through, chain_value, contains, comparison_truth, truth_of_found, atom_truth, all_true, truth_of, value_items, not_too_long, source_items, amount, selected_items, bound_values}
 use Rattle.liquid_meaning.specs.Runs.{Nothing, Run, done, read_environment, evaluate, fault, change, write, go_on, ◌>>=◌, with_scope, ended_with, buffered, apart}
@@ -105,15 +105,19 @@ module _ (limit : ℕ) (least : (kind : ErrorKind) → T (is_run_kind kind) → 
   unfolding needed_whole
   ended_whole x e = ended_then (ended_sought_whole x e) (λ n. ended_ok _)
 
-  ended_all_required : (xs : List Expression) (e : Environment) → Ended (all_required xs e)
-  unfolding all_required
-  ended_all_required [] e = ended_ok []
-  ended_all_required (x ∷ xs) e = ended_then (ended_required x e) (λ d. ended_then (ended_all_required xs e) (λ ds. ended_ok _))
+  ended_argument : (n : ℕ) (x : Expression) (e : Environment) → Ended (taken_argument n x e)
+  ended_argument zero x e = ended_ok _
+  ended_argument (suc n) x e = ended_required x e
+
+  ended_arguments : (n : ℕ) (xs : List Expression) (e : Environment) → Ended (taken_arguments n xs e)
+  unfolding taken_arguments
+  ended_arguments n [] e = ended_ok []
+  ended_arguments n (x ∷ xs) e = ended_then (ended_argument n x e) (λ d. ended_then (ended_arguments (n - 1) xs e) (λ ds. ended_ok _))
 
   ended_calls : (answers : FilterAnswers) → ((filter : Filter) (d : Datum) (ds : List Datum) → Ended (answers filter d ds)) → (calls : List FilterCall) (d : Datum) (e : Environment) → Ended (applied (calls_by answers calls) d e)
   unfolding applied
   ended_calls answers i [] d e = ended_ok d
-  ended_calls answers i (call ∷ calls) d e = ended_then (ended_all_required call.arguments e) (λ ds. ended_then (i call.filter d ds) (λ answer. ended_calls answers i calls answer e))
+  ended_calls answers i (call ∷ calls) d e = ended_then (ended_arguments call.required call.arguments e) (λ ds. ended_then (i call.filter d ds) (λ answer. ended_calls answers i calls answer e))
 
   ended_answers : (missing : Missing) (answers : FilterAnswers) → ((filter : Filter) (d : Datum) (ds : List Datum) → Ended (answers filter d ds)) → (filter : Filter) (d : Datum) (ds : List Datum) → Ended (answers_in missing answers filter d ds)
   ended_answers IsFault answers i filter d ds = i filter d ds

@@ -1,5 +1,5 @@
 -- What is evaluated in two environments that are alike is alike in what is granted.
-use Rattle.std.specs.Prelude.{◌≡◌, ◌⊎◌, ℤ, Bool, true, false, cond, ◌&&◌, T, List, [], ◌∷◌, Option, Some, None, Result, Ok, Err}
+use Rattle.std.specs.Prelude.{◌≡◌, ◌⊎◌, ℕ, zero, suc, ◌-◌, ℤ, Bool, true, false, cond, ◌&&◌, T, List, [], ◌∷◌, Option, Some, None, Result, Ok, Err}
 use Rattle.std.specs.Fmt.{signed_decimal}
 use mathlib.Core.Path.{refl, sym, ap, subst, subst₂, ◌∙◌}
 use Rattle.std.proofs.Common.{inl, inr}
@@ -13,11 +13,11 @@ use Rattle.liquid_model.specs.Find.{find, step_into}
 use Rattle.liquid_model.specs.Find as finding
 use Rattle.liquid_core.specs.Expression.{Expression, literal, variable, Steps, no_steps, step}
 use Rattle.liquid_core.specs.Environment.{Environment, lookup}
-use Rattle.liquid_core.specs.Expressions.{value_of, path_of, if_missing, nil_if_missing, none_if_missing, required, sought, all_required, whole_found, sought_whole, needed_whole}
+use Rattle.liquid_core.specs.Expressions.{value_of, path_of, if_missing, nil_if_missing, none_if_missing, required, sought, whole_found, sought_whole, needed_whole}
 use Rattle.liquid_core.specs.declared.missing_value.Missing.{Missing}
 use Rattle.liquid_core.specs.declared.missing_value.Missing.TheVariants.{IsFault, IsNil}
 use Rattle.liquid_model.specs.Fallible.{◌>>=◌}
-use Rattle.liquid_evaluation.specs.Calls.{applied}
+use Rattle.liquid_evaluation.specs.Calls.{applied, taken_argument, taken_arguments}
 use Rattle.liquid_model.specs.FilterAnswers.{FilterAnswer}
 use Rattle.liquid_evaluation.specs.Tree.{Filter, existing, hosted, FilterCall, Chain, Atom, bare, compared, Condition, Bindings}
 use Rattle.liquid_evaluation.specs.Evaluation.{FilterAnswers, accepting_nil, answers_in, entry_value, calls_by, through, chain_value, truth_of_found, bare_truth, atom_truth, all_true, truth_of, amount, bound_values}
@@ -257,10 +257,14 @@ module _ (U : Uses) (e f : Environment) (agree : AlikeIn U e f) where
   unfolding needed_whole
   whole_equal x h = same_then (sought_whole_equal x h) (λ n. refl)
 
-  pub all_required_equal : (xs : List Expression) → T (grants_all U xs) → all_required xs e ≡ all_required xs f
-  unfolding all_required grants_all
-  all_required_equal [] h = refl
-  all_required_equal (x ∷ xs) h = same_then (required_equal x (both_left (grants U x everything) _ h)) (λ d. same_then (all_required_equal xs (both_right (grants U x everything) _ h)) (λ ds. refl))
+  argument_equal : (n : ℕ) (x : Expression) → T (grants U x everything) → taken_argument n x e ≡ taken_argument n x f
+  argument_equal zero x h = λ i. Ok (unwrap_or (value_alike x everything h i) nil)
+  argument_equal (suc n) x h = required_equal x h
+
+  pub arguments_equal : (n : ℕ) (xs : List Expression) → T (grants_all U xs) → taken_arguments n xs e ≡ taken_arguments n xs f
+  unfolding taken_arguments grants_all
+  arguments_equal n [] h = refl
+  arguments_equal n (x ∷ xs) h = same_then (argument_equal n x (both_left (grants U x everything) _ h)) (λ d. same_then (arguments_equal (n - 1) xs (both_right (grants U x everything) _ h)) (λ ds. refl))
 
   entries_alike : (v : Use) → T (asks_whether v) → (calls : List FilterCall) (o p : Option Datum) → Alike v o p → Both (λ c d. Alike v (Some c) (Some d)) (entry_value e.missing o calls) (entry_value f.missing p calls)
   entries_alike v asks [] None None a = subst (λ m. Both (λ c d. Alike v (Some c) (Some d)) (if_missing nil e.missing) (if_missing nil m)) agree.missing (at e.missing)
@@ -274,7 +278,7 @@ module _ (U : Uses) (e f : Environment) (agree : AlikeIn U e f) where
   entries_alike v asks calls (Some c) (Some d) a = a
 
   module _ (given : FilterAnswers) (needs : Needs) (respects : Respects given needs) (m : Missing) where
-    answers_alike : (call : FilterCall) (v : Use) (arguments : List Datum) → all_required call.arguments e ≡ Ok arguments → (c d : Datum) → Alike (present (needs call v)) (Some c) (Some d)
+    answers_alike : (call : FilterCall) (v : Use) (arguments : List Datum) → taken_arguments call.required call.arguments e ≡ Ok arguments → (c d : Datum) → Alike (present (needs call v)) (Some c) (Some d)
         → Both (λ a b. Alike v (Some a) (Some b)) (answers_in m given call.filter c arguments) (answers_in m given call.filter d arguments)
     answers_alike call v arguments is c d a =
         forgiven_alike v m given call.filter arguments c d (alike_shape (present (needs call v)) (Some c) (Some d) (present_asks (needs call v)) a)
@@ -286,12 +290,12 @@ module _ (U : Uses) (e f : Environment) (agree : AlikeIn U e f) where
     calls_alike [] v h c d a = a
     calls_alike (call ∷ calls) v h c d a =
         let w = use_before needs calls v in
-        subst (λ r. Both (λ a b. Alike v (Some a) (Some b)) (all_required call.arguments e >>= (λ arguments. answers_in m given call.filter c arguments >>= (λ answer. applied (calls_by (answers_in m given) calls) answer e)))
+        subst (λ r. Both (λ a b. Alike v (Some a) (Some b)) (taken_arguments call.required call.arguments e >>= (λ arguments. answers_in m given call.filter c arguments >>= (λ answer. applied (calls_by (answers_in m given) calls) answer e)))
         (r >>= (λ arguments. answers_in m given call.filter d arguments >>= (λ answer. applied (calls_by (answers_in m given) calls) answer f))))
-        (all_required_equal call.arguments (both_left (grants_all U call.arguments) _ h))
-        (called (all_required call.arguments e) refl (λ x y b. calls_alike calls v (both_right (grants_all U call.arguments) _ h) x y b))
+        (arguments_equal call.required call.arguments (both_left (grants_all U call.arguments) _ h))
+        (called (taken_arguments call.required call.arguments e) refl (λ x y b. calls_alike calls v (both_right (grants_all U call.arguments) _ h) x y b))
       where
-        called : (r : Result (List Datum) ErrorKind) → all_required call.arguments e ≡ r
+        called : (r : Result (List Datum) ErrorKind) → taken_arguments call.required call.arguments e ≡ r
             → ((x y : Datum) → Alike (use_before needs calls v) (Some x) (Some y) → Both (λ a b. Alike v (Some a) (Some b)) (applied (calls_by (answers_in m given) calls) x e) (applied (calls_by (answers_in m given) calls) y f))
             → Both (λ a b. Alike v (Some a) (Some b)) (r >>= (λ arguments. answers_in m given call.filter c arguments >>= (λ answer. applied (calls_by (answers_in m given) calls) answer e)))
             (r >>= (λ arguments. answers_in m given call.filter d arguments >>= (λ answer. applied (calls_by (answers_in m given) calls) answer f)))

@@ -1,7 +1,9 @@
 pub mod Assigning
 pub mod Effects
+pub mod Escaping
 pub mod FilterNeeds
 pub mod FreeNames
+pub mod GivenValues
 pub mod Isolation
 pub mod Laws
 pub mod Lenient

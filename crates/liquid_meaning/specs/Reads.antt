@@ -10,7 +10,7 @@ use Rattle.liquid_model.specs.Texts.{Text}
 use Rattle.liquid_model.specs.Data.{Datum}
 use Rattle.liquid_model.specs.Maps.{Map}
 use Rattle.liquid_core.specs.Environment.{Names, Environment}
-use Rattle.liquid_core.specs.Expressions.{all_required}
+use Rattle.liquid_evaluation.specs.Calls.{taken_arguments}
 use Rattle.liquid_evaluation.specs.Tree.{FilterCall, Nodes}
 use Rattle.liquid_evaluation.specs.Evaluation.{FilterAnswers}
 use Rattle.liquid_meaning.specs.Isolation.{names_of_run}
@@ -41,7 +41,7 @@ Both R (Err k) (Err l) = k ≡ l
 -- asked of them
 abbrev pub Respects : FilterAnswers → Needs → Type 0
 Respects answers needs = (call : FilterCall) (v : Use) (e : Environment) (arguments : List Datum) →
-    all_required call.arguments e ≡ Ok arguments
+    taken_arguments call.required call.arguments e ≡ Ok arguments
     → (c d : Datum) → Alike (needs call v) (Some c) (Some d) →
     Both (λ a b. Alike v (Some a) (Some b)) (answers call.filter c arguments)
     (answers call.filter d arguments)

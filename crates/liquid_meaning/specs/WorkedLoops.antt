@@ -63,7 +63,11 @@ pub record WorkedLoops : Type 0 where
       WritesThen (meaning (record { answers = as_default; partials = [] }) 32
       (tree (output (record {
         entry = name "nope";
-        filters = (record { filter = default; arguments = text_literal "d" ∷ [] }) ∷ [];
+        filters = (record {
+          filter = default;
+          arguments = text_literal "d" ∷ [];
+          required = 1;
+        }) ∷ [];
       }) ∷
       show (name "nope") ∷ [])) (with_data []))
       "d" UnknownVariable

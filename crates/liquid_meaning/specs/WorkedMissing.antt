@@ -50,7 +50,7 @@ abbrev pub nil_through : FilterAnswers → Filter → Outcome Nothing
 nil_through answers filter =
     lenient_run answers (output (record {
       entry = literal nil;
-      filters = (record { filter = filter; arguments = [] }) ∷ [];
+      filters = (record { filter = filter; arguments = []; required = 0 }) ∷ [];
     }) ∷ [])
 
 pub record WorkedMissing : Type 0 where

@@ -29,6 +29,7 @@ filtered_by filter = record {
   filters = record {
     filter = filter;
     arguments = name "b" ∷ [];
+    required = 1;
   } ∷ [];
 }
 

@@ -1,7 +1,7 @@
 -- Worked uses: what covers some templates, and what is left of some values.
 use Prim.Native.String.{String}
 use Rattle.std.specs.Prelude.{◌≡◌, ℕ, Bool, true, false, pos, List, [], ◌∷◌, Option, Some, None}
-use Rattle.std.specs.Prelude.{codes}
+use Rattle.std.specs.Prelude.{codes, length}
 use Rattle.liquid_model.specs.Texts.{Text}
 use Rattle.liquid_model.specs.Data.{Datum, nil, number, text, array, object, no_items, item}
 use Rattle.liquid_model.specs.Data.{no_pairs, pair}
@@ -62,7 +62,11 @@ covered_by_filters fs nodes = covered_by known_needs fs [] nodes
 abbrev pub one_filter : String → FilterKind → List Expression → Chain
 one_filter s kind arguments = record {
   entry = name s;
-  filters = record { filter = existing kind; arguments = arguments } ∷ [];
+  filters = record {
+    filter = existing kind;
+    arguments = arguments;
+    required = length arguments;
+  } ∷ [];
 }
 
 -- {% case x %}, with a `when` of each of these values

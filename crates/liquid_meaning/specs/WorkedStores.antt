@@ -54,6 +54,7 @@ abbrev pub adding : String → List Node → Node
 adding s body = filtered ((record {
   filter = hosted (codes "add");
   arguments = name s ∷ [];
+  required = 1;
 }) ∷ []) (tree body)
 
 pub record WorkedStores : Type 0 where

@@ -1,8 +1,10 @@
 //! Laws of what templates mean: each function's contract is the law, and its body does nothing.
 
 ghost use Rattle.liquid_meaning.specs.Assigning.{AssignedAnywhere};
+ghost use Rattle.liquid_meaning.specs.Escaping.{EscapedOutputs, EscapedTexts};
 ghost use Rattle.liquid_meaning.specs.FilterNeeds.{KnownRespected};
 ghost use Rattle.liquid_meaning.specs.FreeNames.{FreeDataAlone, FreeNamesAlone, FreeUsesAlone};
+ghost use Rattle.liquid_meaning.specs.GivenValues.{GivenAreLiterals};
 ghost use Rattle.liquid_meaning.specs.Isolation.{Isolation, AgreeingRuns, OthersKept};
 ghost use Rattle.liquid_meaning.specs.Isolation.{RenderLeavesAll, RenderSeesItsValues, Headline};
 ghost use Rattle.liquid_evaluation.specs.Laws.{CountedWindow};
@@ -29,7 +31,8 @@ pub fn isolation_laws()
 /// Further laws of runs. A text is itself; what is assigned stays, also after a loop (a `render`
 /// leaves nothing: [isolation_laws]); the numbers of `forloop` fit together; and every run ends by
 /// a kind that is one of runs, where the filters do, as all that exist do, or else by `Memory`,
-/// where a filter of a host answers that.
+/// where a filter of a host answers that. What an escaped node writes is its text, escaped, and of
+/// an output that is the text of its chain's value.
 pub fn run_laws()
     ensures text { TextIsItself }
     ensures stays { AssignedStay }
@@ -39,6 +42,8 @@ pub fn run_laws()
     ensures kinds { KindsOfRuns }
     ensures own_kinds { KindsOfOwnRuns }
     ensures host_kinds { KindsWithHost }
+    ensures escaped { EscapedTexts }
+    ensures escaped_outputs { EscapedOutputs }
 {}
 
 /// Laws of a loop's items: which of them a window asks for, what a range counts, both together, and
@@ -63,10 +68,12 @@ pub fn reading_laws()
 
 /// The laws of missing values: a run in which they are nil writes what the run in which they are
 /// faults writes, and may go on where that ends by `UnknownVariable`, `UnexpectedValue` or
-/// `InvalidInput`; and it never ends by `UnknownVariable`, unless a filter answers that.
+/// `InvalidInput`; and it never ends by `UnknownVariable`, unless a filter answers that. An
+/// argument that isn't required is the literal of its value, or of nil where it is missing.
 pub fn missing_laws()
     ensures extends { LenientExtends }
     ensures known { NoneUnknown }
+    ensures given { GivenAreLiterals }
 {}
 
 /// The law of partials: a template means the same over any partials that have the same under the

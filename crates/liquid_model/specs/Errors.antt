@@ -1,5 +1,7 @@
 -- A fault's message, where it stands, and its text.
-use Rattle.std.specs.Prelude.{◌≡◌, ◌++◌, List, ℕ, [], ◌∷◌, codes, Some, MatchBool, ⊤, string_bytes}
+use Rattle.std.specs.Prelude.{◌≡◌, ◌++◌, List, ℕ, [], ◌∷◌, codes, Option, Some, MatchBool, ⊤}
+use Rattle.std.specs.Prelude.{String, string_bytes}
+use Rattle.std.specs.declared.alloc.Global.{Global}
 use Rattle.std.specs.Fmt.{decimal}
 use Rattle.std.specs.Option.{option_map, option_map_or}
 use Rattle.liquid_model.specs.Data.{Datum, text_of}
@@ -14,6 +16,10 @@ use Rattle.liquid_model.specs.declared.origin.Origin.TheVariants.{Template, Part
 abbrev pub HasMessageUnlessMemory : List ℕ → Error → Type 0
 HasMessageUnlessMemory message e =
     MatchBool (is_memory e.kind) ⊤ (option_map string_bytes e.message ≡ Some message)
+
+-- the message, or an empty text
+abbrev pub message_text : Option (String Global) → List ℕ
+message_text message = option_map_or string_bytes message []
 
 -- what stands before a line and a column: nothing for the template itself
 abbrev pub origin_text : Origin → List ℕ

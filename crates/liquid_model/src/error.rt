@@ -187,7 +187,7 @@ impl Drop for Error {
 
 impl Error {
     ghost use Rattle.liquid_model.specs.Errors.{HasMessageUnlessMemory, location_text};
-    ghost use Rattle.liquid_model.specs.Errors.{partial_location_text};
+    ghost use Rattle.liquid_model.specs.Errors.{message_text, partial_location_text};
 
     /// A fault of this kind with this message, or `Memory` where there is no room for the message.
     /// A message that is no short line is cut to its beginning that is one (`line_of`).
@@ -246,6 +246,16 @@ impl Error {
         match message.to_string(alloc) {
             Ok(written) => Error::with_message(kind, written),
             Err(refused) => Error::from(refused),
+        }
+    }
+
+    /// Its message, or an empty text.
+    pub fn message_text(&self) -> &str
+        ensures { result.now ≡ message_text self.now.message }
+    {
+        match &self.message {
+            Some(message) => message.as_str(),
+            None => "",
         }
     }
 

@@ -150,6 +150,16 @@ leaf ns ms x os ls cur e none b =
     let all : ms ≡ ns ++ laid (length ns) (node x.head no_bodies empty) = e ∙ ap (λ (y : Flat Maker). ns ++ y ∷ []) is in
     subst (λ l. Builds l os ls (with_node cur (x.head []))) (sym all) (grow ns os ls cur (node x.head no_bodies empty) b)
 
+-- a node without bodies, alone in the body of another
+pub wrapped : (ns ms : Flats) (x y : Flat Maker) (os : List Open) (ls : List Level) (cur : Nodes) → ms ≡ ns ++ x ∷ y ∷ [] → x.ends ≡ (length ns + 2) ∷ [] → y.ends ≡ [] → Builds ns os ls cur → Builds ms os ls (with_node cur (x.head (tree.node (y.head []) no_nodes ∷ [])))
+wrapped ns ms x y os ls cur e ends none b =
+    let g : Trees = node x.head (body (node y.head no_bodies empty) no_bodies) empty in
+    let n : length ns + 2 ≡ length ns + 1 + 1 = omega arith in
+    let outer : x ≡ record { head = x.head; ends = (length ns + 1 + 1) ∷ [] } = ap (λ (es : List ℕ). record x { ends = es }) (ends ∙ ap (λ n. n ∷ []) n) in
+    let inner : y ≡ record { head = y.head; ends = [] } = ap (λ (es : List ℕ). record y { ends = es }) none in
+    let all : ms ≡ ns ++ laid (length ns) g = e ∙ ap (λ (v : Flat Maker). ns ++ v ∷ y ∷ []) outer ∙ ap (λ (v : Flat Maker). ns ++ record { head = x.head; ends = (length ns + 1 + 1) ∷ [] } ∷ v ∷ []) inner in
+    subst (λ l. Builds l os ls (with_node cur (x.head (tree.node (y.head []) no_nodes ∷ [])))) (sym all) (grow ns os ls cur g b)
+
 -- a block begins
 pub begin : (ns ms : Flats) (x : Flat Maker) (r : Reading) (o : Open) (os : List Open) (ls : List Level) (cur : Nodes) → ms ≡ ns ++ x ∷ [] → o.node_index ≡ length ns → Fits o r x no_bodies (length ns + 1) → Builds ns os ls cur
     → Builds ms (o ∷ os) (level r cur o.chained ∷ ls) no_nodes

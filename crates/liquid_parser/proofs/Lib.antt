@@ -11,6 +11,7 @@ pub mod Grow
 pub mod HostTagLaws
 pub mod ItemLaws
 pub mod NestingLaws
+pub mod OutputLaws
 pub mod ParseTurns
 pub mod PartialLaws
 pub mod PartialTurns

@@ -32,9 +32,9 @@ module _ (l : Filters) where
   called_again [] (filter name is counts more) h = ap (λ o. option_map (λ fs. ([], fs)) o) h
   called_again (v ∷ vs) a h = ap (λ o. option_map (λ x. (v ∷ x.0, x.1)) o) (more_again vs a h)
 
-  call_again : (name : Text) (kind : RegisteredFilter) (xs : List Expression) (fs : List FilterCall) → listed l name ≡ Some kind → registered_counts kind (length xs) ≡ true → call_with l name (xs, fs) ≡ Some (record { filter = called_as name kind; arguments = xs } ∷ fs)
+  call_again : (name : Text) (kind : RegisteredFilter) (xs : List Expression) (fs : List FilterCall) → listed l name ≡ Some kind → registered_counts kind (length xs) ≡ true → call_with l name (xs, fs) ≡ Some (record { filter = called_as name kind; arguments = xs; required = length xs } ∷ fs)
   call_again name kind xs fs known counts =
-      ap (λ o. option_map (λ call. call ∷ fs) (accepted_call name o xs)) known ∙ ap (λ (b : Bool). option_map (λ call. call ∷ fs) (cond b (Some (record { filter = called_as name kind; arguments = xs })) None)) counts
+      ap (λ o. option_map (λ call. call ∷ fs) (accepted_call name o xs)) known ∙ ap (λ (b : Bool). option_map (λ call. call ∷ fs) (cond b (Some (record { filter = called_as name kind; arguments = xs; required = length xs })) None)) counts
 
   pub filters_again : {fs : List FilterCall} {is : List Token} → AreFilters l fs is → filters_of l is ≡ Some fs
   unfolding filters_of
@@ -92,7 +92,7 @@ comma_is (symbol Colon) h = absurd cc
 comma_is (symbol Comma) h = refl
 comma_is (symbol Bar) h = absurd cc
 
-accepted_takes : (name : Text) (o : Option RegisteredFilter) (xs : List Expression) (call : FilterCall) → accepted_call name o xs ≡ Some call → (kind : RegisteredFilter) × (o ≡ Some kind) × (registered_counts kind (length xs) ≡ true) × (record { filter = called_as name kind; arguments = xs } ≡ call)
+accepted_takes : (name : Text) (o : Option RegisteredFilter) (xs : List Expression) (call : FilterCall) → accepted_call name o xs ≡ Some call → (kind : RegisteredFilter) × (o ≡ Some kind) × (registered_counts kind (length xs) ≡ true) × (record { filter = called_as name kind; arguments = xs; required = length xs } ≡ call)
 accepted_takes name None xs call h = absurd cc
 accepted_takes name (Some kind) xs call h =
     let (counts, same) = cond_some (registered_counts kind (length xs)) _ call h in
@@ -154,8 +154,8 @@ module _ (l : Filters) where
         let (kind, known, counts, call_is) = accepted_takes w (listed l w) x.0 call accepted in
         let (rest, spelled, more) = called_takes is x read in
         let there : symbol Bar ∷ i ∷ is ≡ symbol Bar ∷ word w ∷ (arguments x.0 ++ rest) = ap (λ (i : Token). symbol Bar ∷ i ∷ is) (word_is i w named) ∙ ap (λ (is : List Token). symbol Bar ∷ word w ∷ is) spelled in
-        let is_fs : record { filter = called_as w kind; arguments = x.0 } ∷ x.1 ≡ fs = ap (λ (c : FilterCall). c ∷ x.1) call_is ∙ same in
-        subst (λ fs. AreFilters l fs (symbol Bar ∷ i ∷ is)) is_fs (subst (AreFilters l (record { filter = called_as w kind; arguments = x.0 } ∷ x.1)) (sym there) (filter w known counts more))
+        let is_fs : record { filter = called_as w kind; arguments = x.0; required = length x.0 } ∷ x.1 ≡ fs = ap (λ (c : FilterCall). c ∷ x.1) call_is ∙ same in
+        subst (λ fs. AreFilters l fs (symbol Bar ∷ i ∷ is)) is_fs (subst (AreFilters l (record { filter = called_as w kind; arguments = x.0; required = length x.0 } ∷ x.1)) (sym there) (filter w known counts more))
 
     called_takes : (is : List Token) (x : List Expression × List FilterCall) → called_of l is ≡ Some x → Called is x
     called_takes [] x h = subst (Called []) (from_some h) ([], refl, none)

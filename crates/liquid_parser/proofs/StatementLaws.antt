@@ -16,6 +16,7 @@ use Rattle.liquid_parser.specs.Classification.{leaf_or, assign_of, if_node, unle
 use Rattle.liquid_parser.specs.Statements.{IsStatement, is_text, is_output, is_end, is_host_end, is_elsif, is_else, is_assign, is_if, is_unless, is_bare_else, is_capture, is_case, is_when, is_break, is_continue, is_increment, is_decrement, is_include, is_jekyll_include, is_render, is_cycle, is_ifchanged, is_for, is_tablerow, is_host_tag, is_host_block, is_raw, is_comment}
 use Rattle.liquid_parser.specs.HostTags.{host_block_of, host_call_of, host_chain_of, host_tag_of, in_host, through_call}
 use Rattle.liquid_parser.specs.Loops.{Head, for_node, loop_of, row_node}
+use Rattle.liquid_parser.specs.Outputs.{output_of, shown_node}
 use Rattle.liquid_parser.specs.PartialItems.{Rendered, include_node, include_of, jekyll_node, jekyll_of, render_node, render_of}
 use Rattle.liquid_language.specs.HostTags.{BlockCall, TagCall, block_at, call_at}
 use Rattle.liquid_language.specs.Registered.{registered_in}
@@ -41,8 +42,9 @@ use Rattle.liquid_parser.proofs.CycleLaws.{cycle_takes, cycle_again}
 use Rattle.liquid_parser.proofs.HostTagLaws.{host_call_takes, host_call_again, host_takes, host_again}
 use Rattle.liquid_parser.proofs.ItemLaws.{loop_takes, loop_again, values_takes, values_again}
 use Rattle.liquid_parser.proofs.NestingLaws.{Stands}
+use Rattle.liquid_parser.proofs.OutputLaws.{output_takes, output_again}
 use Rattle.liquid_parser.proofs.PartialLaws.{include_takes, include_again, jekyll_takes, jekyll_again}
-use Rattle.liquid_parser.proofs.Printed.{chain_takes, chain_again, assign_takes, assign_again}
+use Rattle.liquid_parser.proofs.Printed.{assign_takes, assign_again}
 use Rattle.liquid_parser.proofs.RenderLaws.{render_takes, render_again}
 
 no_items : (b : Bool) → ends_or b [] ≡ ends
@@ -51,7 +53,7 @@ no_items false = refl
 
 pub statement_says : (l : Language) (x : BlockContext) (p : Piece) (statement : Statement) → IsStatement l x p statement → reads l x p ≡ statement
 statement_says l x p statement is_text = refl
-statement_says l x p statement (is_output {c = c} {is = is} h) = ap (λ (o : Option Chain). leaf_or (option_map output o)) (chain_again (registered_in l.filters) c (tokens_of is) h)
+statement_says l x p statement (is_output {n = n} {is = is} h) = ap leaf_or (output_again l n (tokens_of is) h)
 statement_says l x p statement (is_end r) = ap (tag_statement l x [] []) r ∙ no_items (in_host x)
 statement_says l x p statement (is_host_end {is = is} r e) = ap (tag_statement l x is (tokens_of is)) r ∙ ap (λ (b : Bool). ends_or b (tokens_of is)) e
 statement_says l x p statement (is_elsif {is = is} r h) = ap (tag_statement l x is (tokens_of is)) r ∙ ap (λ (o : Option Condition). elsif_or (option_map if_node o)) (condition_again h)
@@ -67,7 +69,7 @@ statement_says l x p statement (is_break r) = ap (tag_statement l x [] []) r
 statement_says l x p statement (is_continue r) = ap (tag_statement l x [] []) r
 statement_says l x p statement (is_increment {is = is} r g) = ap (tag_statement l x is (tokens_of is)) r ∙ ap (λ (ts : List Token). leaf_or (option_map (λ w. increment w) (word_alone ts))) g
 statement_says l x p statement (is_decrement {is = is} r g) = ap (tag_statement l x is (tokens_of is)) r ∙ ap (λ (ts : List Token). leaf_or (option_map (λ w. decrement w) (word_alone ts))) g
-statement_says l x p statement (is_cycle {name = name} {vs = vs} {is = is} r g) = ap (tag_statement l x is (tokens_of is)) r ∙ ap (λ (o : Option Cycle). leaf_or (option_map cycle_node (option_map with_group o))) (cycle_again name vs (tokens_of is) g)
+statement_says l x p statement (is_cycle {name = name} {vs = vs} {is = is} r g) = ap (tag_statement l x is (tokens_of is)) r ∙ ap (λ (o : Option Cycle). leaf_or (option_map (λ g. shown_node l (cycle_node g)) (option_map with_group o))) (cycle_again name vs (tokens_of is) g)
 statement_says l x p statement (is_ifchanged r) = ap (tag_statement l x [] []) r
 statement_says l x p statement (is_for {h = h} {is = is} r g) = ap (tag_statement l x is (tokens_of is)) r ∙ ap (λ (o : Option Head). two_or For (option_map for_node o)) (loop_again Each h (tokens_of is) g)
 statement_says l x p statement (is_tablerow {h = h} {is = is} r g) = ap (tag_statement l x is (tokens_of is)) r ∙ ap (λ (o : Option Head). one_or TableRow (option_map row_node o)) (loop_again Rows h (tokens_of is) g)
@@ -80,8 +82,8 @@ statement_says l x p statement (is_host_tag {called = called} {c = c} {is = is} 
     ∙ ap (λ (o : Option Chain). leaf_or (option_map output o)) (host_again (registered_in l.filters) called c (tokens_of is) h)
 statement_says l x p statement (is_host_block {n = n} {called = called} {call = call} {is = is} r at h) =
     ap (tag_statement l x is (tokens_of is)) r
-    ∙ ap (λ (o : Option BlockCall). one_or (Host n) (option_and_then (λ called. option_map through_call (host_call_of (registered_in l.filters) called.filter (tokens_of is))) o)) at
-    ∙ ap (λ (o : Option FilterCall). one_or (Host n) (option_map through_call o)) (host_call_again (registered_in l.filters) called.filter call (tokens_of is) h)
+    ∙ ap (λ (o : Option BlockCall). one_or (Host n) (option_and_then (λ called. option_map through_call (host_call_of (registered_in l.filters) called.filter called.given (tokens_of is))) o)) at
+    ∙ ap (λ (o : Option FilterCall). one_or (Host n) (option_map through_call o)) (host_call_again (registered_in l.filters) called.filter called.given call (tokens_of is) h)
 statement_says l x p statement (is_raw {t = t} h) = ap (raw_statement t) h
 statement_says l x p statement (is_comment h) = ap comment_statement h
 
@@ -96,9 +98,9 @@ assigned l ts n h =
     (x.0, d, sym same)
 
 module _ (l : Language) (x : BlockContext) (statement : Statement) (stands : Stands statement) where
-  output_stands : (is : List Item) (o : Option Chain) → chain_of (registered_in l.filters) (tokens_of is) ≡ o → leaf_or (option_map output o) ≡ statement → IsStatement l x (pieces.output is) statement
+  output_stands : (is : List Item) (o : Option Node) → output_of l (tokens_of is) ≡ o → leaf_or o ≡ statement → IsStatement l x (pieces.output is) statement
   output_stands is None e h = never statement h stands
-  output_stands is (Some c) e h = subst (IsStatement l x (pieces.output is)) h (is_output (chain_takes (registered_in l.filters) c (tokens_of is) e))
+  output_stands is (Some n) e h = subst (IsStatement l x (pieces.output is)) h (is_output (output_takes l n (tokens_of is) e))
 
   end_stands : (w : Text) (is : List Item) (b : Bool) → role_of l x w ≡ Some End → in_host x ≡ b → ends_or b (tokens_of is) ≡ statement → IsStatement l x (pieces.tag w is) statement
   end_stands w is true r e h = subst (IsStatement l x (pieces.tag w is)) h (is_host_end r e)
@@ -140,8 +142,8 @@ module _ (l : Language) (x : BlockContext) (statement : Statement) (stands : Sta
   host_block_stands w is n (Some make) r e h =
       let known = registered_in l.filters in
       let (called, at, more) = bind_some (block_at l n) _ make e in
-      let (call, read, same) = map_some (host_call_of known called.filter (tokens_of is)) through_call make more in
-      subst (IsStatement l x (pieces.tag w is)) (ap (λ make. begins (of_one (Host n) make)) same ∙ h) (is_host_block r at (host_call_takes known called.filter call (tokens_of is) read))
+      let (call, read, same) = map_some (host_call_of known called.filter called.given (tokens_of is)) through_call make more in
+      subst (IsStatement l x (pieces.tag w is)) (ap (λ make. begins (of_one (Host n) make)) same ∙ h) (is_host_block r at (host_call_takes known called.filter called.given call (tokens_of is) read))
 
   -- of a tag whose items are one word, one value ..
   part_stands : {A : Type 0} (w : Text) (is : List Item) (o : Option A) (to : Option A → Statement) → to None ≡ refused → to o ≡ statement → ((a : A) → o ≡ Some a → IsStatement l x (pieces.tag w is) (to (Some a))) → IsStatement l x (pieces.tag w is) statement
@@ -169,7 +171,7 @@ module _ (l : Language) (x : BlockContext) (statement : Statement) (stands : Sta
   tag_stands w is (Some (Tag tags.Render)) r h = part_stands w is (render_of (tokens_of is)) (λ (o : Option (Expression × Rendered)). leaf_or (option_map render_node o)) refl h (λ y e. is_render r (render_takes y.0 y.1.0 y.1.1 (tokens_of is) e))
   tag_stands w is (Some (Start blocks.Capture)) r h = part_stands w is (word_alone (tokens_of is)) (λ (o : Option Text). one_or Capture (option_map (λ w f. capture w f) o)) refl h (λ name e. is_capture r (one_word (tokens_of is) name e))
   tag_stands w is (Some (Start blocks.Case)) r h = part_stands w is (value_alone (tokens_of is)) (λ (o : Option Expression). many_or Case (option_map (λ x ws o. case_of x ws o) o)) refl h (λ t e. is_case r (one_value (tokens_of is) t e))
-  tag_stands w is (Some (Tag tags.Cycle)) r h = part_stands w is (cycle_of (tokens_of is)) (λ (o : Option Cycle). leaf_or (option_map cycle_node (option_map with_group o))) refl h (λ c e. is_cycle r (cycle_takes (tokens_of is) c e))
+  tag_stands w is (Some (Tag tags.Cycle)) r h = part_stands w is (cycle_of (tokens_of is)) (λ (o : Option Cycle). leaf_or (option_map (λ g. shown_node l (cycle_node g)) (option_map with_group o))) refl h (λ c e. is_cycle r (cycle_takes (tokens_of is) c e))
   tag_stands w is (Some (Start blocks.IfChanged)) r h = bare_stands w is (begins (of_one IfChanged (λ f. ifchanged f))) (is_ifchanged r) h
   tag_stands w is (Some (Start blocks.For)) r h = part_stands w is (loop_of Each (tokens_of is)) (λ (o : Option Head). two_or For (option_map for_node o)) refl h (λ y e. is_for r (loop_takes Each y (tokens_of is) e))
   tag_stands w is (Some (Start blocks.TableRow)) r h = part_stands w is (loop_of Rows (tokens_of is)) (λ (o : Option Head). one_or TableRow (option_map row_node o)) refl h (λ y e. is_tablerow r (loop_takes Rows y (tokens_of is) e))
@@ -188,7 +190,7 @@ module _ (l : Language) (x : BlockContext) (statement : Statement) (stands : Sta
 
   piece_stands : (p : Piece) → reads l x p ≡ statement → IsStatement l x p statement
   piece_stands (pieces.text t) h = subst (IsStatement l x (pieces.text t)) h is_text
-  piece_stands (pieces.output is) h = output_stands is (chain_of (registered_in l.filters) (tokens_of is)) refl h
+  piece_stands (pieces.output is) h = output_stands is (output_of l (tokens_of is)) refl h
   piece_stands (pieces.tag w is) h = tag_stands w is (role_of l x w) refl h
   piece_stands (pieces.raw w t) h = raw_stands w t (verbatim_body (role_of l x w)) refl h
   piece_stands (pieces.comment w) h = comment_stands w (verbatim_body (role_of l x w)) refl h

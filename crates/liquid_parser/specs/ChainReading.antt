@@ -23,6 +23,7 @@ accepted_call name None xs = None
 accepted_call name (Some filter) xs = cond (registered_counts filter (length xs)) (Some (record {
   filter = called_as name filter;
   arguments = xs;
+  required = length xs;
 })) None
 
 -- why a call isn't accepted: no filter is registered, or it takes another number of arguments

@@ -40,6 +40,7 @@ pub data AreFilters (known : Filters) : List FilterCall → List Token → Type 
       → AreFilters known (record {
         filter = called_as name filter;
         arguments = xs;
+        required = length xs;
       } ∷ calls) (symbol Bar ∷ word name ∷ (arguments xs ++ ts))
 
 -- a value, and filters

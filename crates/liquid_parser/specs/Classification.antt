@@ -12,13 +12,14 @@ use Rattle.liquid_parser.specs.ChainReading.{chain_of}
 use Rattle.liquid_parser.specs.ConditionReading.{condition_of}
 use Rattle.liquid_parser.specs.HostTags.{host_block_of, host_tag_of, in_host}
 use Rattle.liquid_parser.specs.Loops.{for_node, loop_of, row_node}
+use Rattle.liquid_parser.specs.Outputs.{output_of, shown_node}
 use Rattle.liquid_parser.specs.PartialItems.{include_node, include_of, jekyll_node, jekyll_of}
 use Rattle.liquid_parser.specs.PartialItems.{render_node, render_of}
 use Rattle.liquid_language.specs.Registered.{registered_in}
 use Rattle.liquid_parser.specs.Nesting.{of_one, of_two, of_many, Statement, leaf, closed, begins}
 use Rattle.liquid_parser.specs.Nesting.{elsif, arm, otherwise, ends, refused}
 use Rattle.liquid_language.specs.Roles.{role_of, verbatim_body}
-use Rattle.liquid_evaluation.specs.Tree.{Condition, Node, Nodes, plain, raw, comment, output}
+use Rattle.liquid_evaluation.specs.Tree.{Condition, Node, Nodes, plain, raw, comment}
 use Rattle.liquid_evaluation.specs.Tree.{assign, if_true, unless, capture, case_of, ifchanged}
 use Rattle.liquid_evaluation.specs.Tree.{break_loop, continue_loop, increment, decrement}
 use Rattle.liquid_core.specs.Expression.{Expression}
@@ -153,7 +154,8 @@ leaf_statement l is ts tags.Break = bare (leaf break_loop) ts
 leaf_statement l is ts tags.Continue = bare (leaf continue_loop) ts
 leaf_statement l is ts tags.Increment = leaf_or (option_map (λ w. increment w) (word_alone ts))
 leaf_statement l is ts tags.Decrement = leaf_or (option_map (λ w. decrement w) (word_alone ts))
-leaf_statement l is ts tags.Cycle = leaf_or (option_map cycle_node (grouped_of ts))
+leaf_statement l is ts tags.Cycle =
+    leaf_or (option_map (λ g. shown_node l (cycle_node g)) (grouped_of ts))
 leaf_statement l is ts tags.Include = leaf_or (option_map include_node (include_of ts))
 leaf_statement l is ts tags.JekyllInclude = leaf_or (option_map jekyll_node (jekyll_of is))
 leaf_statement l is ts tags.Render = leaf_or (option_map render_node (render_of ts))
@@ -181,8 +183,7 @@ comment_statement None = refused
 
 abbrev pub reads : Language → BlockContext → pieces.Piece → Statement
 reads l x (pieces.text t) = leaf (plain t)
-reads l x (pieces.output is) =
-    leaf_or (option_map output (chain_of (registered_in l.filters) (tokens_of is)))
+reads l x (pieces.output is) = leaf_or (output_of l (tokens_of is))
 reads l x (pieces.tag w is) = tag_statement l x is (tokens_of is) (role_of l x w)
 reads l x (pieces.raw w t) = raw_statement t (verbatim_body (role_of l x w))
 reads l x (pieces.comment w) = comment_statement (verbatim_body (role_of l x w))

@@ -1,11 +1,11 @@
 -- Tags and blocks of a host: the call that one stands for, how it is written, and how it is read.
-use Rattle.std.specs.Prelude.{◌≡◌, ℕ, Bool, true, false, List, [], ◌∷◌, length, IsTrue, Option}
-use Rattle.std.specs.Prelude.{Some}
+use Rattle.std.specs.Prelude.{◌≡◌, ℕ, Bool, true, false, List, [], ◌∷◌, ◌++◌, length, IsTrue}
+use Rattle.std.specs.Prelude.{Option, Some}
 use Rattle.std.specs.Option.{option_and_then, option_map}
 use Rattle.liquid_model.specs.Maps.{listed}
 use Rattle.liquid_model.specs.Texts.{Text}
 use Rattle.liquid_core.specs.Expression.{Expression}
-use Rattle.liquid_evaluation.specs.Tree.{Chain, FilterCall, Node, Nodes, filtered, output}
+use Rattle.liquid_evaluation.specs.Tree.{Chain, Filter, FilterCall, Node, Nodes, filtered, output}
 use Rattle.liquid_lexer.specs.Tokens.{Token}
 use Rattle.liquid_language.specs.HostTags.{BlockCall, TagCall, block_at, call_at}
 use Rattle.liquid_language.specs.Registered.{registered_counts, registered_in}
@@ -27,19 +27,28 @@ pub data AreTagValues : List Expression → List Token → Type 0 where
   tag_values : {xs : List Expression} {ts : List Token} → AreValues OptionalCommas xs ts →
       AreTagValues xs ts
 
--- the filter of the name is registered, and may be given that number of arguments
-pub data IsHostCall (known : Filters) (name : Text) : FilterCall → List Token → Type 0 where
-  host_call : {filter : RegisteredFilter} {xs : List Expression} {ts : List Token}
-      → listed known name ≡ Some filter → IsTrue (registered_counts filter (length xs)) →
-      AreTagValues xs ts
-      → IsHostCall known name (record { filter = called_as name filter; arguments = xs }) ts
+-- a call of which the first n arguments are required
+abbrev pub call_requiring : Filter → ℕ → List Expression → FilterCall
+call_requiring filter n xs = record { filter = filter; arguments = xs; required = n }
 
--- the input goes through one call of the filter, which is given the tag's values
+-- the filter of the name is registered, and may be given that number of arguments: the values of
+-- the tag, which are required, and those that are given with it, which are nil where they are
+-- missing
+pub data IsHostCall (known : Filters) (name : Text) (given : List Expression) :
+    FilterCall → List Token → Type 0 where
+  host_call : {filter : RegisteredFilter} {xs : List Expression} {ts : List Token}
+      → listed known name ≡ Some filter →
+      IsTrue (registered_counts filter (length (xs ++ given))) → AreTagValues xs ts
+      → IsHostCall known name given
+      (call_requiring (called_as name filter) (length xs) (xs ++ given)) ts
+
+-- the input goes through one call of the filter
 abbrev pub chain_of_call : TagCall → FilterCall → Chain
 chain_of_call called call = record { entry = called.input; filters = call ∷ [] }
 
 pub data IsHostChain (known : Filters) (called : TagCall) : Chain → List Token → Type 0 where
-  host_chain : {call : FilterCall} {ts : List Token} → IsHostCall known called.filter call ts →
+  host_chain : {call : FilterCall} {ts : List Token} →
+      IsHostCall known called.filter called.given call ts →
       IsHostChain known called (chain_of_call called call) ts
 
 -- the innermost block is one of the host
@@ -50,17 +59,22 @@ in_host _ = false
 
 -- ---- reading
 
--- the call where there are these values
-abbrev pub call_given : Filters → Text → List Expression → Option FilterCall
-call_given known name xs = accepted_call name (listed known name) xs
+-- the call, of which only the first n arguments are required
+abbrev pub requiring : ℕ → FilterCall → FilterCall
+requiring n call = call_requiring call.filter n call.arguments
 
-abbrev pub host_call_of : Filters → Text → List Token → Option FilterCall
-host_call_of known name ts =
-    option_and_then (call_given known name) (any_values_of OptionalCommas ts)
+-- the call where the tag has the values xs
+abbrev pub call_given : Filters → Text → List Expression → List Expression → Option FilterCall
+call_given known name given xs =
+    option_map (requiring (length xs)) (accepted_call name (listed known name) (xs ++ given))
+
+abbrev pub host_call_of : Filters → Text → List Expression → List Token → Option FilterCall
+host_call_of known name given ts =
+    option_and_then (call_given known name given) (any_values_of OptionalCommas ts)
 
 abbrev pub host_chain_of : Filters → TagCall → List Token → Option Chain
 host_chain_of known called ts =
-    option_map (chain_of_call called) (host_call_of known called.filter ts)
+    option_map (chain_of_call called) (host_call_of known called.filter called.given ts)
 
 -- the tag with the number is an output
 abbrev pub host_tag_of : Language → ℕ → List Token → Option Node
@@ -75,4 +89,4 @@ through_call call f = filtered (call ∷ []) f
 abbrev pub host_block_of : Language → ℕ → List Token → Option (Nodes → Node)
 host_block_of l n ts = option_and_then
     (λ (called : BlockCall). option_map through_call
-    (host_call_of (registered_in l.filters) called.filter ts)) (block_at l n)
+    (host_call_of (registered_in l.filters) called.filter called.given ts)) (block_at l n)

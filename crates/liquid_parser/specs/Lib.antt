@@ -14,6 +14,8 @@ pub mod Loops
 pub mod Nesting
 pub mod NestingLaw
 pub mod OpenBlocks
+pub mod OutputLaw
+pub mod Outputs
 pub mod Parsing
 pub mod PartialItems
 pub mod Repeated

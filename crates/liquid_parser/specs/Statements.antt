@@ -5,7 +5,7 @@ use Rattle.liquid_lexer.specs.Items.{Item}
 use Rattle.liquid_lexer.specs.Pieces as pieces
 use Rattle.liquid_lexer.specs.Tokens.{tokens_of, value, word}
 use Rattle.liquid_lexer.specs.declared.piece.Body.TheVariants.{Raw, Comment}
-use Rattle.liquid_parser.specs.Chains.{IsChain, IsAssign}
+use Rattle.liquid_parser.specs.Chains.{IsAssign}
 use Rattle.liquid_parser.specs.Conditions.{IsCondition}
 use Rattle.liquid_parser.specs.Cycles.{IsCycle}
 use Rattle.liquid_parser.specs.HostTags.{IsHostCall, IsHostChain, in_host, through_call}
@@ -14,12 +14,14 @@ use Rattle.liquid_language.specs.HostTags.{BlockCall, TagCall, block_at, call_at
 use Rattle.liquid_language.specs.Registered.{registered_in}
 use Rattle.liquid_parser.specs.Nesting.{of_one, of_two, of_many, Statement, leaf, closed, begins}
 use Rattle.liquid_parser.specs.Nesting.{elsif, arm, otherwise, ends}
+use Rattle.liquid_parser.specs.Outputs.{IsOutput, shown_node}
 use Rattle.liquid_parser.specs.PartialItems.{IsInclude, IsJekyllInclude, IsRender}
 use Rattle.liquid_language.specs.Roles.{role_of, verbatim_body}
-use Rattle.liquid_evaluation.specs.Tree.{Bindings, Chain, Condition, FilterCall, Source, plain, raw}
-use Rattle.liquid_evaluation.specs.Tree.{comment, output, assign, if_true, unless, capture, case_of}
-use Rattle.liquid_evaluation.specs.Tree.{ifchanged, break_loop, continue_loop, increment, decrement}
-use Rattle.liquid_evaluation.specs.Tree.{cycle, include, jekyll_include, render}
+use Rattle.liquid_evaluation.specs.Tree.{Bindings, Chain, Condition, FilterCall, Node, Source}
+use Rattle.liquid_evaluation.specs.Tree.{plain, raw, comment, output, assign, if_true, unless}
+use Rattle.liquid_evaluation.specs.Tree.{capture, case_of, ifchanged, break_loop, continue_loop}
+use Rattle.liquid_evaluation.specs.Tree.{increment, decrement, cycle, include, jekyll_include}
+use Rattle.liquid_evaluation.specs.Tree.{render}
 use Rattle.liquid_evaluation.specs.Groups.{group_of}
 use Rattle.liquid_core.specs.Expression.{Expression}
 use Rattle.liquid_parser.specs.ValueLists.{AreValues}
@@ -38,8 +40,8 @@ use Rattle.liquid_parser.specs.declared.loop_items.LoopTag.TheVariants.{Each, Ro
 
 pub data IsStatement (l : Language) (x : BlockContext) : pieces.Piece → Statement → Type 0 where
   is_text : {t : Text} → IsStatement l x (pieces.text t) (leaf (plain t))
-  is_output : {c : Chain} {is : List Item} → IsChain (registered_in l.filters) c (tokens_of is) →
-      IsStatement l x (pieces.output is) (leaf (output c))
+  is_output : {n : Node} {is : List Item} → IsOutput l n (tokens_of is) →
+      IsStatement l x (pieces.output is) (leaf n)
   -- an end takes no items
   is_end : {w : Text} → role_of l x w ≡ Some End → IsStatement l x (pieces.tag w []) ends
   -- the items of the end of a host's block are ignored
@@ -81,7 +83,7 @@ pub data IsStatement (l : Language) (x : BlockContext) : pieces.Piece → Statem
       tokens_of is ≡ word name ∷ [] → IsStatement l x (pieces.tag w is) (leaf (decrement name))
   is_cycle : {w : Text} {name : Option Expression} {vs : List Expression} {is : List Item} →
       role_of l x w ≡ Some (Tag tags.Cycle) → IsCycle name vs (tokens_of is) →
-      IsStatement l x (pieces.tag w is) (leaf (cycle (group_of name vs) vs))
+      IsStatement l x (pieces.tag w is) (leaf (shown_node l (cycle (group_of name vs) vs)))
   is_ifchanged : {w : Text} → role_of l x w ≡ Some (Start blocks.IfChanged) →
       IsStatement l x (pieces.tag w []) (begins (of_one IfChanged (λ f. ifchanged f)))
   is_for : {w : Text} {h : Head} {is : List Item} → role_of l x w ≡ Some (Start blocks.For) →
@@ -108,7 +110,7 @@ pub data IsStatement (l : Language) (x : BlockContext) : pieces.Piece → Statem
   -- the text of a host's block goes through its call
   is_host_block : {w : Text} {n : ℕ} {called : BlockCall} {call : FilterCall} {is : List Item} →
       role_of l x w ≡ Some (HostBlock n) → block_at l n ≡ Some called →
-      IsHostCall (registered_in l.filters) called.filter call (tokens_of is) →
+      IsHostCall (registered_in l.filters) called.filter called.given call (tokens_of is) →
       IsStatement l x (pieces.tag w is) (begins (of_one (Host n) (through_call call)))
   -- a block whose body isn't read has no items, and with its body it is a piece of its own
   is_raw : {w t : Text} → verbatim_body (role_of l x w) ≡ Some Raw →

@@ -4,5 +4,6 @@ pub mod Called
 pub mod Classifies
 pub mod ConditionAnswers
 pub mod PartialAnswers
+pub mod RawEnds
 pub mod TemplateReading
 pub mod ValueAnswers

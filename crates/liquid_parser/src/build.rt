@@ -9,14 +9,15 @@ ghost use Rattle.liquid_parser.specs.inside.Building.{IsMemory, IsPrepared, IsSo
 ghost use Rattle.liquid_parser.specs.inside.Building.{AdvancesTo, is_full, statement_view};
 ghost use Rattle.liquid_parser.specs.inside.Building.{of_bodies};
 ghost use Rattle.liquid_parser.specs.inside.Building.{context_at, opening, takes_else, takes_when};
-ghost use Rattle.liquid_parser.specs.inside.Building.{text_added};
+ghost use Rattle.liquid_parser.specs.inside.Building.{alone, text_added};
 ghost use Rattle.liquid_parser.specs.Faults.{FaultsAt};
 ghost use Rattle.liquid_syntax.specs.Flats.{flat_of};
 ghost use Rattle.liquid_core.specs.ExpressionView.{expression_view};
 ghost use Rattle.liquid_parser.specs.OpenBlocks.{Level, at_end, close, statement_step, to_begin};
 ghost use Rattle.liquid_parser.specs.OpenBlocks.{to_closed};
 ghost use Rattle.liquid_parser.specs.OpenBlocks.{to_else, to_elsif, to_when, with_node};
-ghost use Rattle.liquid_evaluation.specs.Tree.{Nodes, no_nodes};
+ghost use Rattle.liquid_evaluation.specs.ChainView.{chain_filter_view};
+ghost use Rattle.liquid_evaluation.specs.Tree.{Nodes, filtered, no_nodes};
 ghost use Rattle.liquid_parser.specs.declared.build.Stage.TheVariants as stages;
 
 use crate::body_ends::{add_arm, end_body, end_last};
@@ -24,7 +25,7 @@ use crate::faults::{missing_end, no_body, too_nested};
 use liquid_core::Expression;
 use liquid_language::{Block, BlockContext};
 use liquid_lexer::ParseError;
-use liquid_syntax::{Node, Position, Template};
+use liquid_syntax::{ChainFilter, Node, Position, Template};
 use std::alloc::Global;
 
 /// Which body of a block is being read.
@@ -45,6 +46,8 @@ pub enum Stage {
 pub enum Statement {
     /// A node without bodies.
     Leaf(Node),
+    /// A node without bodies, whose text goes through the filters.
+    Through(Vec<ChainFilter>, Node),
     /// A block whose body isn't read, as a whole.
     Verbatim(Node),
     /// The start of a block.
@@ -124,6 +127,23 @@ impl Builder {
             AdvancesTo (Some (ls, with_node cur ((flat_of node).head []))) self.new result }
         ensures fails { IsMemory result }
     {
+        self.nodes.push(node)?;
+        Ok(())
+    }
+
+    /// A node without bodies, as the body of a node whose text goes through the filters.
+    fn through(&mut self, filters: Vec<ChainFilter>, node: Node) -> Result<(), ParseError>
+        requires { (flat_of node).ends ≡ [] }
+        ensures stack { (ls : List Level) (cur : Nodes) → IsBuilding self.old ls cur →
+            AdvancesTo (Some (
+              ls,
+              with_node cur (filtered (map chain_filter_view filters.items)
+                  (alone ((flat_of node).head []))),
+            )) self.new result }
+        ensures fails { IsMemory result }
+    {
+        let before = self.nodes.len();
+        self.nodes.push(Node::Filtered(filters, before + 2))?;
         self.nodes.push(node)?;
         Ok(())
     }
@@ -340,6 +360,7 @@ impl Builder {
     {
         match statement {
             Statement::Leaf(node) => self.leaf(node),
+            Statement::Through(filters, node) => self.through(filters, node),
             Statement::Verbatim(node) => self.verbatim(node, remaining),
             Statement::Begins(block, stage, node) => self.begin(block, stage, node, remaining),
             Statement::Elsif(node) => self.elsif(node, remaining),

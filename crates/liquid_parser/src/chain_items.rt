@@ -82,8 +82,8 @@ fn read_filter(
     accepted(known, name, arguments, at)
 }
 
-/// The filter of the name with these arguments. `UnknownFilter` where none is registered, and
-/// `FilterArguments` where it doesn't take their number.
+/// The filter of the name with these arguments, each of which is required. `UnknownFilter` where
+/// none is registered, and `FilterArguments` where it doesn't take their number.
 pub(crate) fn accepted(
     known: &FilterRegistry,
     name: String,
@@ -112,14 +112,17 @@ pub(crate) fn accepted(
             Expectation::ArgumentCount,
         )));
     }
+    let required = arguments.len();
     match filter {
         RegisteredFilter::Kind(kind) => Ok(ChainFilter {
             filter: StoredFilter::Kind(kind),
             arguments,
+            required,
         }),
         RegisteredFilter::Host { .. } => Ok(ChainFilter {
             filter: StoredFilter::Host(name),
             arguments,
+            required,
         }),
     }
 }

@@ -14,16 +14,18 @@ ghost use Rattle.liquid_language.specs.Roles.{role_of};
 mod blocks;
 mod host_tags;
 mod leaf_tags;
+mod outputs;
 mod tags;
 
 use crate::build::Statement;
-use crate::chain_items::{expected_before, read_chain};
+use crate::chain_items::expected_before;
 use blocks::{read_block, read_control};
 use host_tags::{read_host_block, read_host_tag};
 use leaf_tags::read_leaf;
 use liquid_language::{Block, BlockContext, Language, Role, role_of, verbatim_body};
 use liquid_lexer::{Body, Expectation, Fault, FaultKind, Item, ParseError, Piece};
 use liquid_syntax::Node;
+use outputs::read_output;
 use std::alloc::Global;
 use std::collections::VecDeque;
 
@@ -55,12 +57,7 @@ pub fn classify(
     ensures place { FaultsAt (length at.now) result }
 {
     match piece {
-        Piece::Output(items) => Ok(Statement::Leaf(Node::Output(read_chain(
-            alloc,
-            &language.filters,
-            items,
-            at,
-        )?))),
+        Piece::Output(items) => read_output(alloc, language, items, at),
         Piece::Tag(name, items) => read_tag(alloc, language, context, name, items, at),
         Piece::Raw(name, body) => {
             let role = role_of(language, context, name);

@@ -3,6 +3,7 @@ ghost use Rattle.liquid_parser.specs.ChainLaw.{ReadsChains, ReadsAssigns};
 ghost use Rattle.liquid_parser.specs.ConditionLaw.{ReadsConditions};
 ghost use Rattle.liquid_parser.specs.HostTagLaw.{HostBlocksAreCalls, HostBlocksEnd};
 ghost use Rattle.liquid_parser.specs.HostTagLaw.{HostTagsAreOutputs, NoHostBlocks, NoHostTags};
+ghost use Rattle.liquid_parser.specs.OutputLaw.{OthersEscaped, PlainOutputs, RawOutputs};
 ghost use Rattle.liquid_parser.specs.StatementLaw.{ReadsStatements};
 ghost use Rattle.liquid_parser.specs.RepeatedLaw.{ReadsLoops, ReadsPairs, ReadsValues};
 ghost use Rattle.liquid_parser.specs.NestingLaw.{ReadsTheGrammar, AtMostOneTree};
@@ -31,6 +32,14 @@ pub fn nesting_laws()
 /// says that it is that.
 pub fn statement_law()
     ensures { ReadsStatements }
+{}
+
+/// In a language that escapes, an output that ends with `| raw` is its chain's, and any other is
+/// escaped; in another each is its chain's.
+pub fn output_laws()
+    ensures plain { PlainOutputs }
+    ensures raw { RawOutputs }
+    ensures others { OthersEscaped }
 {}
 
 /// A host's tag is the node that an output of its call is; and where none is registered, no tag is

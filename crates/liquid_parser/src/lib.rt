@@ -20,7 +20,7 @@ mod value_items;
 pub use condition_items::read_condition;
 pub use laws::{
     chain_laws, condition_law, host_block_laws, host_tag_laws, item_list_laws, nesting_laws,
-    statement_law, template_laws,
+    output_laws, statement_law, template_laws,
 };
 pub use liquid_language::{
     Block, BlockContext, BlockKind, Control, FilterRegistry, Language, RegisteredFilter, Registry,

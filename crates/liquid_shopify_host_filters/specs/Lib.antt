@@ -1,6 +1,7 @@
 pub mod Amounts
 pub mod Answers
 pub mod Codecs
+pub mod Forms
 pub mod Html
 pub mod Images
 pub mod Kinds
@@ -8,6 +9,8 @@ pub mod Last
 pub mod Laws
 pub mod Lookups
 pub mod Money
+pub mod Pagination
+pub mod Sections
 pub mod Styles
 pub mod Sums
 pub mod Tags

@@ -7,25 +7,16 @@ use Rattle.liquid_model.specs.Find.{counted}
 use Rattle.liquid_model.specs.Texts.{Text}
 use Rattle.liquid_model.specs.declared.error.ErrorKind.TheVariants.{InvalidArgument}
 use Rattle.liquid_model.specs.Arguments.{Answer, first_of}
-use Rattle.liquid_filters.specs.Keeping as keeping
-use Rattle.liquid_filters.specs.Sequences as sequences
-use Rattle.liquid_filters.specs.Sequences.{all_maps, list, sequence}
-
--- the value of a map's property
-abbrev pub map_property : Text → Datum → Option Datum
-map_property name d = sequences.property name d
+use Rattle.liquid_filters.specs.Keeping.{is_wanted}
+use Rattle.liquid_filters.specs.Sequences.{all_maps, list, property, sequence}
 
 -- nil is no target
 abbrev pub target_of : Option Datum → Option Datum
 target_of (Some nil) = None
 target_of t = t
 
--- the property is there and truthy, or equals the target where there is one
-abbrev pub is_lookup_match : Option Datum → Option Datum → Bool
-is_lookup_match target found = keeping.is_wanted target found
-
 abbrev pub wants : Text → Option Datum → Datum → Bool
-wants name target d = is_lookup_match target (map_property name d)
+wants name target d = is_wanted target (property name d)
 
 abbrev pub rejected : Text → Option Datum → List Datum → List Datum
 rejected name target ds = filter (λ d. not (wants name target d)) ds

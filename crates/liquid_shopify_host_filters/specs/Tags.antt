@@ -5,7 +5,7 @@ use Rattle.std.specs.Prelude.{codes, bytes_eq, if◌then◌else◌}
 use Rattle.liquid_model.specs.Data.{Datum, text, text_of}
 use Rattle.liquid_model.specs.Texts.{Text}
 use Rattle.liquid_model.specs.Arguments.{Answer, text_or}
-use Rattle.liquid_shopify_host_filters.specs.Lookups.{map_property}
+use Rattle.liquid_filters.specs.Sequences.{property}
 
 -- the other tags, each with a + after it, and then this one
 abbrev pub with_tag : List Text → Text → Text
@@ -75,7 +75,7 @@ within_found url None = url
 
 -- by the `handle` of the collection, where that is a map which has one
 abbrev pub within : Text → Datum → Text
-within url collection = within_found url (map_property (codes "handle") collection)
+within url collection = within_found url (property (codes "handle") collection)
 
 -- `within`
 abbrev pub within_answer : Datum → List Datum → Answer

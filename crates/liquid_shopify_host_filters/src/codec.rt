@@ -7,9 +7,9 @@ ghost use Rattle.liquid_shopify_host_filters.specs.Codecs.{masked_digest, encode
 ghost use Rattle.liquid_shopify_host_filters.specs.Codecs.{hmac_sha256_answer, json_answer};
 ghost use Rattle.liquid_shopify_host_filters.specs.Codecs.{md5_answer, sha1_answer, sha256_answer};
 
-use crate::argument::text_or;
 use base64::DecodeAllocError;
 use base64::engine::general_purpose::STANDARD;
+use liquid_filters::text_or;
 use liquid_json::json_for_scripts;
 use liquid_model::{Error, ErrorKind, Result, Value, text_of};
 use md5::Md5;

@@ -7,7 +7,10 @@ ghost use Rattle.liquid_shopify_host_filters.specs.Kinds.{takes_arguments};
 
 use crate::kind::ShopifyKind;
 use crate::shop::Shop;
-use crate::{codec, html, images, lists, money, sums, tags, texts, urls, weight, wording};
+use crate::{
+    codec, forms, html, images, lists, money, pagination, sections, sums, tags, texts, urls,
+    weight, wording,
+};
 use liquid_model::{Filter, Result, Value};
 use std::alloc::Global;
 use std::rc::Rc;
@@ -55,8 +58,10 @@ fn answered(
         ShopifyKind::Base64Decode => codec::decode_answer(alloc, input),
         ShopifyKind::Base64Encode => codec::encode_answer(alloc, input),
         ShopifyKind::Camelize => wording::camelize_answer(alloc, input),
+        ShopifyKind::DefaultPagination => pagination::pagination_answer(alloc, input),
         ShopifyKind::Find => lists::find_answer(alloc, input, args),
         ShopifyKind::FindIndex => lists::find_index_answer(alloc, input, args),
+        ShopifyKind::Form => forms::form_answer(alloc, input, args),
         ShopifyKind::GlobalAssetUrl => urls::prefixed_answer(alloc, &shop.global_assets, input),
         ShopifyKind::Handle => wording::handle_answer(alloc, input),
         ShopifyKind::Handleize => wording::handle_answer(alloc, input),
@@ -65,6 +70,7 @@ fn answered(
         ShopifyKind::HmacSha256 => codec::hmac_sha256_answer(alloc, input, args),
         ShopifyKind::ImgTag => html::img_tag_answer(alloc, input, args),
         ShopifyKind::Json => codec::json_answer(alloc, input),
+        ShopifyKind::Layout | ShopifyKind::NoText => sections::no_text(alloc),
         ShopifyKind::LinkTo => html::link_to_answer(alloc, input, args),
         ShopifyKind::LinkToAddTag => tags::link_to_add_tag_answer(alloc, shop, input, args),
         ShopifyKind::LinkToRemoveTag => tags::link_to_remove_tag_answer(alloc, shop, input, args),
@@ -78,6 +84,7 @@ fn answered(
         }
         ShopifyKind::MoneyWithoutCurrency => money::amount_answer(alloc, &shop.money, input),
         ShopifyKind::MoneyWithoutTrailingZeros => money::trimmed_answer(alloc, &shop.money, input),
+        ShopifyKind::Paginate => input.copy(alloc),
         ShopifyKind::ProductImgUrl => {
             images::product_img_url_answer(alloc, &shop.images, input, args)
         }
@@ -85,10 +92,12 @@ fn answered(
         ShopifyKind::RemoveLast => texts::remove_last_answer(alloc, input, args),
         ShopifyKind::ReplaceLast => texts::replace_last_answer(alloc, input, args),
         ShopifyKind::ScriptTag => html::script_tag_answer(alloc, input),
+        ShopifyKind::Section => sections::section_answer(alloc, input, args),
         ShopifyKind::Sha1 => codec::sha1_answer(alloc, input),
         ShopifyKind::Sha256 => codec::sha256_answer(alloc, input),
         ShopifyKind::ShopifyAssetUrl => urls::prefixed_answer(alloc, &shop.shopify_assets, input),
         ShopifyKind::Squish => wording::squish_answer(alloc, input),
+        ShopifyKind::Style => sections::style_answer(alloc, input),
         ShopifyKind::StylesheetTag => html::stylesheet_tag_answer(alloc, input, args),
         ShopifyKind::Sum => sums::sum_answer(alloc, input, args),
         ShopifyKind::UrlForType => urls::url_for_answer(alloc, input),

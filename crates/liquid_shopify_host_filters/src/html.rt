@@ -6,8 +6,8 @@ ghost use Rattle.liquid_shopify_host_filters.specs.Html.{image, img_tag_answer, 
 ghost use Rattle.liquid_shopify_host_filters.specs.Html.{link_to_answer, link_to_collection_answer};
 ghost use Rattle.liquid_shopify_host_filters.specs.Html.{script_tag_answer, stylesheet_tag_answer};
 
-use crate::argument::text_or;
 use crate::urls::collection_url;
+use liquid_filters::text_or;
 use liquid_model::{Result, Value, text_of};
 use std::alloc::Global;
 
@@ -68,7 +68,7 @@ pub(crate) fn link_to_collection_answer(alloc: Global, input: &Value) -> Result<
 }
 
 /// A link with a title.
-fn link(alloc: Global, label: &str, url: &str, title: &str) -> Result<String>
+pub(crate) fn link(alloc: Global, label: &str, url: &str, title: &str) -> Result<String>
     ensures { IsValueOrMemory (λ s. string_bytes s) result (link label.now url.now title.now) }
 {
     Ok(format!(in alloc; "<a href=\"{url}\" title=\"{title}\">{label}</a>")?)

@@ -7,7 +7,7 @@ ghost use Rattle.liquid_shopify_host_filters.specs.Images.{is_part, is_size, lea
 ghost use Rattle.liquid_shopify_host_filters.specs.Images.{product_img_url_answer, resized, sized};
 ghost use Rattle.liquid_shopify_host_filters.specs.Images.{with_extension};
 
-use crate::argument::text_or;
+use liquid_filters::text_or;
 use liquid_model::{Error, ErrorKind, Result, Value, text_of};
 use std::alloc::Global;
 

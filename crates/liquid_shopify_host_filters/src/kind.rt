@@ -14,10 +14,14 @@ pub enum ShopifyKind {
     Base64Encode,
     /// `camelize`: the words with a capital each, joined.
     Camelize,
+    /// `default_pagination`: links to the pages of a list.
+    DefaultPagination,
     /// `find`: the first map of a list with a property.
     Find,
     /// `find_index`: the place of the first map of a list with a property.
     FindIndex,
+    /// `form`: the block: a form, with what Shopify writes around it.
+    Form,
     /// `global_asset_url`: the address of a file that all shops share.
     GlobalAssetUrl,
     /// `handle`: the words in lower case, with hyphens between them.
@@ -34,6 +38,8 @@ pub enum ShopifyKind {
     ImgTag,
     /// `json`: the value as JSON.
     Json,
+    /// `layout`: the tag: nothing, since a page is rendered without its layout.
+    Layout,
     /// `link_to`: a link.
     LinkTo,
     /// `link_to_add_tag`: a link to the products of a tag more.
@@ -56,6 +62,10 @@ pub enum ShopifyKind {
     MoneyWithoutCurrency,
     /// `money_without_trailing_zeros`: an amount, without `.00` at its end.
     MoneyWithoutTrailingZeros,
+    /// `no_text`: the blocks `schema`, `javascript` and `stylesheet`: nothing.
+    NoText,
+    /// `paginate`: the block: its body.
+    Paginate,
     /// `product_img_url`: the address of a product's image in a size.
     ProductImgUrl,
     /// `reject`: the maps of a list without a property.
@@ -66,6 +76,8 @@ pub enum ShopifyKind {
     ReplaceLast,
     /// `script_tag`: a script.
     ScriptTag,
+    /// `section`: the tags `section` and `sections`: a section's text.
+    Section,
     /// `sha1`: a digest.
     Sha1,
     /// `sha256`: a digest.
@@ -74,6 +86,8 @@ pub enum ShopifyKind {
     ShopifyAssetUrl,
     /// `squish`: the words with a space between them.
     Squish,
+    /// `style`: the block: an element of rules of style.
+    Style,
     /// `stylesheet_tag`: a style sheet.
     StylesheetTag,
     /// `sum`: the sum of a list.
@@ -89,13 +103,15 @@ pub enum ShopifyKind {
 }
 
 /// All filters of this set, in the order of their names.
-pub const SHOPIFY_FILTERS: [ShopifyKind; 40] = [
+pub const SHOPIFY_FILTERS: [ShopifyKind; 47] = [
     ShopifyKind::AssetUrl,
     ShopifyKind::Base64Decode,
     ShopifyKind::Base64Encode,
     ShopifyKind::Camelize,
+    ShopifyKind::DefaultPagination,
     ShopifyKind::Find,
     ShopifyKind::FindIndex,
+    ShopifyKind::Form,
     ShopifyKind::GlobalAssetUrl,
     ShopifyKind::Handle,
     ShopifyKind::Handleize,
@@ -104,6 +120,7 @@ pub const SHOPIFY_FILTERS: [ShopifyKind; 40] = [
     ShopifyKind::HmacSha256,
     ShopifyKind::ImgTag,
     ShopifyKind::Json,
+    ShopifyKind::Layout,
     ShopifyKind::LinkTo,
     ShopifyKind::LinkToAddTag,
     ShopifyKind::LinkToRemoveTag,
@@ -115,15 +132,19 @@ pub const SHOPIFY_FILTERS: [ShopifyKind; 40] = [
     ShopifyKind::MoneyWithCurrency,
     ShopifyKind::MoneyWithoutCurrency,
     ShopifyKind::MoneyWithoutTrailingZeros,
+    ShopifyKind::NoText,
+    ShopifyKind::Paginate,
     ShopifyKind::ProductImgUrl,
     ShopifyKind::Reject,
     ShopifyKind::RemoveLast,
     ShopifyKind::ReplaceLast,
     ShopifyKind::ScriptTag,
+    ShopifyKind::Section,
     ShopifyKind::Sha1,
     ShopifyKind::Sha256,
     ShopifyKind::ShopifyAssetUrl,
     ShopifyKind::Squish,
+    ShopifyKind::Style,
     ShopifyKind::StylesheetTag,
     ShopifyKind::Sum,
     ShopifyKind::UrlForType,
@@ -142,8 +163,10 @@ impl ShopifyKind {
             ShopifyKind::Base64Decode => "base64_decode",
             ShopifyKind::Base64Encode => "base64_encode",
             ShopifyKind::Camelize => "camelize",
+            ShopifyKind::DefaultPagination => "default_pagination",
             ShopifyKind::Find => "find",
             ShopifyKind::FindIndex => "find_index",
+            ShopifyKind::Form => "form",
             ShopifyKind::GlobalAssetUrl => "global_asset_url",
             ShopifyKind::Handle => "handle",
             ShopifyKind::Handleize => "handleize",
@@ -152,6 +175,7 @@ impl ShopifyKind {
             ShopifyKind::HmacSha256 => "hmac_sha256",
             ShopifyKind::ImgTag => "img_tag",
             ShopifyKind::Json => "json",
+            ShopifyKind::Layout => "layout",
             ShopifyKind::LinkTo => "link_to",
             ShopifyKind::LinkToAddTag => "link_to_add_tag",
             ShopifyKind::LinkToRemoveTag => "link_to_remove_tag",
@@ -163,15 +187,19 @@ impl ShopifyKind {
             ShopifyKind::MoneyWithCurrency => "money_with_currency",
             ShopifyKind::MoneyWithoutCurrency => "money_without_currency",
             ShopifyKind::MoneyWithoutTrailingZeros => "money_without_trailing_zeros",
+            ShopifyKind::NoText => "no_text",
+            ShopifyKind::Paginate => "paginate",
             ShopifyKind::ProductImgUrl => "product_img_url",
             ShopifyKind::Reject => "reject",
             ShopifyKind::RemoveLast => "remove_last",
             ShopifyKind::ReplaceLast => "replace_last",
             ShopifyKind::ScriptTag => "script_tag",
+            ShopifyKind::Section => "section",
             ShopifyKind::Sha1 => "sha1",
             ShopifyKind::Sha256 => "sha256",
             ShopifyKind::ShopifyAssetUrl => "shopify_asset_url",
             ShopifyKind::Squish => "squish",
+            ShopifyKind::Style => "style",
             ShopifyKind::StylesheetTag => "stylesheet_tag",
             ShopifyKind::Sum => "sum",
             ShopifyKind::UrlForType => "url_for_type",
@@ -188,14 +216,18 @@ impl ShopifyKind {
         match self {
             ShopifyKind::Find
             | ShopifyKind::FindIndex
+            | ShopifyKind::Form
             | ShopifyKind::Has
             | ShopifyKind::HmacSha256
+            | ShopifyKind::Layout
             | ShopifyKind::LinkTo
             | ShopifyKind::LinkToAddTag
             | ShopifyKind::LinkToRemoveTag
             | ShopifyKind::LinkToTag
+            | ShopifyKind::Paginate
             | ShopifyKind::Reject
             | ShopifyKind::RemoveLast
+            | ShopifyKind::Section
             | ShopifyKind::Within => 1,
             ShopifyKind::ReplaceLast => 2,
             _ => 0,
@@ -210,16 +242,20 @@ impl ShopifyKind {
             ShopifyKind::HighlightActiveTag
             | ShopifyKind::HmacSha256
             | ShopifyKind::ImgTag
+            | ShopifyKind::Layout
             | ShopifyKind::LinkToAddTag
             | ShopifyKind::LinkToRemoveTag
             | ShopifyKind::LinkToTag
+            | ShopifyKind::Paginate
             | ShopifyKind::ProductImgUrl
             | ShopifyKind::RemoveLast
+            | ShopifyKind::Section
             | ShopifyKind::StylesheetTag
             | ShopifyKind::Sum
             | ShopifyKind::Within => 1,
             ShopifyKind::Find
             | ShopifyKind::FindIndex
+            | ShopifyKind::Form
             | ShopifyKind::Has
             | ShopifyKind::LinkTo
             | ShopifyKind::Reject

@@ -2,15 +2,17 @@
 #![tactic(auto)]
 
 mod amount;
-mod argument;
 mod codec;
 mod filter;
+mod forms;
 mod html;
 mod images;
 mod kind;
 pub mod laws;
 mod lists;
 mod money;
+mod pagination;
+mod sections;
 mod shop;
 mod sums;
 mod tags;

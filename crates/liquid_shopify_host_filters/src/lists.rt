@@ -5,12 +5,11 @@ ghost use Rattle.liquid_model.specs.Lists.{list_of};
 ghost use Rattle.liquid_model.specs.View.{view, items_view};
 ghost use Rattle.liquid_shopify_host_filters.specs.Lookups.{shopify_find_answer, find_index_answer};
 ghost use Rattle.liquid_shopify_host_filters.specs.Lookups.{first_match, has_answer, has_wanted};
-ghost use Rattle.liquid_shopify_host_filters.specs.Lookups.{is_lookup_match, map_property};
 ghost use Rattle.liquid_shopify_host_filters.specs.Lookups.{reject_answer};
 ghost use Rattle.liquid_shopify_host_filters.specs.Lookups.{rejected, target_of, place_of_wanted};
 
-use liquid_filters::{all_maps, sequence};
-use liquid_model::{Result, Value, look_up, text_of};
+use liquid_filters::{all_maps, is_wanted, property, sequence};
+use liquid_model::{Result, Value, text_of};
 use std::alloc::Global;
 
 /// `reject`: the maps of a list whose property isn't there or isn't truthy, or is another than the
@@ -137,25 +136,4 @@ fn has_wanted(items: &[Value], name: &str, target: Option<&Value>) -> bool
         }
     }
     false
-}
-
-/// The value of a map's property.
-pub(crate) fn property<'a>(item: &'a Value, name: &str) -> Option<&'a Value>
-    ensures { option_map (λ v. view v.now) result ≡ map_property name.now (view item.now) }
-{
-    match item {
-        Value::Object(pairs) => look_up(pairs, name),
-        _ => None,
-    }
-}
-
-fn is_wanted(found: Option<&Value>, target: Option<&Value>) -> bool
-    ensures { result ≡ is_lookup_match (option_map (λ v. view v.now) target.entry)
-        (option_map (λ v. view v.now) found.entry) }
-{
-    match (target, found) {
-        (None, Some(value)) => value.is_truthy(),
-        (Some(wanted), Some(value)) => value == wanted,
-        _ => false,
-    }
 }

@@ -8,8 +8,7 @@ ghost use Rattle.liquid_shopify_host_filters.specs.Sums.{summand_of};
 ghost use Rattle.liquid_shopify_host_filters.specs.Sums.{total};
 ghost use Rattle.liquid_decimals.specs.Sums.{term};
 
-use crate::lists::property;
-use liquid_filters::sequence;
+use liquid_filters::{property, sequence};
 use liquid_model::{Error, ErrorKind, Result, Value, invalid_input, text_of};
 use std::alloc::Global;
 

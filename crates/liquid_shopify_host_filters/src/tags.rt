@@ -9,9 +9,8 @@ ghost use Rattle.liquid_shopify_host_filters.specs.Tags.{link_to_tag_answer, oth
 ghost use Rattle.liquid_shopify_host_filters.specs.Tags.{with_tag, within, within_answer};
 ghost use Rattle.liquid_shopify_host_filters.specs.Tags.{within_handle};
 
-use crate::argument::text_or;
-use crate::lists::property;
 use crate::shop::Shop;
+use liquid_filters::{property, text_or};
 use liquid_model::{Result, Value, text_of};
 use std::alloc::Global;
 

@@ -5,7 +5,7 @@ ghost use Rattle.liquid_model.specs.View.{view};
 ghost use Rattle.liquid_shopify_host_filters.specs.Last.{remove_last_answer, replace_last_answer};
 ghost use Rattle.liquid_shopify_host_filters.specs.Last.{replaced_last};
 
-use crate::argument::text_or;
+use liquid_filters::text_or;
 use liquid_model::{Result, Value, text_of};
 use std::alloc::Global;
 

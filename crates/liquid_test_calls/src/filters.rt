@@ -94,7 +94,13 @@ fn in_a_chain(
         return no_call(alloc);
     }
     let state = State::new(alloc, Object::new(alloc));
-    apply_filters(alloc, input, &[FilterCall { filter, args }], &state)
+    let required = args.len();
+    let call = FilterCall {
+        filter,
+        args,
+        required,
+    };
+    apply_filters(alloc, input, &[call], &state)
 }
 
 /// Makes the call of `apply_filters` without any filter, over the row's value.

@@ -66,6 +66,7 @@ fn register(alloc: Global, language: &mut Language, options: &Value) -> Result<(
     }
     language.include_paths = option(options, "paths").is_some();
     language.drops_blanks = option(options, "blanks").is_some();
+    language.escapes_html = option(options, "escape").is_some();
     if let Some(names) = map_option(options, "host") {
         register_host(alloc, &mut language.filters, names)?;
     }
@@ -123,7 +124,7 @@ fn register_filter(
 }
 
 /// Registers each tag with the filter, the variable and the style that its list names, or with a
-/// part of them.
+/// part of them; what follows are variables that are given with it.
 fn register_host_tags(alloc: Global, language: &mut Language, calls: &Object) -> Result<()> {
     for (name, call) in calls.iter() {
         let name = String::from_str(alloc, name.as_str())?;
@@ -144,22 +145,51 @@ fn host_call(alloc: Global, words: &[Value]) -> Result<HostCall> {
         filter: word_at(alloc, words, 0)?,
         input,
         style: style_at(words, 2),
+        given: given_from(alloc, words, 3)?,
     })
 }
 
-/// Registers each block with the filter and the style that its list names, or the filter alone.
+/// Registers each block with the filter and the style that its list names, or the filter alone, and
+/// with variables as a tag.
 fn register_host_blocks(alloc: Global, language: &mut Language, blocks: &Object) -> Result<()> {
     for (name, words) in blocks.iter() {
         let name = String::from_str(alloc, name.as_str())?;
         let block = HostBlock {
             filter: word_at(alloc, items(words), 0)?,
             style: style_at(items(words), 1),
+            given: given_from(alloc, items(words), 2)?,
         };
         if let Err(TagError::Memory) = language.register_block(alloc, name, block) {
             return Err(Error::from(AllocError));
         }
     }
     Ok(())
+}
+
+/// The variables that are given with a tag, from a place of its list on: a name, or a list of a
+/// name and steps.
+fn given_from(alloc: Global, words: &[Value], place: usize) -> Result<Vec<Expression>> {
+    let mut given = Vec::new(alloc);
+    for word in words.iter().skip(place) {
+        given.push(path_of(alloc, word)?)?;
+    }
+    Ok(given)
+}
+
+/// The variable of the name, or of the name and the steps.
+fn path_of(alloc: Global, word: &Value) -> Result<Expression> {
+    let Some((name, steps)) = items(word).split_first() else {
+        return variable(alloc, text_of(word));
+    };
+    let mut indexes = Vec::new(alloc);
+    for step in steps {
+        let step = Value::Text(String::from_str(alloc, text_of(step))?);
+        indexes.push(Expression::Literal(step))?;
+    }
+    Ok(Expression::Variable(Variable {
+        name: String::from_str(alloc, text_of(name))?,
+        indexes,
+    }))
 }
 
 fn word_at(alloc: Global, words: &[Value], place: usize) -> Result<String> {

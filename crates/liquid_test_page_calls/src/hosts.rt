@@ -91,10 +91,12 @@ fn applied(alloc: Global, input: &Value) -> Result<Value> {
         FilterCall {
             filter: Suffix { text: "!" },
             args,
+            required: args.len(),
         },
         FilterCall {
             filter: Suffix { text: "?" },
             args,
+            required: args.len(),
         },
     ];
     let state = State::new(alloc, Object::new(alloc));

@@ -117,6 +117,7 @@ fn put_host_tag(alloc: Global, language: &mut Language, name: String) -> Result<
         filter: String::from_str(alloc, "sort")?,
         input: Expression::Literal(Value::Nil),
         style: Style::Items,
+        given: Vec::new(alloc),
     };
     past_refusal(language.register_tag(name, call))
 }
@@ -125,6 +126,7 @@ fn put_host_block(alloc: Global, language: &mut Language, name: String) -> Resul
     let block = HostBlock {
         filter: String::from_str(alloc, "upcase")?,
         style: Style::Text,
+        given: Vec::new(alloc),
     };
     past_refusal(language.register_block(alloc, name, block))
 }

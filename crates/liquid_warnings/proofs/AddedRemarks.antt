@@ -92,12 +92,13 @@ none_where false p = refl
 pub adds_none_where : (b : Bool) (p : Said → Type 0) (rs : List Remark) → AddsRemarks (OnlyWhere b (All p)) rs rs
 adds_none_where b p rs = adds_none (OnlyWhere b (All p)) rs (none_where b p)
 
--- none of either sort
+-- none of each sort
 pub none_in_order : (P Q : List Said → Type 0) → P [] → Q [] → InOrder P Q []
 none_in_order P Q p q = record { first = []; more = []; whole = refl; first_are = p; more_are = q }
 
-pub adds_neither : (b : Bool) (p q : Said → Type 0) (rs : List Remark) → AddsRemarks (InOrder (OnlyWhere b (All p)) (All q)) rs rs
-adds_neither b p q rs = adds_none (InOrder (OnlyWhere b (All p)) (All q)) rs (none_in_order (OnlyWhere b (All p)) (All q) (none_where b p) (All-nil q))
+pub adds_neither : (b : Bool) (p q r : Said → Type 0) (rs : List Remark) → AddsRemarks (InOrder (OnlyWhere b (All p)) (InOrder (All q) (All r))) rs rs
+adds_neither b p q r rs =
+    adds_none (InOrder (OnlyWhere b (All p)) (InOrder (All q) (All r))) rs (none_in_order (OnlyWhere b (All p)) (InOrder (All q) (All r)) (none_where b p) (none_in_order (All q) (All r) (All-nil q) (All-nil r)))
 
 -- of a file without a text
 pub none_of_source : (b : Bool) (rs : List Remark) → rs ≡ [] → AreOfSource b (all_said rs)

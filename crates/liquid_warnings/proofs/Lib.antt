@@ -4,3 +4,4 @@ pub mod FileWarnings
 pub mod HtmlPlaces
 pub mod RubyDifferences
 pub mod SeenLiterals
+pub mod SilentNodes

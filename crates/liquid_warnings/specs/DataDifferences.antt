@@ -1,6 +1,6 @@
 -- What Liquid for Ruby does otherwise with data than this engine.
 --     difference_of want path ps      with the values at a path in data of these pairs: a loop goes
---       over a map whose order shows, or `contains` may look into nil
+--       over a map whose order shows, or `contains` may look into nil or for nil
 --     shows_order d      a map of two members or more: a loop goes by its keys, in Ruby by the
 --       order of the file
 --     leads_to_nil steps d      the steps lead from a value to nil, past nil, or to a key that a
@@ -12,6 +12,7 @@ use Rattle.liquid_model.specs.Data.{Datum, nil, array, object, Items, no_items, 
 use Rattle.liquid_model.specs.Digest.{pairs_len}
 use Rattle.liquid_model.specs.Find.{value_at}
 use Rattle.liquid_model.specs.Texts.{Text}
+use Rattle.liquid_filters.specs.Keeping.{is_nil}
 use Rattle.liquid_warnings.specs.DataPaths.{values_at_path}
 use Rattle.liquid_warnings.specs.declared.data_path.DataPath.{DataPath}
 use Rattle.liquid_warnings.specs.declared.data_path.Step.{Step}
@@ -19,8 +20,10 @@ use Rattle.liquid_warnings.specs.declared.data_path.Step.TheVariants.{Key, Each}
 use Rattle.liquid_warnings.specs.declared.difference.Difference.{Difference}
 use Rattle.liquid_warnings.specs.declared.difference.Difference.TheVariants.{KeyOrder}
 use Rattle.liquid_warnings.specs.declared.difference.Difference.TheVariants.{NilSearched}
+use Rattle.liquid_warnings.specs.declared.difference.Difference.TheVariants.{NilContained}
 use Rattle.liquid_warnings.specs.declared.doubt.Want.{Want}
 use Rattle.liquid_warnings.specs.declared.doubt.Want.TheVariants.{Items as Looped, Searched}
+use Rattle.liquid_warnings.specs.declared.doubt.Want.TheVariants.{Contained}
 
 abbrev pub shows_order : Datum → Bool
 shows_order (object ps) = nat_le 2 (pairs_len ps)
@@ -63,4 +66,6 @@ abbrev pub difference_of : Want → DataPath → Pairs → Option Difference
 difference_of (Looped span) path ps =
     cond (list_any shows_order (values_at_path path ps)) (Some KeyOrder) None
 difference_of Searched path ps = cond (path_to_nil path ps) (Some NilSearched) None
+difference_of Contained path ps =
+    cond (list_any is_nil (values_at_path path ps)) (Some NilContained) None
 difference_of _ path ps = None

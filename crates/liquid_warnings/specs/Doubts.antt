@@ -15,7 +15,8 @@ use Rattle.liquid_warnings.specs.declared.data_path.DataPath.{DataPath}
 use Rattle.liquid_warnings.specs.declared.doubt.Span.{Span}
 use Rattle.liquid_warnings.specs.declared.doubt.Want.{Want}
 use Rattle.liquid_warnings.specs.declared.doubt.Want.TheVariants.{Present, Perhaps, Date, Items}
-use Rattle.liquid_warnings.specs.declared.doubt.Want.TheVariants.{Searched, Number, Tested, Truth}
+use Rattle.liquid_warnings.specs.declared.doubt.Want.TheVariants.{Searched, Contained, Number}
+use Rattle.liquid_warnings.specs.declared.doubt.Want.TheVariants.{Tested, Truth}
 use Rattle.liquid_warnings.specs.declared.doubt.Want.TheVariants.{NumberWord, TruthWord}
 
 -- a map lacks a key; a loop goes over what is no list and no map; it asks for items past the end
@@ -124,6 +125,7 @@ abbrev pub value_doubt : Want → Datum → Option Doubt
 value_doubt Present d = None
 value_doubt Perhaps d = None
 value_doubt Searched d = None
+value_doubt Contained d = None
 value_doubt Date d = date_doubt d
 value_doubt Number d = number_doubt d
 value_doubt Truth d = truth_doubt d
@@ -149,6 +151,7 @@ abbrev pub asks_values : Want → Bool
 asks_values Present = false
 asks_values Perhaps = false
 asks_values Searched = false
+asks_values Contained = false
 asks_values Date = true
 asks_values Number = true
 asks_values Truth = true

@@ -10,6 +10,7 @@ pub mod Literals
 pub mod Messages
 pub mod Modes
 pub mod Nodes
+pub mod OfJekyll
 pub mod Otherwise
 pub mod PastPieces
 pub mod Paths

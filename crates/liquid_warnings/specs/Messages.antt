@@ -15,6 +15,10 @@ lack_message words name (Some similar) = words ++ (codes " `" ++ (quotation name
 abbrev pub unused_message : Text → Text
 unused_message name = codes "`" ++ (quotation name ++ codes "` is set here, and nothing reads it")
 
+abbrev pub escaped_twice_message : Text → Text
+escaped_twice_message name = codes "the outputs in the captured `" ++ (quotation name
+    ++ codes "` are escaped already; end this one with `| raw`")
+
 abbrev pub recursive_message : Text → Text
 recursive_message name = codes "the partial `" ++ (quotation name
     ++ codes "` runs itself from here; a run ends where partials are 32 deep")
@@ -31,6 +35,10 @@ unused_partial_message = codes "none of the templates runs this partial"
 abbrev pub clock_message : Text → Text
 clock_message word = codes "`'" ++ (word ++ (codes "' | date` gives `" ++ (word
     ++ codes "`, since there is no clock; give the time as data")))
+
+abbrev pub colours_message : Text
+colours_message =
+    codes "`highlight` writes code without colours, as Jekyll does with `highlighter: none`"
 
 -- what a literal or a value of the data is that is no list and no map
 abbrev pub kind_word : Datum → Text

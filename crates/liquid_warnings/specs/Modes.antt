@@ -1,7 +1,6 @@
 -- Modes of `slugify` that there aren't.
---     unknown_mode e position node      of an output or an `assign` of a template for Jekyll: the
---       first of its filters that is `slugify` with a text in the template as its mode, which is
---       none
+--     unknown_mode position node      of an output or an `assign`: the first of its filters that is
+--       `slugify` with a text in the template as its mode, which is none
 --     is_mode s      a mode of Jekyll's `slugify`
 use Rattle.std.specs.Prelude.{Bool, cond, ◌||◌, List, [], ◌∷◌, ◌++◌, Option, Some, None}
 use Rattle.std.specs.Prelude.{bytes_eq, codes}
@@ -16,9 +15,7 @@ use Rattle.liquid_syntax.specs.declared.node.Node.{Node}
 use Rattle.liquid_syntax.specs.declared.positions.Position.{Position}
 use Rattle.liquid_warnings.specs.Calls.{name_in_literal}
 use Rattle.liquid_warnings.specs.Nodes.{printed_chain}
-use Rattle.liquid_warnings.specs.Ported.{is_for_jekyll}
 use Rattle.liquid_warnings.specs.Remarks.{Said, warning}
-use Rattle.liquid_warnings.specs.declared.written_for.WrittenFor.{WrittenFor}
 
 -- `latin` is one that a run refuses
 abbrev pub is_mode : Text → Bool
@@ -55,6 +52,5 @@ abbrev pub mode_said : Position → Option Text → Option Said
 mode_said position None = None
 mode_said position (Some s) = Some (warning position (codes "UnknownMode") (mode_message s))
 
-abbrev pub unknown_mode : WrittenFor → Position → Node → Option Said
-unknown_mode e position node =
-    cond (is_for_jekyll e) (mode_said position (chain_mode (printed_chain node))) None
+abbrev pub unknown_mode : Position → Node → Option Said
+unknown_mode position node = mode_said position (chain_mode (printed_chain node))

@@ -14,7 +14,8 @@ use Rattle.liquid_warnings.specs.declared.data_path.Step.{Step}
 use Rattle.liquid_warnings.specs.declared.data_path.Step.TheVariants.{Each, Key}
 use Rattle.liquid_warnings.specs.declared.doubt.Want.{Want}
 use Rattle.liquid_warnings.specs.declared.doubt.Want.TheVariants.{Present, Perhaps, Date, Items}
-use Rattle.liquid_warnings.specs.declared.doubt.Want.TheVariants.{Searched, Number, Tested, Truth}
+use Rattle.liquid_warnings.specs.declared.doubt.Want.TheVariants.{Searched, Contained, Number}
+use Rattle.liquid_warnings.specs.declared.doubt.Want.TheVariants.{Tested, Truth}
 use Rattle.liquid_warnings.specs.declared.doubt.Want.TheVariants.{NumberWord, TruthWord}
 use Rattle.liquid_warnings.specs.Messages.{item_words}
 
@@ -72,6 +73,7 @@ abbrev pub is_needed : Want → Bool
 is_needed Present = true
 is_needed Perhaps = false
 is_needed Searched = true
+is_needed Contained = true
 is_needed Date = false
 is_needed Number = true
 is_needed Truth = true

@@ -1,7 +1,7 @@
 -- What is said of a place of a template: a fault of its source, or a warning.
 --     remark_view r      a remark, as contracts see it
 --     warning position kind message      a warning at a place
-use Rattle.std.specs.Prelude.{ℕ, Bool, true, List, map, string_bytes}
+use Rattle.std.specs.Prelude.{ℕ, Bool, true, List, Option, Some, None, map, string_bytes}
 use Rattle.liquid_model.specs.Texts.{Text}
 use Rattle.liquid_syntax.specs.declared.positions.Position.{Position}
 use Rattle.liquid_warnings.specs.declared.remark.Remark.{Remark}
@@ -36,3 +36,7 @@ warning position kind message = warning_at position.line position.column kind me
 
 abbrev pub all_said : List Remark → List Said
 all_said remarks = map remark_view remarks
+
+abbrev pub said_or_else : Option Said → Option Said → Option Said
+said_or_else None other = other
+said_or_else (Some s) other = Some s

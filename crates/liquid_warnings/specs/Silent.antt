@@ -1,18 +1,25 @@
 -- Which warnings are about what a page shows silently.
-use Rattle.std.specs.Prelude.{◌≡◌, ◌⊎◌, ◌||◌, Bool, true, false, not, List, [], ◌∷◌, bytes_eq}
-use Rattle.std.specs.Prelude.{◌&&◌, ◌-◌, ◌==◌, codes, length, nat_lt, slice_index}
+use Rattle.std.specs.Prelude.{ℕ, ◌||◌, Bool, true, false, not, cond, List, [], ◌∷◌, bytes_eq}
+use Rattle.std.specs.Prelude.{◌&&◌, ◌-◌, ◌==◌, codes, length, nat_eq, nat_lt, slice_index}
+use Rattle.std.specs.Option.{option_map_or}
 use Rattle.liquid_core.specs.declared.missing_value.Missing.{Missing}
-use Rattle.liquid_core.specs.declared.missing_value.Missing.TheVariants.{IsFault}
+use Rattle.liquid_core.specs.declared.missing_value.Missing.TheVariants.{IsFault, IsNil}
 use Rattle.liquid_evaluation.specs.StoredFilters.{stored_name}
 use Rattle.liquid_evaluation.specs.declared.chain.ChainFilter.{ChainFilter}
 use Rattle.liquid_model.specs.Texts.{Text}
+use Rattle.liquid_syntax.specs.declared.node.Node.{Node}
+use Rattle.liquid_syntax.specs.declared.node.Node.TheVariants.{Filtered}
+use Rattle.liquid_syntax.specs.declared.positions.Position.{Position}
+use Rattle.liquid_warnings.specs.Nodes.{printed_chain}
+use Rattle.liquid_warnings.specs.Remarks.{Said}
 
 -- what is read otherwise than it looks
 abbrev pub is_misread : Text → Bool
 is_misread kind = bytes_eq kind (codes "ElseIf") || (bytes_eq kind (codes "NoClock")
-    || (bytes_eq kind (codes "NoPattern") || (bytes_eq kind (codes "NoDate")
-    || (bytes_eq kind (codes "TextNumber") || (bytes_eq kind (codes "TextTruth")
-    || (bytes_eq kind (codes "NoText") || bytes_eq kind (codes "AlwaysTrue")))))))
+    || (bytes_eq kind (codes "NoColours") || (bytes_eq kind (codes "NoPattern")
+    || (bytes_eq kind (codes "NoDate") || (bytes_eq kind (codes "TextNumber")
+    || (bytes_eq kind (codes "TextTruth") || (bytes_eq kind (codes "NoText")
+    || bytes_eq kind (codes "AlwaysTrue"))))))))
 
 -- what the data lacks
 abbrev pub is_lack : Text → Bool
@@ -22,12 +29,38 @@ is_lack kind = bytes_eq kind (codes "UnknownName") || bytes_eq kind (codes "Unkn
 abbrev pub has_similar : Text → Bool
 has_similar s = nat_lt 0 (length s) && (slice_index s (length s - 1) == 63)
 
--- what the data lacks is silent only where it is a fault without a filter
-abbrev pub IsSilentKind : Missing → Text → Type 0
-IsSilentKind missing kind = (is_misread kind ≡ true)
-    ⊎ ((is_lack kind ≡ true) × (missing ≡ IsFault))
-
 -- a filter gets the value, other than the one that stands in for nil
 abbrev pub is_filtered : List ChainFilter → Bool
 is_filtered [] = false
 is_filtered (f ∷ fs) = not (bytes_eq (stored_name f.filter) (codes "default"))
+
+-- a filter gets the value of an output or an `assign`
+abbrev pub is_filtered_node : Node → Bool
+is_filtered_node n = option_map_or (λ c. is_filtered c.filters.items) (printed_chain n) false
+
+-- what the node writes goes through filters
+abbrev pub is_through : Node → Bool
+is_through (Filtered filters end) = true
+is_through _ = false
+
+-- the node stands at this line and column, and isn't one around an output that begins there
+abbrev pub stands_at : ℕ → ℕ → Node → Position → Bool
+stands_at line column n p =
+    not (is_through n) && (nat_eq p.line line && nat_eq p.column column)
+
+-- a filter gets the value of the first such node
+unfoldable pub is_filtered_at : ℕ → ℕ → List Node → List Position → Bool
+is_filtered_at line column (n ∷ ns) (p ∷ ps) =
+    cond (stands_at line column n p) (is_filtered_node n) (is_filtered_at line column ns ps)
+is_filtered_at line column ns ps = false
+
+abbrev pub is_fault : Missing → Bool
+is_fault IsFault = true
+is_fault IsNil = false
+
+-- the warning is about what a page shows silently; what the data lacks is that only where it is a
+-- fault without a filter
+abbrev pub is_shown_silently : Missing → Said → List Node → List Position → Bool
+is_shown_silently missing said ns ps = is_misread said.kind || (is_lack said.kind
+    && (is_fault missing && (has_similar said.message
+    || is_filtered_at said.line said.column ns ps)))

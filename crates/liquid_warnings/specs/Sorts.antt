@@ -6,8 +6,9 @@
 use Rattle.std.specs.Prelude.{◌≡◌, ◌⊎◌, ℕ, Bool, true, false, List, [], ◌++◌, Option, codes}
 use Rattle.liquid_model.specs.Data.{Datum}
 use Rattle.liquid_model.specs.Texts.{Text}
-use Rattle.liquid_warnings.specs.Messages.{always_true, else_if_message, false_words, in_data}
-use Rattle.liquid_warnings.specs.Messages.{kind_word, lack_message, no_text, truth_text}
+use Rattle.liquid_warnings.specs.Messages.{always_true, else_if_message, escaped_twice_message}
+use Rattle.liquid_warnings.specs.Messages.{false_words, in_data, kind_word, lack_message, no_text}
+use Rattle.liquid_warnings.specs.Messages.{truth_text}
 use Rattle.liquid_warnings.specs.Messages.{no_date, number_text, past_end, recursive_message}
 use Rattle.liquid_warnings.specs.Messages.{unescaped_message, unused_message}
 use Rattle.liquid_warnings.specs.Messages.{unused_partial_message, value_message}
@@ -36,6 +37,10 @@ IsUnknownName s = (name : Text) × (similar : Option Text)
 -- a name that is set and that nothing reads
 abbrev pub IsUnusedName : Said → Type 0
 IsUnusedName s = (name : Text) × WarnsOf (codes "UnusedVariable") (unused_message name) s
+
+-- an output that escapes a captured text
+abbrev pub IsEscapedTwice : Said → Type 0
+IsEscapedTwice s = (name : Text) × WarnsOf (codes "EscapedTwice") (escaped_twice_message name) s
 
 -- ---- of the data
 

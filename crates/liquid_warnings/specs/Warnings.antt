@@ -14,12 +14,12 @@ use Rattle.liquid_syntax.specs.declared.node.Node.{Node}
 use Rattle.liquid_syntax.specs.declared.positions.Position.{Position}
 use Rattle.liquid_syntax.specs.declared.template.Template.{Template}
 use Rattle.liquid_warnings.specs.Differences.{AreOfData}
-use Rattle.liquid_warnings.specs.Modes.{unknown_mode}
 use Rattle.liquid_warnings.specs.Nodes.{no_clock, no_list, no_pattern, sure_said}
-use Rattle.liquid_warnings.specs.Remarks.{Said, all_said}
-use Rattle.liquid_warnings.specs.Sorts.{InOrder, IsElseIf, IsMissingPartial, IsRecursive}
-use Rattle.liquid_warnings.specs.Sorts.{IsUnescaped, IsUnknownName, IsUnusedPartial, IsUnusedName}
-use Rattle.liquid_warnings.specs.Sorts.{OnlyWhere}
+use Rattle.liquid_warnings.specs.OfJekyll.{jekyll_said}
+use Rattle.liquid_warnings.specs.Remarks.{Said, all_said, said_or_else}
+use Rattle.liquid_warnings.specs.Sorts.{InOrder, IsElseIf, IsEscapedTwice, IsMissingPartial}
+use Rattle.liquid_warnings.specs.Sorts.{IsRecursive, IsUnescaped, IsUnknownName, IsUnusedPartial}
+use Rattle.liquid_warnings.specs.Sorts.{IsUnusedName, OnlyWhere}
 use Rattle.liquid_warnings.specs.declared.remark.Remark.{Remark}
 use Rattle.liquid_warnings.specs.declared.warnings.CheckedFile.{CheckedFile}
 use Rattle.liquid_warnings.specs.declared.warnings.Given.{Given}
@@ -32,10 +32,6 @@ abbrev pub AreOfSource : Bool → List Said → Type 0
 AreOfSource is_html = InOrder (All IsElseIf) (OnlyWhere is_html (All IsUnescaped))
 
 -- ---- single tags and outputs
-
-abbrev pub said_or_else : Option Said → Option Said → Option Said
-said_or_else None other = other
-said_or_else (Some s) other = Some s
 
 -- the one that a tag or an output has, whatever engine it is written for
 abbrev pub node_said : Position → Node → Option Said
@@ -51,7 +47,7 @@ with_said (Some s) more = s ∷ more
 abbrev pub said_at : WrittenFor → Option Position → Node → List Said
 said_at e None node = []
 said_at e (Some position) node =
-    with_said (node_said position node) (with_said (unknown_mode e position node) [])
+    with_said (node_said position node) (with_said (jekyll_said e position node) [])
 
 -- of the nodes from this place on, each of which begins at the position at its place
 abbrev pub nodes_said : WrittenFor → ℕ → List Node → List Position → List Said
@@ -67,7 +63,8 @@ template_said e (Some t) = nodes_said e 0 (template_nodes t) (positions_of t)
 
 -- what the data lacks is known only where data is given
 abbrev pub AreOfNames : Bool → List Said → Type 0
-AreOfNames has_data = InOrder (OnlyWhere has_data (All IsUnknownName)) (All IsUnusedName)
+AreOfNames has_data = InOrder (OnlyWhere has_data (All IsUnknownName))
+    (InOrder (All IsUnusedName) (All IsEscapedTwice))
 
 abbrev pub AreOfPartials : List Said → Type 0
 AreOfPartials = InOrder (All IsMissingPartial)

@@ -4,6 +4,7 @@ ghost use Rattle.std.specs.List.{list_any};
 ghost use Rattle.liquid_model.specs.Answer.{IsValueOrMemory};
 ghost use Rattle.liquid_model.specs.Find.{value_at};
 ghost use Rattle.liquid_model.specs.View.{view, items_view, pairs_view};
+ghost use Rattle.liquid_filters.specs.Keeping.{is_nil};
 ghost use Rattle.liquid_warnings.specs.DataDifferences.{any_to_nil, difference_of};
 ghost use Rattle.liquid_warnings.specs.DataDifferences.{is_key_of_its_own, leads_to_nil};
 ghost use Rattle.liquid_warnings.specs.DataDifferences.{member_to_nil, path_to_nil, shows_order};
@@ -21,6 +22,8 @@ pub enum Difference {
     KeyOrder,
     /// `contains` may look into nil, or into what isn't there: here a fault, there false.
     NilSearched,
+    /// `contains` may look for nil, which every text contains here, and none there.
+    NilContained,
 }
 
 /// What Liquid for Ruby does otherwise with the values at a path in data. A path leads to nil also
@@ -43,6 +46,10 @@ pub fn difference_of(
             Ok(any_shows_order(&values).then_some(Difference::KeyOrder))
         }
         Want::Searched => Ok(path_to_nil(data, path).then_some(Difference::NilSearched)),
+        Want::Contained => {
+            let values = values_at(alloc, data, path)?;
+            Ok(any_is_nil(&values).then_some(Difference::NilContained))
+        }
         Want::Present | Want::Perhaps | Want::Tested => Ok(None),
         Want::Date | Want::Number | Want::Truth => Ok(None),
         Want::NumberWord | Want::TruthWord => Ok(None),
@@ -58,6 +65,23 @@ fn any_shows_order(values: &[&Value]) -> bool
         }
     }
     false
+}
+
+fn any_is_nil(values: &[&Value]) -> bool
+    ensures { result ≡ list_any is_nil (map (λ r. view r.now) values.now) }
+{
+    for value in values {
+        if is_nil(*value) {
+            return true;
+        }
+    }
+    false
+}
+
+fn is_nil(value: &Value) -> bool
+    ensures { result ≡ is_nil (view value.now) }
+{
+    matches!(value, Value::Nil)
 }
 
 /// Whether a value is a map of two members or more.

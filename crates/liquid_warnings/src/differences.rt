@@ -104,7 +104,7 @@ fn difference_kind(difference: Difference) -> &'static str
 {
     match difference {
         Difference::KeyOrder => "KeyOrder",
-        Difference::NilSearched => "NilContains",
+        Difference::NilSearched | Difference::NilContained => "NilContains",
     }
 }
 
@@ -128,5 +128,8 @@ fn difference_words(difference: Difference) -> &'static str
             " is a map: a loop goes by its keys, Ruby's by the file; make it a list of pairs",
         Difference::NilSearched =>
             " has no value: `contains` is a fault, in Ruby false; use `--missing nil` or `default`",
+        Difference::NilContained => {
+            " is nil: every text contains it, in Ruby none; test for it first"
+        }
     }
 }

@@ -27,6 +27,8 @@ pub enum Want {
     Tested,
     /// That they are there: `contains` looks into them.
     Searched,
+    /// That they are there: `contains` looks for them.
+    Contained,
     /// Dates, which are printed.
     Date,
     /// Numbers: they are compared with one.
@@ -100,7 +102,10 @@ pub fn doubt_of<'d>(
 fn asks_values(want: Want) -> bool
     ensures { result ≡ asks_values want }
 {
-    !matches!(want, Want::Present | Want::Perhaps | Want::Searched)
+    !matches!(
+        want,
+        Want::Present | Want::Perhaps | Want::Searched | Want::Contained
+    )
 }
 
 fn first_doubt<'d>(want: Want, values: &[&'d Value]) -> Option<Doubt<'d>>
@@ -119,7 +124,7 @@ fn value_doubt<'d>(want: Want, value: &'d Value) -> Option<Doubt<'d>>
     ensures { option_map doubt_view result ≡ value_doubt want (view value.now) }
 {
     match want {
-        Want::Present | Want::Perhaps | Want::Searched => None,
+        Want::Present | Want::Perhaps | Want::Searched | Want::Contained => None,
         Want::Date => date_doubt(value),
         Want::Number => number_doubt(value),
         Want::Truth => truth_doubt(value),

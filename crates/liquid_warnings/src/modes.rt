@@ -9,27 +9,20 @@ ghost use Rattle.liquid_warnings.specs.Remarks.{remark_view};
 use crate::dates::printed_chain;
 use crate::literals::literal_text;
 use crate::remark::Remark;
-use crate::written_for::WrittenFor;
 use liquid_core::{Expression, Quoted};
 use liquid_evaluation::{ChainFilter, FilterChain};
 use liquid_syntax::{Node, Position};
 use std::alloc::{AllocError, Global};
 
-/// `UnknownMode`: a template for Jekyll gives `slugify` a mode that it hasn't.
+/// `UnknownMode`: `slugify` is given a mode that it hasn't.
 pub(crate) fn unknown_mode(
     alloc: Global,
-    written_for: WrittenFor,
     node: &Node,
     position: Position,
 ) -> Result<Option<Remark>, AllocError>
-    ensures { IfOk result (λ r. option_map remark_view r
-        ≡ unknown_mode written_for position node.now) }
+    ensures { IfOk result (λ r. option_map remark_view r ≡ unknown_mode position node.now) }
 {
-    if written_for.is_for_jekyll() {
-        mode_said(alloc, chain_mode(printed_chain(node)), position)
-    } else {
-        Ok(None)
-    }
+    mode_said(alloc, chain_mode(printed_chain(node)), position)
 }
 
 /// The warning about a text that is no mode, where there is one.

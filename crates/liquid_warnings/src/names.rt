@@ -5,6 +5,7 @@ ghost use Rattle.liquid_warnings.specs.Remarks.{remark_view, warning};
 ghost use Rattle.liquid_warnings.specs.Sorts.{IsUnknownName, IsUnusedName};
 ghost use Rattle.liquid_warnings.specs.inside.Tellings.{trivial_telling};
 
+use crate::escaped_twice::shown_escaped;
 use crate::messages::lack_message;
 use crate::remark::Remark;
 use crate::suggestions::{KnownNames, Suggestions, suggestion_for};
@@ -30,6 +31,8 @@ pub(crate) struct NamesOf {
     /// Those that a tag sets or binds: these, counters, the variables of loops and the pairs of
     /// partials.
     pub set: BTreeSet<String>,
+    /// Those of captured texts that an output escapes.
+    pub escaped: Places,
 }
 
 /// The names that a template reads and sets.
@@ -60,6 +63,7 @@ pub(crate) fn names_of(alloc: Global, template: &Template) -> Result<NamesOf, Al
         read: names,
         stored,
         set,
+        escaped: shown_escaped(alloc, template)?,
     })
 }
 
@@ -133,7 +137,7 @@ impl NameVisitor for Gather {
 }
 
 /// Adds a name with its place, unless it is there.
-fn add_place(
+pub(crate) fn add_place(
     alloc: Global,
     places: &mut Places,
     name: &str,

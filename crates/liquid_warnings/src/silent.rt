@@ -1,7 +1,10 @@
 //! Warnings about what a page shows silently: they are printed after it too.
-ghost use Rattle.std.specs.Prelude.{◌≡◌, ◌&&◌, ◌||◌, true};
-ghost use Rattle.liquid_warnings.specs.Silent.{IsSilentKind, has_similar, is_filtered, is_lack};
-ghost use Rattle.liquid_warnings.specs.Silent.{is_misread};
+ghost use Rattle.std.specs.Prelude.{◌≡◌, ◌&&◌, ◌||◌};
+ghost use Rattle.liquid_syntax.specs.Templates.{positions_of, template_nodes};
+ghost use Rattle.liquid_warnings.specs.Remarks.{remark_view};
+ghost use Rattle.liquid_warnings.specs.Silent.{has_similar, is_fault, is_filtered, is_filtered_at};
+ghost use Rattle.liquid_warnings.specs.Silent.{is_filtered_node, is_lack, is_misread};
+ghost use Rattle.liquid_warnings.specs.Silent.{is_shown_silently, is_through, stands_at};
 
 use crate::dates::printed_chain;
 use crate::remark::Remark;
@@ -15,11 +18,12 @@ use liquid_syntax::{Node, Position, Template};
 /// that is like one that is there, or of which a filter makes something. The latter counts where an
 /// output or an `assign` asks for it first. It takes no memory.
 pub fn is_silent(remark: &Remark, template: &Template, missing: Missing) -> bool
-    ensures kinds { result ≡ true → IsSilentKind missing remark.now.kind.now }
+    ensures { result ≡ is_shown_silently missing (remark_view remark.now)
+        (template_nodes template.now) (positions_of template.now) }
 {
     is_misread(remark.kind)
         || (is_lack(remark.kind)
-            && matches!(missing, Missing::IsFault)
+            && is_fault(missing)
             && (has_similar(remark.message.as_str())
                 || is_filtered_at(remark, template.nodes(), template.positions())))
 }
@@ -32,6 +36,7 @@ fn is_misread(kind: &str) -> bool
         kind,
         "ElseIf"
             | "NoClock"
+            | "NoColours"
             | "NoPattern"
             | "NoDate"
             | "TextNumber"
@@ -55,19 +60,51 @@ fn has_similar(message: &str) -> bool
     matches!(message.as_bytes().last(), Some(b'?'))
 }
 
+fn is_fault(missing: Missing) -> bool
+    ensures { result ≡ is_fault missing }
+{
+    matches!(missing, Missing::IsFault)
+}
+
 /// Whether a filter gets the value of the node that a remark is about.
-fn is_filtered_at(remark: &Remark, nodes: &[Node], positions: &[Position]) -> bool {
-    for (node, position) in nodes.iter().zip(positions) {
-        let is_there = position.line as usize == remark.line
-            && position.column as usize == remark.column;
-        if is_there {
-            return match printed_chain(node) {
-                Some(chain) => is_filtered(&chain.filters),
-                None => false,
-            };
+fn is_filtered_at(remark: &Remark, nodes: &[Node], positions: &[Position]) -> bool
+    ensures { result ≡ is_filtered_at remark.now.line remark.now.column nodes.now positions.now }
+{
+    for (place, node) in nodes.iter().enumerate() {
+        let Some(position) = positions.get(place) else {
+            return false;
+        };
+        if stands_at(node, *position, remark) {
+            return is_filtered_node(node);
         }
     }
     false
+}
+
+/// Whether a node stands where the remark is, and isn't the one in which an escaped output stands,
+/// which begins there too.
+fn stands_at(node: &Node, position: Position, remark: &Remark) -> bool
+    ensures { result ≡ stands_at remark.now.line remark.now.column node.now position }
+{
+    !is_through(node)
+        && (position.line as usize == remark.line && position.column as usize == remark.column)
+}
+
+/// Whether what the node writes goes through filters.
+fn is_through(node: &Node) -> bool
+    ensures { result ≡ is_through node.now }
+{
+    matches!(node, Node::Filtered(_, _))
+}
+
+/// Whether a filter gets the value of an output or an `assign`.
+fn is_filtered_node(node: &Node) -> bool
+    ensures { result ≡ is_filtered_node node.now }
+{
+    match printed_chain(node) {
+        Some(chain) => is_filtered(&chain.filters),
+        None => false,
+    }
 }
 
 /// Whether the first of these filters makes something of nil, which `default` is for.

@@ -11,10 +11,10 @@ use liquid_model::{location, past_byte};
 use std::alloc::{AllocError, Global};
 use std::collections::VecDeque;
 
-/// Where an output stands in the value of an HTML attribute, and none of its filters escapes what
-/// is written there: a quote in it ends the value. What is a literal, or of a loop's own object, is
-/// passed over. The source is read as HTML from its start on, as if its tags wrote nothing and its
-/// outputs parts of words. These are the first `MOST_WARNINGS` places.
+/// Where an output stands in the value of an HTML attribute, and neither its filters nor the
+/// language escape what is written there: a quote in it ends the value. What is a literal, or of a
+/// loop's own object, is passed over. The source is read as HTML from its start on, as if its tags
+/// wrote nothing and its outputs parts of words. These are the first `MOST_WARNINGS` places.
 ///
 /// The answer is `Memory` where a growth was refused, and no other kind.
 pub fn unescaped_attributes(
@@ -35,7 +35,7 @@ pub fn unescaped_attributes(
         let Some(inside) = past_byte(at, b'{') else {
             break;
         };
-        let written = written_by(alloc, inside)?;
+        let written = written_by(alloc, inside, language.escapes_html)?;
         if html.is_in_attribute() && matches!(written, Written::Anything) {
             places.push(location(source, at.len()))?;
         }
@@ -64,16 +64,36 @@ enum Written {
     Anything,
 }
 
-/// What the piece after a `{` writes.
-fn written_by(alloc: Global, inside: &str) -> std::result::Result<Written, AllocError> {
+/// What the piece after a `{` writes, in a language that escapes or doesn't.
+fn written_by(
+    alloc: Global,
+    inside: &str,
+    escapes: bool,
+) -> std::result::Result<Written, AllocError> {
     match read_markup(alloc, inside, Style::Items) {
         Ok((markup, _)) => match &markup.piece {
-            Piece::Output(items) if is_open(items) && !has_escape(items) => Ok(Written::Anything),
-            Piece::Output(_) => Ok(Written::Part),
+            Piece::Output(items) if is_safe(items, escapes) => Ok(Written::Part),
+            Piece::Output(_) => Ok(Written::Anything),
             Piece::Tag(_, _) | Piece::Raw(_, _) | Piece::Comment(_) => Ok(Written::Nothing),
         },
         Err(ParseError::Fault(_)) => Ok(Written::Nothing),
         Err(ParseError::Memory) => Err(AllocError),
+    }
+}
+
+/// Whether nothing in what an output writes ends a value.
+fn is_safe(items: &VecDeque<Item<'_>>, escapes: bool) -> bool {
+    (escapes && !ends_raw(items)) || !is_open(items) || has_escape(items)
+}
+
+/// Whether an output ends with `| raw`.
+fn ends_raw(items: &VecDeque<Item<'_>>) -> bool {
+    match items.len().checked_sub(2) {
+        Some(bar) => {
+            matches!(items.get(bar), Some(Item::Symbol(Symbol::Bar)))
+                && matches!(items.back(), Some(Item::Value(_, "raw")))
+        }
+        None => false,
     }
 }
 

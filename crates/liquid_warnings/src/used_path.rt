@@ -3,8 +3,8 @@ ghost use Rattle.std.specs.Prelude.{◌≡◌, IfErr};
 
 use crate::data_path::copy_of;
 use crate::wants::{
-    WHOLE, is_date_filter, item_key, keep_items, keeps_items, literal_steps, number_of,
-    want_before, want_beside, want_of_target,
+    WHOLE, item_key, keep_items, keeps_items, literal_steps, number_of, want_after, want_before,
+    want_of_entry, want_of_target,
 };
 use crate::{DataPath, Span, Step, Want};
 use liquid_core::{ErrorKind, Expression, Result, Value, Variable};
@@ -185,16 +185,23 @@ impl<'t> Asking<'t> {
         self.ask_optional(&window.offset)
     }
 
-    /// An entry before a filter is nil where it is missing.
     fn ask_chain(&mut self, chain: &'t FilterChain) -> Done {
-        let want = match chain.filters.first() {
-            None => Want::Present,
-            Some(filter) if is_date_filter(filter.filter.name()) => Want::Date,
-            Some(_) => Want::Perhaps,
-        };
-        self.ask(&chain.entry, want)?;
+        self.ask(&chain.entry, want_of_entry(&chain.filters))?;
         self.ask_keys(chain)?;
         self.ask_arguments(&chain.filters)
+    }
+
+    /// An argument that isn't required is nil where it is missing.
+    fn ask_arguments_of(&mut self, filter: &'t ChainFilter) -> Done {
+        for (index, argument) in filter.arguments.iter().enumerate() {
+            let want = if index < filter.required {
+                Want::Present
+            } else {
+                Want::Perhaps
+            };
+            self.ask(argument, want)?;
+        }
+        Ok(())
     }
 
     /// The keys of items by which filters sort, choose or map them.
@@ -250,7 +257,7 @@ impl<'t> Asking<'t> {
 
     fn ask_arguments(&mut self, filters: &'t [ChainFilter]) -> Done {
         for filter in filters {
-            self.ask_all(&filter.arguments)?;
+            self.ask_arguments_of(filter)?;
         }
         Ok(())
     }
@@ -269,7 +276,7 @@ impl<'t> Asking<'t> {
             Atom::Bare(value) => self.ask(value, Want::Tested),
             Atom::Compared(left, operator, right) => {
                 self.ask(left, want_before(*operator, right))?;
-                self.ask(right, want_beside(left))
+                self.ask(right, want_after(*operator, left))
             }
         }
     }

@@ -31,6 +31,14 @@ pub(crate) fn want_before(operator: ComparisonOperator, other: &Expression) -> W
     }
 }
 
+/// What is wanted of the value after an operator, before which another one stands.
+pub(crate) fn want_after(operator: ComparisonOperator, other: &Expression) -> Want {
+    match operator {
+        ComparisonOperator::Contains => Want::Contained,
+        _ => want_beside(other),
+    }
+}
+
 /// What is wanted of a value that is compared with another one.
 pub(crate) fn want_beside(other: &Expression) -> Want {
     match other {
@@ -46,6 +54,16 @@ fn want_beside_text(text: &str) -> Want {
         "true" | "false" => Want::TruthWord,
         _ if whole_of(text).is_some() => Want::NumberWord,
         _ => Want::Present,
+    }
+}
+
+/// What is wanted of the entry of a chain with these filters: before one it is nil where it is
+/// missing.
+pub(crate) fn want_of_entry(filters: &[ChainFilter]) -> Want {
+    match filters.first() {
+        None => Want::Present,
+        Some(filter) if is_date_filter(filter.filter.name()) => Want::Date,
+        Some(_) => Want::Perhaps,
     }
 }
 
@@ -93,7 +111,7 @@ pub(crate) fn item_key(filter: &ChainFilter) -> Option<&str> {
     }
 }
 
-pub(crate) fn is_date_filter(name: &str) -> bool {
+fn is_date_filter(name: &str) -> bool {
     matches!(
         name,
         "date"

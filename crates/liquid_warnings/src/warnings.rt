@@ -9,7 +9,7 @@ use crate::attributes::add_unescaped;
 use crate::dates::{no_clock, no_pattern};
 use crate::else_if::add_else_if;
 use crate::loops::no_list;
-use crate::modes::unknown_mode;
+use crate::of_jekyll::jekyll_warning;
 use crate::remark::{Remark, push_found};
 use crate::truths::always_true;
 use crate::whole::Whole;
@@ -186,7 +186,10 @@ fn add_of_node(
         return Ok(());
     };
     push_found(remarks, node_warning(alloc, node, *position)?)?;
-    push_found(remarks, unknown_mode(alloc, written_for, node, *position)?)
+    push_found(
+        remarks,
+        jekyll_warning(alloc, written_for, node, *position)?,
+    )
 }
 
 /// The warning of a tag or an output that begins at a position, where it has one whatever engine it

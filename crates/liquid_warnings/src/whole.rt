@@ -10,6 +10,7 @@ ghost use Rattle.liquid_warnings.specs.inside.Added.{AddsRemarks};
 
 use crate::calls::{Call, PartialFiles, calls_of, used_files};
 use crate::differences::add_of_data;
+use crate::escaped_twice::add_escaped_twice;
 use crate::names::{NamesOf, Places, add_name, names_of, unknown_name, unused_name};
 use crate::partials::{missing_partial, recursive_call, unused_partial};
 use crate::recursion::calls_back;
@@ -181,6 +182,7 @@ impl<'t> Whole<'t> {
         };
         self.add_unknown(alloc, &names.read, data, remarks)?;
         self.add_unused_names(alloc, place, &names.stored, remarks)?;
+        add_escaped_twice(alloc, &names.escaped, remarks)?;
         Ok(())
     }
 

@@ -91,7 +91,17 @@ same('a number', 'TypeError: a source is a String, not a value of the class Inte
 same('no UTF-8', "EncodingError: a source isn't UTF-8: line 2 has another byte") { template("a\n\xff") }
 same('another encoding', "\u{e9}") { template("\xe9".dup.force_encoding('ISO-8859-1')).render! }
 same('half of a pair', /\AEncodingError: a source can't be made UTF-8/) { template("\xd8\x00".dup.force_encoding('UTF-16BE')) }
-same('options', /\AArgumentError: unknown option: :strict/) { template('').render({}, strict: true) }
+same('options', /\AArgumentError: unknown option: :strict; known are/) { template('').render({}, strict: true) }
+same("options of Liquid's", ['[]', :unknown_variable, :unknown_variable, '[]']) do
+  made = Bikleinu::Template.parse('[{{ a }}]', line_numbers: true, error_mode: :strict)
+  lenient = template('[{{ a }}]', missing: :nil)
+  [made.render({}, strict_variables: false), made.page({}, strict_filters: true).fault.kind,
+   lenient.page({}, strict_variables: true).fault.kind, lenient.render({}, strict_filters: true)]
+end
+same('a lax mode', /\AArgumentError: error_mode is :lax/) { Bikleinu::Template.parse('', error_mode: :lax) }
+same('lax filters', /\AArgumentError: strict_filters is false/) { template('').render({}, strict_filters: false) }
+same('filters of a call', /\AArgumentError: unknown option: :filters; .*register_filter/) { template('').render({}, filters: []) }
+same('registers', /\AArgumentError: unknown option: :registers; /) { template('').render({}, registers: {}) }
 same('no options', /\ATypeError: options are a Hash/) { template('').render({}, 3) }
 same('missing', /\AArgumentError: missing is :error, and :fault or :nil is wanted/) { template('').render({}, missing: :error) }
 same('below 0', /\ARangeError: bytes is -1/) { template('').render({}, bytes: -1) }

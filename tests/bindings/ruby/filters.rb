@@ -107,6 +107,20 @@ same('few for a call', /after 2 rounds/) { environment(count).parse(source).page
 late = Bikleinu::Environment.new(partials: { 'price' => '{{ cents | money }}' }).register_filter(Prices)
 same('in a partial', '2.50 EUR') { late.parse("{% render 'price', cents: 250 %}").render! }
 
+# Jekyll's filters over a site, which the library answers, but for those of the caller's.
+urls = "{{ '/a b' | absolute_url }} {{ '/t' | relative_url }} {{ xs | where: 'a', 1 | jsonify }}"
+given = { 'xs' => [{ 'a' => 1 }, { 'a' => 2 }] }
+placed = Bikleinu::Environment.new(jekyll: true, site: ['https://example.org', '/blog'])
+same('a site', 'https://example.org/blog/a%20b /blog/t [{"a":1}]') { placed.parse(urls).render!(given) }
+replaced = Bikleinu::Environment.new(site: ['', '/b'], filters: { 'relative_url' => ->(url) { "own #{url}" } })
+same('a filter in place of one', '/b/a%20b own /t [{"a":1}]') { replaced.parse(urls).render!(given) }
+same('a date that is none', :invalid_input) { placed.parse('{{ 1 | date_to_string }}').page.fault.kind }
+same('an argument too few', /\ABikleinu::SyntaxError: FilterArguments/) { placed.parse('{{ 1 | where: 2 }}') }
+same('no site', /\ABikleinu::SyntaxError: UnknownFilter/) { Bikleinu::Environment.new(jekyll: true).parse('{{ 1 | jsonify }}') }
+same('a site of one part', /\ATypeError: site: is "x", and an address/) { Bikleinu::Environment.new(site: 'x') }
+same('a base path of nil', /\ATypeError: a part of site: is a String, not nil/) { Bikleinu::Environment.new(site: ['', nil]) }
+same('an address of no text', /\AEncodingError: a part of site:/) { Bikleinu::Environment.new(site: ["\xff", '']) }
+
 # Ten thousand mails on four threads, with a filter; each thousandth has a fault, which is reported with its place.
 mails = Bikleinu::Environment.new(filters: Prices, partials: { 'end' => "\n{{ from }}" })
 template = mails.parse("Dear {{ name }}: {{ cents | money }}{% include 'end' %}")

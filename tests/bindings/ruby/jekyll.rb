@@ -63,6 +63,26 @@ same('pages', plain) { own }
 same('those of this engine, and of Liquid', [10, 4]) { counts.values_at(:own, :others) }
 _, counts = Dir.mktmpdir { |room| built(room, { 'verify' => true }) }
 same('compared', [10, 4, 0]) { counts.values_at(:own, :others, :differing) }
+# The same with Jekyll's filters as this engine has them, but for one that a plugin has another of.
+PROVED = SITE.merge(
+  'all.html' => "---\ntitle: All & more\nlist: [b, a]\n---\n{{ page.title | xml_escape }} {{ page.title | cgi_escape }} " \
+                "{{ page.title | uri_escape }} {{ page.list | jsonify }} {{ page.list | array_to_sentence_string: 'or' }} " \
+                "{{ ' a  b ' | normalize_whitespace }} {{ 'a b' | number_of_words }} {{ '12 km' | to_integer }} " \
+                "{{ '/a b' | absolute_url }} {{ site.data.teas | where: 'name', 'Assam' | size }} " \
+                "{% assign tea = site.data.teas | find: 'name', 'Sencha' %}{{ tea.name }} " \
+                "{% assign all = site.data.teas | group_by: 'name' %}{{ all[0].name }} {{ all.size }}",
+  '_plugins/own.rb' => "module OwnCount\n  def number_of_words(_text)\n    'own'\n  end\nend\nLiquid::Template.register_filter(OwnCount)\n"
+).freeze
+same("the engine's filters", [11, 4, 0]) do
+  Dir.mktmpdir { |room| built(room, { 'filters' => 'proved', 'verify' => true }, PROVED) }[1].values_at(:own, :others, :differing)
+end
+same("pages of the engine's filters", true) do
+  pages, = Dir.mktmpdir { |room| built(room, { 'filters' => 'proved' }, PROVED) }
+  pages['all.html'].include?('own')
+end
+same('other filters', 'ArgumentError: bikleinu: filters is "own", and proved or nothing is wanted') do
+  Dir.mktmpdir { |room| built(room, { 'filters' => 'own' }) }
+end
 same('strict', /\ABikleinu::SyntaxError: StateWord/) do
   $stderr = StringIO.new
   Dir.mktmpdir { |room| built(room, { 'strict' => true }) }
@@ -112,6 +132,8 @@ OWN = [
   '{% assign last = site.posts.last %}{% include same.html posts=site.posts one=last %}{% include same.html posts=site.teas one=last %}',
   '{% include hyphens.html a-post=site.posts.first %}{% include deep.html post=site.posts.last %}',
   "#{WHO}{% if page.who %}!{% endif %}{% for it in page.who reversed %}{{ forloop.length }}{% endfor %}",
+  "{% for n in (1..2) %}{%- highlight ruby linenos -%}\n{{ n }} < {{ page.title }}{{ '&' }}\n{%- endhighlight x -%} |{% endfor %}" \
+  "{% link _posts/2024-01-02-one.md %}{% post_url 2024-01-03-two %}{%- highlight c++ %}{% raw %}{{ '\"}}{% endraw %}{% endhighlight %}",
   "{% assign all = page.who %}{% for it in all %}{{ site.data.teas[it].name }}{% endfor %}{% if page.title == 'x' or all %}!{% endif %}",
   '{% include list.html list=page.who %}{% for row in page.rows %}{% for it in row.all %}({{ it }}){% endfor %}{% endfor %}'
 ].freeze

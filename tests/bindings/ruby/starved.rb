@@ -96,7 +96,12 @@ CALLS = {
   'names' => -> { Bikleinu::Template.parse(SOURCE).names },
   'paths' => -> { Bikleinu::Template.parse(SOURCE).paths },
   'a page with filters' => -> { mail.render!('shop' => 'Leaf') },
+  'new tags' => lambda do
+    tags = Bikleinu::Environment.new.register_tag('up') { |text| text.upcase }.register_block('loud') { |text| "#{text}!" }
+    tags.parse("{% loud %}{% up 'b' %}{% endloud %}").render!
+  end,
   'new filters' => -> { Bikleinu::Environment.new(filters: { 'shout' => ->(text) { text.upcase } }).parse("{{ 'a' | shout }}").render! },
+  "jekyll's filters" => -> { Bikleinu::Environment.new(site: ['http://x.org', '/b']).parse("{{ 'a' | absolute_url }}").render! },
   'a fault' => -> { Bikleinu::Template.parse("{{ a | plus: 'x' }}").page(a: 1).fault.kind }
 }.freeze
 

@@ -82,9 +82,10 @@ TAKEN = {
 class Filters:
     """The filters that are called, with those by which chains begin most often."""
 
-    def __init__(self, called, favourites, is_jekyll=False):
+    def __init__(self, called, favourites, is_jekyll=False, is_shopify=False):
         self.called = called
         self.is_jekyll = is_jekyll
+        self.is_shopify = is_shopify
         self.favourites = favourites
         # the filters that take a kind, where all take what may be of any
         self.fitting = {

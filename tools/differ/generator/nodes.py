@@ -12,6 +12,7 @@ class Nodes:
         self.rng = rng
         self.made = Expressions(rng, known, filters)
         self.is_jekyll = filters.is_jekyll
+        self.is_shopify = filters.is_shopify
         # names of partials, each with whether it is written for render
         self.partials = partials
         # how many nodes there may still be
@@ -228,14 +229,45 @@ class Nodes:
     def ifchanged(self, depth):
         return self.tag("ifchanged") + self.body(depth) + self.tag("endifchanged")
 
-
     def filtered(self, depth):
         """A block of a host, where there are such."""
+        if self.is_shopify:
+            return self.shop_block(depth)
         if not self.is_jekyll:
             return self.ifchanged(depth)
         markup = self.rng.choice((*ARGUMENTS["code"], "ruby a='%'", "-", "'ruby'", "a %"))
         end = self.tag("endhighlight", *(["ruby", "5"] if self.chance(0.1) else []))
         return self.tag("highlight", markup) + self.body(depth) + end
+
+    def shop_block(self, depth):
+        """One of Shopify's blocks."""
+        name = self.rng.choice(("form", "form", "paginate", "style", "schema", "javascript", "stylesheet"))
+        items = []
+        if name == "form":
+            items = [self.rng.choice(ARGUMENTS["form"] + ("",))] if self.chance(0.1) else [f"'{self.rng.choice(ARGUMENTS['form'])}'"]
+            items += [self.rng.choice((", product", "product", ", sections", ", 'x'", ", product, product"))] if self.chance(0.6) else []
+        elif name == "paginate":
+            items = [self.rng.choice(("collection.products by 5", "x by 2, window_size: 1", "x", "%", "'a'"))] if self.chance(0.9) else []
+        elif self.chance(0.05):
+            items = ["'scss'"]
+        return self.tag(name, *items) + self.body(depth) + self.tag(f"end{name}", *(["x"] if self.chance(0.1) else []))
+
+    def shop_tag(self, depth):
+        """One of Shopify's tags, where there are such."""
+        if not self.is_shopify:
+            return self.value(depth)
+        if self.chance(0.3):
+            return self.tag("layout", *([self.rng.choice(("none", "'theme'", "a b"))] if self.chance(0.8) else []))
+        name = self.rng.choice(("'header'", "'footer'", '"header"', "'nope'", "5", "header", "", "'header', 'footer'"))
+        return self.tag(self.rng.choice(("section", "sections")), name)
+
+
+    def led(self, depth):
+        """A tag of a host, where there are such."""
+        if not self.is_jekyll:
+            return self.value(depth)
+        markup = self.rng.choice(("about.md", "/about.md", "a.md", "_posts/2020-01-31-tea.md", "2020-01-31-tea", "a/2020-01-31-tea", "/a/2020-01-31-tea", "2020-01-31", "{{ x }}", ""))
+        return self.tag(self.rng.choice(("link", "post_url")), markup) if self.chance(0.7) else self.tag("feed_meta", *([markup] if self.chance(0.1) else []))
 
 
 LEAVES = (
@@ -244,6 +276,6 @@ LEAVES = (
     + [Nodes.shown] * 4
     + [Nodes.assign] * 4
     + [Nodes.dated] * 2
-    + [Nodes.counter, Nodes.counter, Nodes.cycle, Nodes.cycle, Nodes.interrupt, Nodes.include, Nodes.include, Nodes.render, Nodes.render, Nodes.comment, Nodes.raw]
+    + [Nodes.led, Nodes.shop_tag, Nodes.counter, Nodes.counter, Nodes.cycle, Nodes.cycle, Nodes.interrupt, Nodes.include, Nodes.include, Nodes.render, Nodes.render, Nodes.comment, Nodes.raw]
 )
 BLOCKS = [Nodes.choice] * 4 + [Nodes.unless, Nodes.case, Nodes.case] + [Nodes.loop] * 5 + [Nodes.tablerow] * 2 + [Nodes.capture] * 2 + [Nodes.ifchanged] * 2 + [Nodes.filtered]

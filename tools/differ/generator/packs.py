@@ -19,6 +19,7 @@ MORE_ARGUMENTS = {
     "variable": ("item", "item", "item", "x", "", "i t"),
     "conditional": CONDITIONS,
     "code": MARKUPS,
+    "form": ("cart", "contact", "customer", "create_customer", "customer_login", "recover_customer_password", "storefront_password", "product", "product", "new_comment", "localization", "", "Cart"),
     "image": ("small", "grande", "large", "medium", "compact", "thumb", "icon", "original", "Small", "", "1x1"),
 }
 JEKYLL = {
@@ -82,6 +83,10 @@ SHOPIFY = {
     "has": ("maps", ["property", "any?"], "truth"),
     "sum": ("numbers", ["property?"], "number"),
     "weight_with_unit": ("number", [], "text"),
+    "default_pagination": ("map", [], "text"),
+    "form": ("text", ["form", "map?"], "text"),
+    "section": ("map", ["text"], "text"),
+    "style": ("text", [], "text"),
 }
 INPUTS = {
     "address": PATHS,
@@ -102,7 +107,16 @@ def jekyll_data(rng):
     if rng.random() < 0.2:
         return {"site": rng.choice((None, 1, "x", [], {}))} if rng.random() < 0.3 else {}
     urls, bases = ("http://x.org", "", "https://a.b/c", "http://x.org/", "//h", "x y", 1, None), ("/blog", "", "/", "blog", "/a/b/", "/a b", "é", 2, None)
-    return {"site": {"url": rng.choice(urls), "baseurl": rng.choice(bases), "posts": posts(rng)}}
+    return {"site": {"url": rng.choice(urls), "baseurl": rng.choice(bases), "posts": posts(rng), **parts_of_site(rng)}}
+
+
+def parts_of_site(rng):
+    """What Jekyll's tags look at, or some of it."""
+    paths = ("about.md", "/about.md", "_posts/2020-01-31-tea.md", "a/_posts/2020-01-31-tea.html", "_posts/a/2020-01-31-tea.md", "2020-01-31-tea", "", 5, None)
+    pages = [{"path": rng.choice(paths), "relative_path": rng.choice((*paths, None)), "url": rng.choice(("/a b", "http://x.org/é", "", "a", None, 5))} for _ in range(4)]
+    titles = ("Tea", "a & b", "\"'<", "", False, 5, None, ["a"])
+    parts = {"pages": pages[:1], "static_files": pages[1:2], "documents": pages, "title": rng.choice(titles), "name": rng.choice(titles), "feed": {"path": rng.choice(("f.xml", "", None))}}
+    return {name: held if rng.random() < 0.9 else rng.choice((None, 1, "x", [1, "a"], {})) for name, held in parts.items() if rng.random() < 0.8}
 
 
 def posts(rng):
@@ -123,10 +137,23 @@ def shopify_data(rng):
         data["collection"] = rng.choice(({"handle": "tea"}, {"handle": "a b"}, {"handle": 5}, {}, "tea", None))
     if rng.random() < 0.7:
         data["current_tags"] = rng.choice((["new", "green"], ["new"], [], ["a b", "new", "a b"], ["x+y", 1, None], "new", None, ["Green", ""]))
+    if rng.random() < 0.7:
+        data["sections"] = rng.choice(({"header": "<h1>"}, {"header": "", "footer": "f"}, {"header": 5, "5": "five"}, [], None))
+    if rng.random() < 0.7:
+        data["product"] = rng.choice(({"id": 5, "url": "/p"}, {"id": None}, {"url": "/é"}, {}, "p", None))
+    if rng.random() < 0.7:
+        data["paginate"] = paginated(rng)
     return data
+
+
+def paginated(rng):
+    """The object of a block `paginate`, or something else."""
+    page = lambda: rng.choice(({"title": 1, "url": "/1", "is_link": True}, {"title": "&hellip;", "is_link": False}, {"title": 2}, {"title": "3", "url": "/3"}, {}, "x", None))
+    members = {"current_page": rng.choice((1, 2, "3", None)), "parts": [page() for _ in range(rng.choice((0, 1, 2, 5)))], "previous": page(), "next": page()}
+    return {name: held for name, held in members.items() if rng.random() < 0.9} if rng.random() < 0.9 else rng.choice((None, [], "p"))
 
 
 PACKS = {
     "jekyll": (Filters({**FILTERS, **JEKYLL}, list(JEKYLL), is_jekyll=True), jekyll_data),
-    "shopify": (Filters({**FILTERS, **SHOPIFY}, list(SHOPIFY)), shopify_data),
+    "shopify": (Filters({**FILTERS, **SHOPIFY}, list(SHOPIFY), is_shopify=True), shopify_data),
 }

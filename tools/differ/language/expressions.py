@@ -37,6 +37,7 @@ def evaluate_chain(chain, environment):
     value = found[0] if found else None
     for call in chain.calls:
         arguments = [evaluate(argument, environment) for argument in call.arguments]
+        arguments += [(try_evaluate(expression, environment) or [None])[0] for expression in call.given]
         value = answered(environment.filters[call.name], value, arguments, environment)
     return value
 

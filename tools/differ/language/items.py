@@ -78,21 +78,21 @@ class Items:
         arguments = self.values(",") if self.skip_symbol(":") else []
         return self.counted(name, arguments)
 
-    def host_call(self, name):
-        """The call of a filter with all values, between which a comma may stand."""
+    def host_call(self, name, given=()):
+        """The call of a filter with all values, between which a comma may stand, and with those that are given."""
         arguments = [] if self.is_over() else [self.value()]
         while not self.is_over():
             self.skip_symbol(",")
             arguments.append(self.value())
-        return self.counted(name, arguments)
+        return self.counted(name, arguments, given)
 
-    def counted(self, name, arguments):
+    def counted(self, name, arguments, given=()):
         if name not in self.counts:
             raise Fault("UnknownFilter")
         least, most = self.counts[name]
-        if not least <= len(arguments) <= most:
+        if not least <= len(arguments) + len(given) <= most:
             raise Fault("FilterArguments")
-        return Call(name, arguments)
+        return Call(name, arguments, list(given))
 
     def values(self, separator):
         found = [self.value()]

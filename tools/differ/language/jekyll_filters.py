@@ -237,6 +237,40 @@ def absolute_url(site, value):
     return site["url"] + (under(site["baseurl"], text_of(value)) or "/")
 
 
+def lead(site, lists, is_sought):
+    """The URL of the first item whose path is sought; what is no list has no items."""
+    for item in (item for held in lists if isinstance(held, list) for item in held):
+        path = text_or_nothing(item, "relative_path") or text_or_nothing(item, "path")
+        if path and is_sought(path):
+            return relative_url(site, text_or_nothing(item, "url") or path)
+    raise Fault("InvalidArgument")
+
+
+def link(site, markup, lists):
+    sought = text_of(markup).strip(STRIPPED)
+    return lead(site, lists, lambda path: sought in (path, path.removeprefix("/")))
+
+
+def post_url(site, markup, lists):
+    """By the folders in `_posts` or around it, and the date with the name, before an extension."""
+    folder, slash, name = map(re.escape, text_of(markup).strip(STRIPPED).removeprefix("/").rpartition("/"))
+    return lead(site, lists, re.compile(f"(?:_posts/{folder}{slash}|{folder}{slash}_posts/){name}\\.[^.]", re.S).match)
+
+
+def feed_meta(site, feed, title, name):
+    path = feed.get("path") if isinstance(feed, dict) else None
+    parts = {"href": absolute_url(site, path if is_truthy(path) else "feed.xml")}
+    shown = title if is_truthy(title) else name
+    if is_truthy(shown):
+        parts["title"] = shown
+    shown = "".join(f' {key}="{xml_escaped(text_of(value))}"' for key, value in parts.items())
+    return f'<link type="application/atom+xml" rel="alternate"{shown} />'
+
+
+def xml_escaped(text):
+    return re.sub("[\"&'<>]", lambda found: XML[found[0]], text)
+
+
 def site_of(data):
     held = data.get("site")
     return {name: text_or_nothing(held, name) for name in ("url", "baseurl")}
@@ -252,6 +286,9 @@ def filters_over(data):
     return {
         "relative_url": (0, 0, lambda value: relative_url(site, value)),
         "absolute_url": (0, 0, lambda value: absolute_url(site, value)),
+        "link": (4, 4, lambda _, markup, *lists: link(site, markup, lists)),
+        "post_url": (2, 2, lambda _, markup, *lists: post_url(site, markup, lists)),
+        "feed_meta": (3, 3, lambda _, *parts: feed_meta(site, *parts)),
         **FILTERS,
     }
 
@@ -263,7 +300,7 @@ FILTERS = {
     "date_to_long_string": (0, 2, spoken_date("%B")),
     "date_to_xmlschema": (0, 0, dated("%Y-%m-%dT%H:%M:%S%:z")),
     "date_to_rfc822": (0, 0, dated("%a, %d %b %Y %H:%M:%S %z")),
-    "xml_escape": (0, 0, lambda value: re.sub("[\"&'<>]", lambda found: XML[found[0]], text_of(value))),
+    "xml_escape": (0, 0, lambda value: xml_escaped(text_of(value))),
     "normalize_whitespace": (0, 0, lambda value: " ".join(WORDS.findall(text_of(value)))),
     "number_of_words": (0, 0, lambda value: len(WORDS.findall(text_of(value)))),
     "to_integer": (0, 0, to_integer),

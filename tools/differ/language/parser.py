@@ -3,9 +3,11 @@ from .faults import Fault
 from .items import Items
 from .lexer import Reader
 from .tags import BLOCKS, VERBATIM, when
-from .tree import Filtered, Output, Raw, Text
+from .tree import Call, Chain, Cycle, Filtered, Literal, Output, Raw, Symbol, Text, Variable
 
 MOST_BLOCKS = 200
+# what ends an output that isn't escaped
+RAW = [Symbol("|"), Variable("raw")]
 
 
 def parse(source, language):
@@ -15,8 +17,9 @@ def parse(source, language):
 
 class Parser:
     def __init__(self, source, language):
-        self.reader = Reader(source, language.path_tags, language.text_blocks)
+        self.reader = Reader(source, language.path_tags, {*language.text_blocks, *language.text_tags})
         self.language = language
+        self.host_blocks = {**language.text_blocks, **language.item_blocks}
         # the name of the tag that ended the last list of nodes, with its items
         self.ended_by = None
 
@@ -44,19 +47,35 @@ class Parser:
     def node(self, piece, depth):
         items = self.items(piece)
         if piece.opener == "{{":
-            return Output(items.chain())
+            return self.output(piece)
         if piece.name in self.language.tags:
-            return self.language.tags[piece.name](items)
+            node = self.language.tags[piece.name](items)
+            return self.shown(node) if isinstance(node, Cycle) else node
+        if piece.name in self.language.text_tags:
+            return Output(Chain(Literal(None, "nil"), [items.host_call(piece.name, self.language.given.get(piece.name, ()))]))
+        if piece.name in self.language.item_tags:
+            name, source = self.language.item_tags[piece.name]
+            return Output(Chain(Variable(source), [items.host_call(name)]))
         if piece.name in VERBATIM:
             return self.verbatim(piece.name, items, depth)
-        if piece.name not in BLOCKS and piece.name not in self.language.text_blocks:
+        if piece.name not in BLOCKS and piece.name not in self.host_blocks:
             raise Fault("UnknownTag")
         require_room(depth)
-        if piece.name in self.language.text_blocks:
+        if piece.name in self.host_blocks:
             return self.filtered(piece.name, items, depth + 1)
         node = BLOCKS[piece.name](items)
         getattr(self, f"fill_{piece.name}")(node, depth + 1)
         return node
+
+    def output(self, piece):
+        """A chain, and where the language escapes perhaps `| raw` after it."""
+        if self.language.escapes and piece.items[-2:] == RAW:
+            return Output(Items(piece.items[:-2], self.language.counts).chain())
+        return self.shown(Output(self.items(piece).chain()))
+
+    def shown(self, node):
+        """The node, whose text goes through `escape` where the language escapes."""
+        return Filtered(Call("escape", []), [node]) if self.language.escapes else node
 
     def verbatim(self, name, items, depth):
         """A raw or a comment: its body is read first, where its tag has no items."""
@@ -69,7 +88,7 @@ class Parser:
 
     def filtered(self, name, items, depth):
         """A block of a host: its end may have items."""
-        call = items.host_call(self.language.text_blocks[name])
+        call = items.host_call(self.host_blocks[name])
         return Filtered(call, self.nodes(depth, f"end{name}"))
 
     def of_end(self, read):

@@ -5,6 +5,7 @@ import hashlib
 import hmac
 import re
 
+from . import shopify_blocks
 from .arguments import lower, upper
 from .faults import Fault
 from .json_text import json_of
@@ -203,6 +204,7 @@ def filters_over(data):
     tags = [tag for tag in tags if isinstance(tag, str)] if isinstance(tags, list) else []
     return {
         **FILTERS,
+        **shopify_blocks.FILTERS,
         **money_filters(shop if isinstance(shop, dict) else {}),
         **tag_filters(held if isinstance(held, str) else "", tags),
     }

@@ -30,10 +30,11 @@ class Symbol:
 
 @dataclass
 class Call:
-    """A filter of a chain with its arguments."""
+    """A filter of a chain with its arguments, and with values after them of which a missing one is nil."""
 
     name: str
     arguments: list
+    given: list = field(default_factory=list)
 
 
 @dataclass

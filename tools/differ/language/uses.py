@@ -63,7 +63,7 @@ class Finder:
     def chain(self, chain, use=WHOLE):
         self.expression(chain.entry, input_use(chain.calls, use))
         for call in chain.calls:
-            self.expressions(call.arguments)
+            self.expressions([*call.arguments, *call.given])
 
     def expressions(self, expressions):
         for expression in expressions:
@@ -138,7 +138,7 @@ class Finder:
 
     def filtered(self, node):
         self.body(node)
-        self.expressions(node.call.arguments)
+        self.expressions([*node.call.arguments, *node.call.given])
 
     def include(self, node):
         self.expression(node.name)

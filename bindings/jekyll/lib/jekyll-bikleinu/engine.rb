@@ -7,6 +7,13 @@ module JekyllBikleinu
     LIMITS = { depth: 100, levels: 10_000, rounds: 1000 }.freeze
     # Filters that are no functions of their input.
     RANDOM = %w[sample].freeze
+    # Those of Jekyll's that this engine has too, each proved to answer what its page says.
+    PROVED = %w[
+      relative_url absolute_url date_to_string date_to_long_string date_to_xmlschema date_to_rfc822 xml_escape cgi_escape uri_escape
+      jsonify normalize_whitespace number_of_words to_integer array_to_sentence_string group_by where find
+    ].freeze
+    # Tags that are functions of their words and the site.
+    OF_SITE = %w[link post_url].freeze
     # A rendering: which one it is, and what Jekyll gives it.
     Call = Struct.new(:number, :payload, :info)
 
@@ -15,6 +22,9 @@ module JekyllBikleinu
     def initialize(site)
       @site = site
       @options = site.config['bikleinu'].is_a?(Hash) ? site.config['bikleinu'] : {}
+      filters = @options['filters']
+      raise ArgumentError, "bikleinu: filters is #{filters.inspect}, and proved or nothing is wanted" unless [nil, 'proved'].include?(filters)
+
       begin_build
     end
 
@@ -34,6 +44,11 @@ module JekyllBikleinu
 
     def verify?
       @options['verify']
+    end
+
+    # Whether this engine answers Jekyll's filters itself, where it has them and no plugin has others of their names.
+    def proved?
+      @options['filters'] == 'proved'
     end
 
     # A source in this language.
@@ -96,26 +111,58 @@ module JekyllBikleinu
 
     def environment
       @environment ||= Bikleinu::Environment.new(
-        jekyll: true, partials: Includes.new(self, @site), missing: :nil, decimals: :text, times: true, host: Host.new, **LIMITS
-      ).tap { |made| filters(made) }
+        jekyll: true, site: (place if proved?), partials: Includes.new(self, @site), missing: :nil, decimals: :text, times: true,
+        host: Host.new, **LIMITS
+      ).tap { |made| filters(made) && tags(made) }
+    end
+
+    # The address and the base path of the site.
+    def place
+      @site.config.values_at('url', 'baseurl').map(&:to_s)
     end
 
     # Filters of Jekyll's and of plugins are Ruby's own; those of Liquid are this engine's, unless a plugin has others of their names.
     def filters(environment)
       strainer = Liquid::StrainerFactory.create(SiteContext.new(@site))
       Liquid::StrainerFactory.global_filter_names.each do |name|
-        next if RANDOM.include?(name) || strainer.method(name).owner == Liquid::StandardFilters
+        next if RANDOM.include?(name) || engines?(name, strainer.method(name).owner)
 
         environment.filter(name) { |input, *arguments| strainer.invoke(name, input, *arguments) }
       end
-      environment.filter(Source::FILTER) { |number, at| tag(@renderings.fetch(number), @source.tags.fetch(at)) }
     end
 
-    # The text of a tag, by its own class.
-    def tag(rendering, text)
-      template = (@tags[text] ||= Liquid::Template.parse(text))
+    # Whether a filter is this engine's own, by its name and the module that it stands in.
+    def engines?(name, owner)
+      owner == Liquid::StandardFilters || (proved? && PROVED.include?(name) && Jekyll::Filters.ancestors.include?(owner))
+    end
+
+    # Tags of Jekyll and of plugins are made by their own classes. Those of the site are functions of their words, and the others say
+    # which rendering they are in.
+    def tags(environment)
+      OF_SITE.each do |name|
+        environment.register_tag(name, style: :text) { |words = ''| of_site("{% #{name} #{words} %}") }
+      end
+      environment.filter(Source::FILTER) { |number, at| tag(number, at, nil) }
+      environment.register_block(Source::BLOCK) { |text, number, at| tag(number, at, text) }
+      environment.register_block('highlight', style: :text) { |_text, _words = ''| raise Refused, 'the words of a highlight have a brace' }
+    end
+
+    # The text of a tag over a page, or of a block round a text.
+    def tag(number, at, text)
+      rendering = @renderings.fetch(number)
+      template = parsed_tag(@source.tags.fetch(at))
       template.instance_assigns.clear
+      template.assigns[Source::BLOCK] = text
       template.render!(rendering.payload, rendering.info)
+    end
+
+    # The text of a tag that asks for the site alone.
+    def of_site(text)
+      parsed_tag(text).render!(SiteContext.new(@site))
+    end
+
+    def parsed_tag(text)
+      @tags[text] ||= Liquid::Template.parse(text)
     end
   end
 

@@ -1,17 +1,19 @@
 # frozen_string_literal: true
 
 module JekyllBikleinu
-  # Sources of Jekyll's, in which what this language hasn't is written as it has it: a tag of Jekyll's or a plugin's as a filter that
-  # gives its text.
+  # Sources of Jekyll's, in which what depends on the page beside its words is written so that it says which rendering it is in: a tag of
+  # Jekyll's or a plugin's as a filter that gives its text, and `highlight` as a block.
   class Source
     VERBATIM = /\{%-?\s*raw\s*-?%\}.*?\{%-?\s*endraw\s*-?%\}|\{%-?\s*comment\s*-?%\}.*?\{%-?\s*endcomment\s*-?%\}/m
     # Tags that are functions of their own words, the page's and the site's data.
-    TAG = /\{%(-?)\s*((?:seo|feed_meta|link|post_url)\b[^%{]*?)\s*(-?)%\}/
-    HIGHLIGHT = /\{%(-?)\s*(highlight\b[^%{]*?)\s*(-?)%\}((?:(?!\{%|\{\{).)*)\{%(-?)\s*endhighlight\s*(-?)%\}/m
+    TAG = /\{%(-?)\s*((?:seo|feed_meta)\b[^%{]*?)\s*(-?)%\}/
+    HIGHLIGHT = /\{%(-?)\s*(highlight\b[^%{]*?)\s*(-?)%\}/
+    END_HIGHLIGHT = /\{%(-?)\s*endhighlight\b[^%{]*?(-?)%\}/
     # What a template may set that a tag would then see.
     SET = /\{%-?\s*(?:assign|capture|for|tablerow)\s+(page|site|layout|paginator|content)\b/
     NAME = 'jekyll_rendering'
     FILTER = 'jekyll_tag'
+    BLOCK = 'jekyll_highlight'
 
     # The texts of tags, by the numbers that stand for them.
     attr_reader :tags
@@ -31,18 +33,23 @@ module JekyllBikleinu
     private
 
     def converted(part)
-      part = part.gsub(HIGHLIGHT) { highlighted(Regexp.last_match) }
+      part = part.gsub(HIGHLIGHT) { opened(Regexp.last_match) }
+      part = part.gsub(END_HIGHLIGHT) { "{%#{Regexp.last_match(1)} end#{BLOCK} #{Regexp.last_match(2)}%}" }
       part.gsub(TAG) { call(Regexp.last_match(1), "{% #{Regexp.last_match(2)} %}", Regexp.last_match(3)) }
     end
 
-    def highlighted(found)
-      before, words, inner, text, outer, after = found.captures
-      call(before, "{% #{words} #{inner}%}#{text}{%#{outer} endhighlight %}", after)
+    # The beginning of a block, by Jekyll's own round its text, which stands in a variable then.
+    def opened(found)
+      before, words, after = found.captures
+      "{%#{before} #{BLOCK} #{NAME}, #{number("{% #{words} %}{{ #{BLOCK} }}{% endhighlight %}")} #{after}%}"
     end
 
     def call(before, tag, after)
-      at = @tags.index(tag) || (@tags.push(tag).length - 1)
-      "{{#{before} #{NAME} | #{FILTER}: #{at} #{after}}}"
+      "{{#{before} #{NAME} | #{FILTER}: #{number(tag)} #{after}}}"
+    end
+
+    def number(tag)
+      @tags.index(tag) || (@tags.push(tag).length - 1)
     end
   end
 end

@@ -4,13 +4,16 @@
 /* From so many bytes on Ruby's lock is released while they are read, and a byte of a text takes some so many of what is made of it. */
 enum { LONG_TEXT = 65536, WEIGHT = 4 };
 
-typedef enum { LANGUAGE, JEKYLL, REGISTER, PARSE, DATA, DATA_FOR, PARTIALS, INSERT, NAMES, PATHS, ANSWERS, FILTER, ANSWER, REFUSE } which;
+typedef enum {
+    LANGUAGE, JEKYLL, REGISTER, JEKYLLS, TAG, BLOCK, PARSE, DATA, DATA_FOR, PARTIALS, INSERT, NAMES, PATHS, ANSWERS, FILTER, SITE, ANSWER,
+    REFUSE
+} which;
 
 /* A call with all that one may be given, and what it answers: that there is no memory, where it isn't made. */
 typedef struct {
     which which;
     bikleinu_handle *on, *with, *made;
-    const uint8_t *text;
+    const uint8_t *text, *other;
     size_t length, first, second;
     uint32_t kind, number;
 } call;
@@ -21,6 +24,9 @@ static void make(void *given) {
     case LANGUAGE: it->number = bikleinu_language(it->made); break;
     case JEKYLL: it->number = bikleinu_jekyll_language(it->made); break;
     case REGISTER: it->number = bikleinu_register(it->on, it->text, it->length, it->first, it->second); break;
+    case JEKYLLS: it->number = bikleinu_register_jekyll(it->on); break;
+    case TAG: it->number = bikleinu_register_tag(it->on, it->text, it->length, it->other, it->first, it->kind); break;
+    case BLOCK: it->number = bikleinu_register_block(it->on, it->text, it->length, it->other, it->first, it->kind); break;
     case PARSE: it->number = bikleinu_parse(it->on, it->text, it->length, it->made); break;
     case DATA: it->number = bikleinu_data(it->text, it->length, it->made); break;
     case DATA_FOR: it->number = bikleinu_data_for(it->text, it->length, it->with, it->made); break;
@@ -30,6 +36,7 @@ static void make(void *given) {
     case PATHS: it->number = bikleinu_paths(it->on, it->with, it->made); break;
     case ANSWERS: it->number = bikleinu_answers(it->made); break;
     case FILTER: it->number = bikleinu_answers_filter(it->on, it->text, it->length); break;
+    case SITE: it->number = bikleinu_answers_jekyll(it->on, it->text, it->length, it->other, it->first); break;
     case ANSWER: it->number = bikleinu_answer(it->on, it->with, it->first, it->made); break;
     case REFUSE: it->number = bikleinu_refuse(it->on, it->with, it->first, it->kind, it->text, it->length); break;
     }
@@ -77,6 +84,28 @@ static VALUE register_filter(VALUE self, VALUE name, VALUE least, VALUE most) {
     return answer;
 }
 
+static VALUE register_jekyll(VALUE self) { return answered_by(&(call){.which = JEKYLLS, .on = alone(self)}); }
+
+/* A call that is given two texts. */
+static VALUE answered_of_two(call *it, VALUE text, VALUE other) {
+    StringValue(other);
+    give_text(it, text);
+    it->other = (const uint8_t *)RSTRING_PTR(other);
+    it->first = (size_t)RSTRING_LEN(other);
+    VALUE answer = answered_by(it);
+    RB_GC_GUARD(text);
+    RB_GC_GUARD(other);
+    return answer;
+}
+
+/* Registers a tag or a block, which calls a filter, and whose markup is read in the style of this number. */
+static VALUE registered(which what, VALUE self, VALUE name, VALUE filter, VALUE style) {
+    return answered_of_two(&(call){.which = what, .on = alone(self), .kind = NUM2UINT(style)}, name, filter);
+}
+
+static VALUE register_tag(VALUE self, VALUE name, VALUE filter, VALUE style) { return registered(TAG, self, name, filter, style); }
+static VALUE register_block(VALUE self, VALUE name, VALUE filter, VALUE style) { return registered(BLOCK, self, name, filter, style); }
+
 static VALUE parse(VALUE self, VALUE source) {
     call it = {.which = PARSE, .on = alone(self)};
     give_text(&it, source);
@@ -117,6 +146,9 @@ static VALUE add_filter(VALUE self, VALUE name) {
     RB_GC_GUARD(name);
     return answer;
 }
+
+/* Puts the address and the base path of a site into a table. */
+static VALUE set_site(VALUE self, VALUE address, VALUE base) { return answered_of_two(&(call){.which = SITE, .on = alone(self)}, address, base); }
 
 /* Puts in the answer to a call of this number: the member "answer" of data. */
 static VALUE answer(VALUE self, VALUE calls, VALUE number, VALUE data) {
@@ -169,11 +201,15 @@ void init_calls(void) {
     rb_define_singleton_method(handle_class, "answers", answers, 0);
     rb_define_singleton_method(handle_class, "read", read_text, 2);
     rb_define_method(handle_class, "register", register_filter, 3);
+    rb_define_method(handle_class, "register_jekyll", register_jekyll, 0);
+    rb_define_method(handle_class, "register_tag", register_tag, 3);
+    rb_define_method(handle_class, "register_block", register_block, 3);
     rb_define_method(handle_class, "parse", parse, 1);
     rb_define_method(handle_class, "insert", insert, 2);
     rb_define_method(handle_class, "names", names, 1);
     rb_define_method(handle_class, "paths", paths, 1);
     rb_define_method(handle_class, "add_filter", add_filter, 1);
+    rb_define_method(handle_class, "set_site", set_site, 2);
     rb_define_method(handle_class, "answer", answer, 3);
     rb_define_method(handle_class, "refuse", refuse, 4);
 }

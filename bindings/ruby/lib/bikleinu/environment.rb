@@ -8,13 +8,18 @@ module Bikleinu
   #   environment.parse("{{ 1999 | money }}, {% render 'end' %}").render
   #
   # partials: is a Hash of sources, the path of a folder, or an object that has read_template_file(name). filters: is a Hash of
-  # functions, or a module. missing: is :fault or :nil. jekyll: takes the include and the sort of Jekyll, and drops the white space
-  # of blocks that write nothing. depth: says how many partials may stand in one another, levels: how many blocks and partials;
+  # functions, or a module. missing: is :fault or :nil. jekyll: takes the include, the highlight and the sort of Jekyll, and drops the
+  # white space of blocks that write nothing. site: is the address and the base path of a site of Jekyll's, as
+  # ['https://example.org', '/blog']: the library then has Jekyll's own filters over it, but for those that filters: names. depth: says how many partials may stand in one another, levels: how many blocks and partials;
   # bytes: and turns: bound a page, and rounds: how often it may ask its filters. decimals: :text makes texts of floats, and
   # times: true, or an offset, of times and dates.
   #
   # The partials are parsed with the first template, so they know the filters that were added until then.
   class Environment
+    # How what stands after the name of a tag is read, by the numbers of the library for C.
+    STYLES = { items: 0, path: 1, text: 2 }.freeze
+    private_constant :STYLES
+
     # The environment of templates that are parsed without one.
     def self.default
       check_ractor
@@ -32,12 +37,12 @@ module Bikleinu
     attr_reader :settings, :filters, :near_plans # :nodoc:
 
     # A host is an object of the plugin for Jekyll, which says what is known of its documents and its sources.
-    def initialize(partials: nil, filters: nil, jekyll: false, decimals: nil, times: nil, host: nil, **options)
+    def initialize(partials: nil, filters: nil, jekyll: false, site: nil, decimals: nil, times: nil, host: nil, **options)
       @settings = Settings.new(Conversions.new(decimals, times, host ? host.documents : []), **options)
       @near_plans = NearPlans.new(self, host) if host
       @jekyll = jekyll ? true : false
       @language = Fault.check(Handle.language(@jekyll))
-      @filters = Filters.new
+      @filters = Filters.new(site_of(site))
       @given = partials
       @lock = Monitor.new
       filters.is_a?(Module) ? register_filter(filters) : filters&.each { |name, function| filter(name, function) }
@@ -49,13 +54,25 @@ module Bikleinu
     # it is called before the page is rendered, perhaps for a call that the page doesn't come to, and its answer is kept for
     # further pages. What it raises ends a page that makes the call, as the cause of the fault.
     def filter(name, function = nil, &block)
-      name = Text.utf8(name.is_a?(Symbol) ? name.to_s : name, "a filter's name")
-      function = (function.nil? ? block : function) || raise(::ArgumentError, "the filter `#{name}` has no function")
-      function = function.method(:call) unless function.is_a?(Proc) || function.is_a?(Method) || !function.respond_to?(:call)
-      raise TypeError, "the filter `#{name}` is a value of the class #{function.class}" unless function.respond_to?(:call)
-
-      add(name, function)
+      name = name_of(name, 'filter')
+      add(name, function_of("the filter `#{name}`", function || block))
       self
+    end
+
+    # Registers a tag, in place of any other of that name that was registered, for what is parsed from now on, by a function as of
+    # filter, but without an input: `{% name a, b %}` writes what it returns for the values a and b.
+    #
+    # With style: :items there are commas between values, or none; with :path the first one is a path without quotes, and with :text
+    # all that stands there is one text, and no value where nothing does. A name is refused that is no word, that blocks have a use of
+    # (as else, and what begins with end), or that is a tag or a block of the language.
+    def register_tag(name, function = nil, style: :items, &block)
+      add_tag(:register_tag, name, function || block, style)
+    end
+
+    # Registers a block in the same way, which ends with `end` and its name. Its function gets the text of the body, and then the
+    # values.
+    def register_block(name, function = nil, style: :items, &block)
+      add_tag(:register_block, name, function || block, style)
     end
 
     # Makes filters of the public methods of a module.
@@ -104,12 +121,54 @@ module Bikleinu
 
     private
 
+    # The address and the base path of a site, whose filters the language then has.
+    def site_of(site)
+      return if site.nil?
+      raise TypeError, "site: is #{site.inspect}, and an address and a base path are wanted" unless site.is_a?(Array) && site.length == 2
+
+      number = @language.register_jekyll
+      raise Error.new("Jekyll's filters are not taken", number:) unless number.zero?
+
+      site.map { |text| Text.utf8(text, 'a part of site:').dup.freeze }.freeze
+    end
+
     def add(name, function)
-      least, most = Filters.arity(name, function)
+      least, most = Filters.arity("the filter `#{name}`", function)
       number = @language.register(name, least, most)
       raise Error.new("the filter `#{name}` is not taken", number:) unless number.zero?
 
       @filters.add(name, function)
+    end
+
+    def add_tag(how, name, function, style)
+      name = name_of(name, 'tag')
+      number = STYLES.fetch(style) { raise ::ArgumentError, "style: is #{style.inspect}, and :items, :path or :text is wanted" }
+      what = "the tag `#{name}`"
+      function = function_of(what, function)
+      has_input = how == :register_block
+      settle(name, how, number, Filters.arity(what, function, inputs: has_input ? 1 : 0))
+      @filters.add(Filters.of_tag(name), has_input ? function : ->(_input, *values) { function.call(*values) })
+      self
+    end
+
+    # Registers a tag or a block in the language, with its filter.
+    def settle(name, how, style, counts)
+      filter = Filters.of_tag(name)
+      number = @language.register(filter, *counts)
+      number = @language.public_send(how, name, filter, style) if number.zero?
+      raise Error.new(Fault.refusal(number) || "the tag `#{name}` is not taken", number:) unless number.zero?
+    end
+
+    def name_of(name, what)
+      Text.utf8(name.is_a?(Symbol) ? name.to_s : name, "a #{what}'s name")
+    end
+
+    # A function, which is what answers to call.
+    def function_of(what, function)
+      raise ::ArgumentError, "#{what} has no function" if function.nil?
+      raise TypeError, "#{what} is a value of the class #{function.class}" unless function.respond_to?(:call)
+
+      function.is_a?(Proc) || function.is_a?(Method) ? function : function.method(:call)
     end
   end
 end

@@ -3,8 +3,8 @@
 require 'json'
 
 module Bikleinu
-  # Filters of the caller's by their names, and the tables of their answers that the library renders with. Each rendering has a
-  # table of its own, which serves later ones.
+  # Filters, tags and blocks of the caller's by the names of their filters, and the tables of their answers that the library renders
+  # with. Each rendering has a table of its own, which serves later ones.
   class Filters
     # How many answers a table holds before another one is begun.
     ANSWERS = 10_000
@@ -14,13 +14,15 @@ module Bikleinu
     # Answers of filters, each to one input and its arguments.
     Table = Struct.new(:handle, :version, :answers)
 
-    def initialize
+    # A site is an address and a base path, over which the library itself answers Jekyll's filters.
+    def initialize(site = nil)
+      @site = site
       @functions = {}
       @tables = []
     end
 
     def empty?
-      @functions.empty?
+      @functions.empty? && @site.nil?
     end
 
     # Adds a function, in place of the one of that name.
@@ -40,6 +42,7 @@ module Bikleinu
 
       table&.handle&.release
       handle = Fault.check(Handle.answers)
+      handle.set_site(*@site) if @site
       functions.each_key { |name| handle.add_filter(name) }
       Table.new(handle, functions, 0)
     end
@@ -48,16 +51,21 @@ module Bikleinu
       @tables.push(table)
     end
 
-    # How many arguments beside its input a function takes: at least, and at most.
-    def self.arity(name, function)
+    # The name of the filter that a tag calls. It is no word, so no template calls it otherwise, and a fault shows the tag by it.
+    def self.of_tag(name)
+      "{% #{name} %}"
+    end
+
+    # How many arguments a function takes, beside its input where it has one: at least, and at most.
+    def self.arity(what, function, inputs: 1)
       parameters = parameters_of(function)
       required, optional = %i[req opt].map { |kind| parameters.count { |it, _| it == kind } }
       takes_any = parameters.any? { |kind, _| kind == :rest }
-      if parameters.any? { |kind, _| kind == :keyreq } || ((required + optional).zero? && !takes_any)
-        raise ::ArgumentError, "the filter `#{name}` takes its input and then its arguments by their places"
+      if parameters.any? { |kind, _| kind == :keyreq } || (required + optional < inputs && !takes_any)
+        raise ::ArgumentError, "#{what} takes #{'its input and then ' unless inputs.zero?}its arguments by their places"
       end
 
-      [[required - 1, 0].max, takes_any ? ANY_NUMBER : required + optional - 1]
+      [[required - inputs, 0].max, takes_any ? ANY_NUMBER : required + optional - inputs]
     end
 
     # A block takes any number of arguments where it is called, so it is asked as a method.

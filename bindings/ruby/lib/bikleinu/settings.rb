@@ -10,7 +10,11 @@ module Bikleinu
     ANY = (2**64) - 1
     MOST = { depth: SMALL, levels: SMALL, rounds: SMALL, bytes: ANY, turns: ANY }.freeze
     LEAST = { levels: 1, rounds: 1 }.freeze
-    private_constant :USUAL, :OF_A_CALL, :SMALL, :ANY, :MOST, :LEAST
+    # What stands here for options of Liquid's.
+    IN_PLACE = {
+      filters: 'filters are of the environment: environment.register_filter(module)', registers: 'no filter or tag reads registers'
+    }.freeze
+    private_constant :USUAL, :OF_A_CALL, :SMALL, :ANY, :MOST, :LEAST, :IN_PLACE
 
     attr_reader :depth, :rounds, :limits, :conversions
 
@@ -32,13 +36,24 @@ module Bikleinu
       raise TypeError, "options are a Hash, not a value of the class #{options.class}" unless options.is_a?(Hash)
       return self if options.empty?
 
-      unknown = options.keys - OF_A_CALL
-      raise ::ArgumentError, "unknown option: #{unknown.first.inspect}; known are #{OF_A_CALL.join(', ')}" unless unknown.empty?
+      options = own(options)
+      unknown = (options.keys - OF_A_CALL).first
+      raise ::ArgumentError, "unknown option: #{unknown.inspect}; #{IN_PLACE[unknown] || "known are #{OF_A_CALL.join(', ')}"}" if unknown
 
       Settings.new(@conversions, **@options, **options)
     end
 
     private
+
+    # The options with what Liquid's stand for: strict_variables: says what becomes of a missing value, and a filter that isn't known is
+    # refused with its source.
+    def own(options)
+      raise ::ArgumentError, 'strict_filters is false, and an unknown filter is a SyntaxError' if options[:strict_filters] == false
+
+      own = options.reject { |name, _| %i[strict_variables strict_filters].include?(name) }
+      own[:missing] ||= options[:strict_variables] ? :fault : :nil if options.key?(:strict_variables)
+      own
+    end
 
     def missing
       @options[:missing]

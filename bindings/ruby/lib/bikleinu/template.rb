@@ -25,13 +25,27 @@ module Bikleinu
   # A template, which is rendered any number of times, in any number of threads.
   class Template
     # The template of a source, in an environment, or by itself. A SyntaxError says what the language refuses.
-    def self.parse(source, environment: Environment.default)
+    #
+    # line_numbers: and error_mode: are Liquid's: each fault has its line, and the language is strict.
+    def self.parse(source, environment: Environment.default, line_numbers: true, error_mode: :strict)
+      raise ::ArgumentError, "error_mode is #{error_mode.inspect}, and the language is :strict" unless error_mode == :strict
+
       environment.parse(source)
     end
 
     # Makes filters of the public methods of a module, for templates that are parsed from now on without an environment.
     def self.register_filter(methods)
       Environment.default.register_filter(methods)
+    end
+
+    # Registers a tag, for templates that are parsed from now on without an environment (as Environment#register_tag).
+    def self.register_tag(...)
+      Environment.default.register_tag(...)
+    end
+
+    # Registers a block in the same way.
+    def self.register_block(...)
+      Environment.default.register_block(...)
     end
 
     # What it was parsed from.
@@ -66,7 +80,8 @@ module Bikleinu
     # The page: its text up to a fault, and the fault.
     #
     # Data are a Hash, a drop, Data or a text of JSON, of which a Hash or a drop are asked for what the template and its partials
-    # use. Options are depth:, levels:, bytes:, turns:, rounds: and missing:, as of an Environment.
+    # use. Options are depth:, levels:, bytes:, turns:, rounds: and missing:, as of an Environment, and Liquid's strict_variables: and
+    # strict_filters:.
     def page(data = nil, options = nil)
       settings = @environment.settings.with(options)
       (0..).each do |round|

@@ -22,6 +22,7 @@ use Rattle.liquid_parser.specs.declared.build.Stage.{Stage}
 use Rattle.liquid_parser.specs.declared.build.Stage.TheVariants.{First, Last, CaseHead, WhenBody}
 use Rattle.liquid_core.specs.Expression.{Expression}
 use Rattle.liquid_core.specs.ExpressionView.{expression_view}
+use Rattle.liquid_evaluation.specs.ChainView.{chain_filter_view}
 use Rattle.liquid_evaluation.specs.Tree as tree
 use Rattle.liquid_syntax.specs.declared.node.Node.TheVariants.{Case}
 use Rattle.liquid_lexer.specs.declared.fault.ParseError.{ParseError}
@@ -50,8 +51,14 @@ opening b Last n = nesting.of_one b (of_body (flat_of n))
 opening b CaseHead n = nesting.of_many b (of_arms n)
 opening b WhenBody n = nesting.of_many b (of_arms n)
 
+-- the nodes of one
+abbrev pub alone : Node → Nodes
+alone n = tree.node n no_nodes
+
 abbrev pub statement_view : Statement → nesting.Statement
 statement_view (statements.Leaf n) = nesting.leaf ((flat_of n).head [])
+statement_view (statements.Through filters n) =
+    nesting.leaf (tree.filtered (map chain_filter_view filters.items) (alone ((flat_of n).head [])))
 statement_view (statements.Verbatim n) = nesting.closed ((flat_of n).head [])
 statement_view (statements.Begins b stage n) = nesting.begins (opening b stage n)
 statement_view (statements.Elsif n) = nesting.elsif (of_bodies (flat_of n))
@@ -70,6 +77,7 @@ IsPrepared WhenBody n = ⊥
 
 abbrev pub IsSound : Statement → Type 0
 IsSound (statements.Leaf n) = (flat_of n).ends ≡ []
+IsSound (statements.Through filters n) = (flat_of n).ends ≡ []
 IsSound (statements.Verbatim n) = (flat_of n).ends ≡ []
 IsSound (statements.Begins b stage n) = IsPrepared stage n
 IsSound (statements.Elsif n) = IsPrepared First n

@@ -6,6 +6,7 @@ ghost use Rattle.liquid_parser.specs.Faults.{FaultsAt};
 ghost use Rattle.liquid_parser.specs.inside.Classifies.{Classifies};
 ghost use Rattle.liquid_parser.specs.Classification.{leaf_statement};
 
+use super::outputs::shown_node;
 use super::tags::{BareTag, read_assign, read_bare, read_word};
 use crate::build::Statement;
 use crate::cycle_items::read_cycle;
@@ -42,7 +43,7 @@ pub(super) fn read_leaf(
         }
         TagKind::Cycle => {
             let (group, values) = read_cycle(alloc, items, at)?;
-            Ok(Statement::Leaf(Node::Cycle(group, values)))
+            shown_node(alloc, language, Node::Cycle(group, values))
         }
         TagKind::Include => read_include(alloc, items, at),
         TagKind::JekyllInclude => read_jekyll_include(alloc, items, at),

@@ -180,8 +180,8 @@ run_range-loop-at-preserved-in-Text g t c =
 
 -- ---- the turns of another node
 
-pub run_range-turns_of_node-requires : goal.run_range-turns_of_node-requires
-run_range-turns_of_node-requires g t c =
+pub run_range-grant_node-requires : goal.run_range-grant_node-requires
+run_range-grant_node-requires g t c =
     let place = configuration_of g.W.CountedWrite.contents g.W.CountedWrite.failure_count in
     going_node (setting_of g.H.NamedFilters.named c.args.context.now) c.args.context.now.depth c.args.nodes.now c.args.from c.loop-at.at c.args.to (place c.args.out.now c.args.state.now) (place c.loop-at.out c.loop-at.state) c.requires c.loop-at.invariant.going c.loop-at-test.true
 
@@ -189,7 +189,7 @@ pub run_range-returns-in_err-turns-clause-performs : goal.run_range-returns-in_e
 run_range-returns-in_err-turns-clause-performs g t c f stood =
     let place = configuration_of g.W.CountedWrite.contents g.W.CountedWrite.failure_count in
     let p = err_from_is_err_and c.from_residual-in_err-turns.result c.from_residual-in_err-turns.ensures.1 in
-    rw (p.1, p.2) (going_fault (setting_of g.H.NamedFilters.named c.args.context.now) c.args.context.now.depth c.args.nodes.now c.args.from c.loop-at.at c.args.to c.in_err-turns.field-0.0 (place c.args.out.now c.args.state.now) (place c.loop-at.out c.loop-at.state) (place c.turns_of_node.new.out c.loop-at.state) c.loop-at.invariant.going c.loop-at-test.true
+    rw (p.1, p.2) (going_fault (setting_of g.H.NamedFilters.named c.args.context.now) c.args.context.now.depth c.args.nodes.now c.args.from c.loop-at.at c.args.to c.in_err-turns.field-0.0 (place c.args.out.now c.args.state.now) (place c.loop-at.out c.loop-at.state) (place c.grant_node.new.out c.loop-at.state) c.loop-at.invariant.going c.loop-at-test.true
     (λ n next there. may_not_begin c.in_err-turns.field-0.0 (node_meant (setting_of g.H.NamedFilters.named c.args.context.now) c.args.context.now.depth n) _ _ _ _ c.in_err-turns.ensures.refused) f stood)
 
 pub run_range-returns-in_err-turns-clause-alone : goal.run_range-returns-in_err-turns-clause-alone
@@ -265,7 +265,7 @@ run_range-loop-at-preserved g t c =
       quiet = node_unfailed (setting_of g.H.NamedFilters.named c.args.context.now) c.args.context.now.depth c.args.nodes.now c.loop-at.at c.args.to _ (place c.loop-at.out c.loop-at.state) (place c.run_node.new.out c.run_node.new.state) (going_node (setting_of g.H.NamedFilters.named c.args.context.now) c.args.context.now.depth c.args.nodes.now c.args.from c.loop-at.at c.args.to (place c.args.out.now c.args.state.now) (place c.loop-at.out c.loop-at.state) c.requires c.loop-at.invariant.going c.loop-at-test.true)
           (node_from (setting_of g.H.NamedFilters.named c.args.context.now) c.args.context.now.depth c.args.nodes.now c.loop-at.at _ _ _ (environment_of c.loop-at.state) _ c.in_ok-turns.ensures.goes_on c.in_default-run_node.ensures.performs) ∙ c.loop-at.invariant.quiet;
       loops = c.run_node.ensures.loops ∙ c.loop-at.invariant.loops;
-      same_writer = c.run_node.ensures.same_writer ∙ c.turns_of_node.ensures.same_writer ∙ c.loop-at.invariant.same_writer;
+      same_writer = c.run_node.ensures.same_writer ∙ c.grant_node.ensures.same_writer ∙ c.loop-at.invariant.same_writer;
     }
 
 pub run_range-returns-clause-performs : goal.run_range-returns-clause-performs

@@ -14,7 +14,7 @@ use Rattle.liquid_evaluation.proofs.filter_call.apply_to.Goals as goal
 pub returns-in_err-apply_one-clause-value : goal.returns-in_err-apply_one-clause-value
 returns-in_err-apply_one-clause-value g c =
     let p = err_from_is_err_and c.from_residual.result c.from_residual.ensures.1 in
-    let f : FilterCall g.row.F.Denot → Call = λ call. call_of (g.F.Filter.answer call.filter) call.args.now in
+    let f : FilterCall g.row.F.Denot → Call = λ call. call_of (g.F.Filter.answer call.filter) call.args.now call.required in
     let within : FilterCall g.row.F.Denot → Bool = λ call. g.F.Filter.within call.filter in
     rw p.1 (faulted_if {V = Value} {W = ValueCow} view cow_view (within c.call-item.result) (list_all within c.args.calls.now) c.in_err-apply_one.field-0.0 p.0 _ _
     (all_within within c.args.calls.now c.loop-call.call-index c.call-item.result c.loop-call-test.true c.call-item.is)
@@ -24,7 +24,7 @@ returns-in_err-apply_one-clause-value g c =
 
 pub loop-call-preserved : goal.loop-call-preserved
 loop-call-preserved g c =
-    let f : FilterCall g.row.F.Denot → Call = λ call. call_of (g.F.Filter.answer call.filter) call.args.now in (
+    let f : FilterCall g.row.F.Denot → Call = λ call. call_of (g.F.Filter.answer call.filter) call.args.now call.required in (
       calls_more f _ (environment_of c.args.state.now) c.args.calls.now c.loop-call.call-index c.call-item.result (cow_view c.loop-call.value) (view c.in_ok-apply_one.field-0)
           c.loop-call-test.true c.call-item.is
           (if_answered (g.F.Filter.within c.call-item.result.filter) view c.in_ok-apply_one.field-0 _ (rw c.as_value.ensures at c.in_ok-apply_one.ensures))
@@ -34,7 +34,7 @@ loop-call-preserved g c =
 
 pub returns-clause-value : goal.returns-clause-value
 returns-clause-value g c =
-    let f : FilterCall g.row.F.Denot → Call = λ call. call_of (g.F.Filter.answer call.filter) call.args.now in
+    let f : FilterCall g.row.F.Denot → Call = λ call. call_of (g.F.Filter.answer call.filter) call.args.now call.required in
     answers_if {X = ValueCow} (list_all (λ call. g.F.Filter.within call.filter) c.args.calls.now) cow_view (Ok c.loop-call.value) _
     (calls_end f _ (environment_of c.args.state.now) c.args.calls.now c.loop-call.call-index (cow_view c.loop-call.value) c.loop-call-test.false c.loop-call.invariant.0)
 

@@ -6,6 +6,6 @@ use Rattle.liquid_evaluation.proofs.filter_call.apply_to.Given as goal
 
 abbrev pub invariant-loop-call : goal.invariant-loop-call
 invariant-loop-call g l =
-    (applied (map (λ c. call_of (g.F.Filter.answer c.filter) c.args.now) l.calls) (cow_view l.initial.value) (environment_of l.state)
-    ≡ applied (map (λ c. call_of (g.F.Filter.answer c.filter) c.args.now) (drop l.call-index l.calls)) (cow_view l.value) (environment_of l.state))
+    (applied (map (λ c. call_of (g.F.Filter.answer c.filter) c.args.now c.required) l.calls) (cow_view l.initial.value) (environment_of l.state)
+    ≡ applied (map (λ c. call_of (g.F.Filter.answer c.filter) c.args.now c.required) (drop l.call-index l.calls)) (cow_view l.value) (environment_of l.state))
     × (l.calls ≡ [] → l.value ≡ l.initial.value)

@@ -11,5 +11,9 @@ returns-clause-standard c = record {
   filters = c.in_ok-register_filters.ensures ∙ ap (λ ks. with_filters (listed ks) standard_filters) c.new-language.ensures.filters;
   include_paths = search rules;
   drops_blanks = search rules;
+  escapes_html = search rules;
   host_tags = search rules;
+  host_calls = search rules;
+  host_blocks = search rules;
+  host_ends = search rules;
 }

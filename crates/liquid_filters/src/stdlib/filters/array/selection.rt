@@ -190,7 +190,8 @@ fn where_of(
     Ok(kept)
 }
 
-fn is_wanted(found: Option<&Value>, target: Option<&Value>) -> bool
+/// Whether a property is there and truthy, or equals the target where one is given.
+pub fn is_wanted(found: Option<&Value>, target: Option<&Value>) -> bool
     ensures { result ≡ is_wanted (option_map (λ v. view v.now) target.entry)
         (option_map (λ v. view v.now) found.entry) }
 {

@@ -1,0 +1,14 @@
+use Rattle.std.proofs.Common.{◌≡◌, [], rules}
+use Rattle.liquid_model.specs.Maps.{listed}
+use Rattle.liquid_core.specs.Environment.{bind_each}
+use Rattle.liquid_language.specs.Languages.{kinds_of}
+use Rattle.liquid_language.specs.Standard.{standard_blocks}
+use Rattle.liquid_filter_sets.specs.Languages.{jekyll_tags}
+use Rattle.liquid_filter_sets.proofs.FreeName.{post_url_allowed}
+use Rattle.liquid_filter_sets.proofs.jekyll_tags.register_jekyll_tags.Goals as goal
+
+pub register_site_tag-requires-2 : goal.register_site_tag-requires-2
+register_site_tag-requires-2 c =
+    let tags : listed (kinds_of c.register_site_tag.new.language.tags) ≡ jekyll_tags = search rules in
+    let blocks : listed (kinds_of c.register_site_tag.new.language.blocks) ≡ bind_each standard_blocks (listed []) = search rules in
+    record { allowed = post_url_allowed c.register_site_tag.new.language tags blocks }
