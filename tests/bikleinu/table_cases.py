@@ -95,6 +95,17 @@ def quiet_cases():
     ]
 
 
+YAML_LINES = (
+    ("title:Tea", "this line of YAML has no space after its `:`: write one"),
+    ("title: *Tea*", "this line of YAML has an anchor or an alias, which isn't read"),
+    ("title: !!str Tea", "this line of YAML has a type, which isn't read"),
+    ('title: "Tea', "this line of YAML has a quote that ends before the line or not at all"),
+    ("title: 'It's Tea'", "this line of YAML has a quote that ends before the line or not at all"),
+    ("title = Tea", "this line is of TOML: in YAML a member is `key: value`"),
+    ("// title", "a comment of YAML begins with `#`"),
+)
+
+
 def slip_cases():
     page = {"t": "{{ title }}", "d.json": '{"title": "Tea"}', "r": '{"id": 1}\n'}
     folder = "error: --out is the pattern of the files' names, as 'mails/{{ id }}.eml': write a folder alone after --into"
@@ -102,6 +113,7 @@ def slip_cases():
         case("a value in the place of the data", "render t title=Tea", page, errors=("error: title=Tea: No such file or directory", DEFINE)),
         case("an option for a value of other programs", "render t --var title=Tea", page, errors=("error: unexpected argument '--var' found", "  tip: -D NAME=TEXT gives a value"), status=2),
         case("the version by a small letter", "-v", page, errors=("error: unexpected argument '-v' found", "  tip: -V prints the version"), status=2),
+        *(case(f"a line of YAML: {line}", "render t d.yml", {**page, "d.yml": f"{line}\n"}, errors=(f"error: d.yml: InvalidInput: in the data: line 1, column 1: {words}", "  tip: a part of YAML is read")) for line, words in YAML_LINES),
         case("completions", "completions bash", page, errors=("error: unrecognized subcommand 'completions'", "  tip: each package brings those of bash, zsh and fish"), status=2),
         case("several templates", "render a.liquid b.html d.json", page, errors=("error: one template is rendered a call", "  tip: call it for each, as 'for t in *.liquid;"), status=2),
         case("a folder as the pattern of names", "merge t r -o mails/", page, errors=(folder,), status=2),

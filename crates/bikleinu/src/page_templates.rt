@@ -67,16 +67,25 @@ impl<'p> PageTemplates<'p> {
         Ok(())
     }
 
-    /// What `check -d` warns of in these files of a language over this data and their page shows
-    /// silently, a list for each file. The fault is `Memory`.
+    /// What `check -d` warns of in these files of a language, which are written for an engine, over
+    /// this data, and their page shows silently: a list for each file, without warnings about
+    /// partials and attributes. The fault is `Memory`.
     pub fn warnings_over<'d>(
         &self,
         alloc: Global,
         data: &'d Object,
         language: &'d Language,
+        written_for: WrittenFor,
         missing: Missing,
     ) -> Result<Warnings> {
-        let all = warnings_of(alloc, &self.files, given_over(data, language))?;
+        let given = Given {
+            data: Some(data),
+            language,
+            written_for,
+            partials: None,
+            attributes: false,
+        };
+        let all = warnings_of(alloc, &self.files, given)?;
         let mut warnings = Vec::new(alloc);
         for (remarks, file) in all.into_iter().zip(&self.files) {
             if let Some(template) = file.template {
@@ -84,17 +93,5 @@ impl<'p> PageTemplates<'p> {
             }
         }
         Ok(warnings)
-    }
-}
-
-/// What warnings over this data are made by: none about partials, attributes or another engine are
-/// printed.
-fn given_over<'c>(data: &'c Object, language: &'c Language) -> Given<'c> {
-    Given {
-        data: Some(data),
-        language,
-        written_for: WrittenFor::Bikleinu,
-        partials: None,
-        attributes: false,
     }
 }

@@ -2,6 +2,7 @@
 use crate::filters::language_for;
 use crate::page_templates::PageTemplates;
 use crate::parts::{PageParts, UsedParts};
+use liquid_check::written_for;
 use liquid_commands::{RenderCall, Stop, Tip, print_tip};
 use liquid_core::Result;
 use liquid_files::ShownPath;
@@ -38,7 +39,8 @@ pub fn silent_warnings(
         return Ok(Vec::new(alloc));
     }
     let language = language_for(alloc, call.inputs.filters, call.inputs.escapes_html)?;
-    page.warnings_over(alloc, &read.parts.data, &language, call.missing)
+    let engine = written_for(call.inputs.filters);
+    page.warnings_over(alloc, &read.parts.data, &language, engine, call.missing)
 }
 
 /// Prints what a page that was written shows silently: each a line on standard error, and how many

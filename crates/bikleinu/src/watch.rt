@@ -5,6 +5,7 @@ ghost use Rattle.bikleinu.specs.Watches.{left_after, look_cost, looks_on, pays};
 
 use crate::filters::language_for;
 use crate::page_templates::PageTemplates;
+use liquid_check::written_for;
 use liquid_commands::{MergeCall, Sources, Tip, print_tip};
 use liquid_core::{ErrorKind, HostFilters, Object, Result};
 use liquid_data::RecordData;
@@ -106,7 +107,9 @@ impl<'r> Watch<'r> {
             return Ok(Vec::new(alloc));
         };
         let data = data_over(alloc, &job.shared, members)?;
-        let warnings = page.warnings_over(alloc, &data, &self.language, self.call.missing)?;
+        let engine = written_for(self.call.inputs.filters);
+        let missing = self.call.missing;
+        let warnings = page.warnings_over(alloc, &data, &self.language, engine, missing)?;
         Ok(self.new_in(&page.paths, &warnings)?)
     }
 

@@ -1,6 +1,6 @@
 -- Languages that differ from the standard one.
 use Rattle.std.specs.Prelude.{◌≡◌, ◌⊎◌, ℕ, List, [], Option, Some, None, Result, Ok, Err, codes}
-use Rattle.std.specs.Prelude.{true}
+use Rattle.std.specs.Prelude.{false, true}
 use Rattle.std.specs.Str.{IsUtf8}
 use Rattle.liquid_model.specs.ErrorKinds.{number_of}
 use Rattle.liquid_model.specs.Maps.{insert, listed}

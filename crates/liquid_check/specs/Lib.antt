@@ -1,5 +1,6 @@
 pub mod Blanks
 pub mod Counted
+pub mod Engines
 pub mod Findings
 pub mod Rounds
 pub mod Views

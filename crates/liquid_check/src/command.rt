@@ -1,4 +1,7 @@
 //! The command `check`.
+ghost use Rattle.std.specs.Prelude.{◌≡◌};
+ghost use Rattle.liquid_check.specs.Engines.{engine_of};
+
 use crate::files::{File, checked_files, names_of_texts, read_files};
 use crate::paths::{Paths, checked_paths};
 use crate::print::{Counts, print_counts, print_file};
@@ -119,7 +122,9 @@ fn given_by<'c>(
 }
 
 /// The engine whose filters templates call.
-fn written_for(filters: Option<FilterSet>) -> WrittenFor {
+pub fn written_for(filters: Option<FilterSet>) -> WrittenFor
+    ensures { result ≡ engine_of filters }
+{
     match filters {
         Some(FilterSet::Jekyll) => WrittenFor::Jekyll,
         Some(FilterSet::Shopify) => WrittenFor::Shopify,

@@ -13,7 +13,7 @@ mod print;
 mod remarks;
 mod warned_page;
 
-pub use command::{FaultTips, check};
+pub use command::{FaultTips, check, written_for};
 pub use findings::{Finding, Findings, MOST_FINDINGS, findings_of};
 pub use liquid_warnings::else_items;
 pub use remarks::remarks_of;

@@ -93,6 +93,11 @@ pub(crate) fn name_meant(name: &str) -> Option<&'static str> {
     meaning_in(NAMES, name)
 }
 
+/// Whether this is said of a name that comes with the data.
+pub(crate) fn is_of_data(meaning: &str) -> bool {
+    meaning.starts_with("it comes with the data")
+}
+
 /// The filter that is meant by a step of another language.
 pub(crate) fn filter_meant(step: &str) -> Option<&'static str> {
     meaning_in(STEPS, step)

@@ -2,7 +2,7 @@
 //! nowhere, and which name may be meant.
 //! It is made only where a run ends by that fault.
 use crate::expression::{Expression, Variable, expression_value};
-use crate::foreign_name::{filter_meant, is_file_suffix, name_meant};
+use crate::foreign_name::{filter_meant, is_file_suffix, is_of_data, name_meant};
 use crate::frame::{LoopFrame, LoopKind, Scope};
 use crate::resolved::Resolved;
 use crate::similar_name::{SimilarName, may_be_more_similar, more_likely};
@@ -104,10 +104,14 @@ pub(crate) fn words_of_variable<'a, 'd>(
     let mut at = 0;
     while at < variable.indexes.len() {
         let index = &variable.indexes[at];
-        let Some(part) = expression_value(index, state) else {
-            return without_index(alloc, index);
-        };
         let base = kind_of(&found);
+        let Some(part) = expression_value(index, state) else {
+            let path = SpelledPath {
+                name,
+                steps: &variable.indexes[..at],
+            };
+            return without_index(alloc, &path, base, index);
+        };
         let key = kind_of(&part);
         match found.stepped_by(part) {
             Some(next) => found = next,
@@ -150,8 +154,11 @@ fn push_advice(
 ) -> Result<(), AllocError> {
     let text = variable.name.as_str();
     let quoted = Quoted { text };
-    if let Some(meant) = name_meant(text) {
-        return write!(words, "; {meant}");
+    match name_meant(text) {
+        Some(meant) if !(state.sees_alone() && is_of_data(meant)) => {
+            return write!(words, "; {meant}");
+        }
+        _ => {}
     }
     if let Some(suffix) = file_suffix(variable) {
         return write!(
@@ -184,13 +191,30 @@ fn file_suffix(variable: &Variable) -> Option<&str> {
     }
 }
 
-/// The words for a step whose own value is missing.
-fn without_index(alloc: Global, index: &Expression) -> Words {
+/// The words for a step whose own value is missing. Where it is a name that stands without quotes,
+/// the key of this name is meant.
+fn without_index(
+    alloc: Global,
+    path: &SpelledPath<'_>,
+    base: Kind<'_>,
+    index: &Expression,
+) -> Words {
     let spelled = Spelled { expression: index }.to_string(alloc)?;
     let quoted = Quoted {
         text: spelled.as_str(),
     };
-    format!(in alloc; ", since `{quoted}` has none")
+    let mut words = format!(in alloc; ", since `{quoted}` has none")?;
+    match base {
+        Kind::Map(object) if object.get(spelled.as_str()).is_some() => {
+            let path = path.to_string(alloc)?;
+            let path = Quoted {
+                text: path.as_str(),
+            };
+            write!(words, "; did you mean `{path}.{quoted}`?")?;
+        }
+        _ => {}
+    }
+    Ok(words)
 }
 
 /// The words for a step that leads nowhere from what stands before it.

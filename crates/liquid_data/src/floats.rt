@@ -68,11 +68,13 @@ fn add_path_in(path: &mut String, value: &Value) -> Result<(), AllocError> {
 
 #[cycle(float_paths)]
 fn add_path_of_item(path: &mut String, items: &Vec<Value>) -> Result<(), AllocError> {
-    for (place, item) in items.iter().enumerate() {
+    let mut place: usize = 0;
+    for item in items {
         if is_float(item) {
             write!(path, "[{place}]")?;
             return add_path_in(path, item);
         }
+        place = place.saturating_add(1);
     }
     Ok(())
 }

@@ -88,7 +88,7 @@ fn of_slice(site: &ErrorSite<'_>) -> Option<&'static str> {
     if site.at_item || !site.rest.starts_with(":") {
         return None;
     }
-    Some("a part of a text or of a list is `| slice: 0, 3`")
+    Some("a part of a text or of a list is `| slice: 0, 3`, and one of a map `a['b']`")
 }
 
 fn of_assign(site: &ErrorSite<'_>) -> Option<&'static str> {

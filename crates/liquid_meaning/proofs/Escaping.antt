@@ -9,7 +9,7 @@ use Rattle.liquid_core.specs.Environment.{Environment}
 use Rattle.liquid_core.specs.declared.missing_value.Missing.{Missing}
 use Rattle.liquid_core.specs.declared.missing_value.Missing.TheVariants.{IsFault, IsNil}
 use Rattle.liquid_filters.specs.Escapes.{escaped_bytes}
-use Rattle.liquid_evaluation.specs.Calls.{applied, arguments_of}
+use Rattle.liquid_evaluation.specs.Calls.{applied, taken_arguments}
 use Rattle.liquid_evaluation.specs.Escaped.{escape_call, escaped_node}
 use Rattle.liquid_evaluation.specs.Evaluation.{answers_in, answers_with, calls_by, chain_value, through}
 use Rattle.liquid_evaluation.specs.Tree.{no_nodes, node, output}
@@ -21,7 +21,7 @@ use Rattle.liquid_meaning.proofs.Steps.{alone}
 
 -- what `escape` makes of a text, however missing values are taken
 escape_text : (named : Text → FilterAnswer) (t : Text) (m : Missing) (e : Environment) → applied (calls_by (answers_in m (answers_with named)) (escape_call ∷ [])) (text t) e ≡ Ok (text (escaped_bytes t))
-unfolding applied arguments_of
+unfolding applied taken_arguments
 escape_text named t IsFault e = refl
 escape_text named t IsNil e = refl
 

@@ -6,6 +6,7 @@ pub static CONDITION: &str = "\
 ¦|¦a condition has no filters; `assign` the filtered value before it
 not¦¦`not` isn't known; write `{% unless a %}` or `a == false`
 ¦! =¦`!=` is written without a space in it
+¦!contains¦`!contains` is written `{% unless a contains b %}`
 ¦!¦`!` isn't known; write `{% unless a %}` or `a == false`
 ¦not¦`not` isn't known; write `!=`, or `{% unless a contains b %}`
 ¦?¦no `?` stands here; compare with `nil`, or `.size` with 0
@@ -42,7 +43,15 @@ not¦¦`not` isn't known; write `{% unless a %}` or `a == false`
 ¦equal¦`equal to` is written `==`
 ¦between¦`a between 1 and 3` is written `a >= 1 and a <= 3`
 ¦starts¦how a text starts is asked by `assign`, with `| slice: 0, 2`, and `==`
+¦starts_with¦how a text starts is asked by `assign`, with `| slice: 0, 2`, and `==`
+¦startswith¦how a text starts is asked by `assign`, with `| slice: 0, 2`, and `==`
+¦startsWith¦how a text starts is asked by `assign`, with `| slice: 0, 2`, and `==`
+¦begins¦how a text starts is asked by `assign`, with `| slice: 0, 2`, and `==`
+¦begins_with¦how a text starts is asked by `assign`, with `| slice: 0, 2`, and `==`
 ¦ends¦how a text ends is asked by `assign`, with `| slice: -2, 2`, and `==`
+¦ends_with¦how a text ends is asked by `assign`, with `| slice: -2, 2`, and `==`
+¦endswith¦how a text ends is asked by `assign`, with `| slice: -2, 2`, and `==`
+¦endsWith¦how a text ends is asked by `assign`, with `| slice: -2, 2`, and `==`
 ¦like¦`like` isn't known; write `a contains 'text'`
 ¦matches¦`matches` isn't known; write `a contains 'text'`
 ¦exists¦`exists` isn't known; write `{% if a %}`

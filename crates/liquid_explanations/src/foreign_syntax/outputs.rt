@@ -29,6 +29,8 @@ pub static OUTPUT: &str = "\
 ^¦<¦a shortcode isn't known; write the HTML itself, or a partial, as `{% render 'name' %}`
 ^¦{{raw¦`{{{{raw}}}}` is written `{% raw %}`
 ^¦%¦a tag begins with `{%`, with one brace
+:¦{{¦inside an output a name stands without `{{` and `}}`
+,¦{{¦inside an output a name stands without `{{` and `}}`
 ¦{{¦the output before this `{{` has no `}}`
 ¦{%¦the output before this `{%` has no `}}`
 ^¦{¦an output has two braces on each side, as `{{ a }}`

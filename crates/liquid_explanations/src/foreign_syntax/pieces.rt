@@ -13,9 +13,17 @@ pub static ANYWHERE: &str = "\
 ¦&&¦`&&` is written `and`, in a condition
 ¦&gt;¦`&gt;` is written `>`
 ¦&lt;¦`&lt;` is written `<`
+¦&quot;¦`&quot;` is written `\"`
+¦&#34;¦`&#34;` is written `\"`
+¦&#39;¦`&#39;` is written `'`
+¦&apos;¦`&apos;` is written `'`
+¦&nbsp;¦`&nbsp;` is an escape of HTML; write a plain space
 ¦&amp;¦`&amp;` is an escape of HTML; in a condition write `and`
 ¦&.¦`&.` is written `.`
 ¦&¦`&` isn't known; in a condition write `and`
+¦–¦a dash stands here; write the plain sign `-`
+¦—¦a dash stands here; write the plain sign `-`
+¦−¦a dash stands here; write the plain sign `-`
 ¦｜¦a wide sign stands here; write the plain `|`
 ¦，¦a wide sign stands here; write the plain `,`
 ¦：¦a wide sign stands here; write the plain `:`

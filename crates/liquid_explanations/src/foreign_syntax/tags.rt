@@ -50,6 +50,20 @@ pub static LOOP: &str = "\
 ¦|¦a loop has no filters; `assign` the filtered list before it
 ¦,¦a loop has one name, and no `,` before its parts; a pair of a map is `pair[0]` and `pair[1]`
 each¦¦`for each` is written `for`
+¦sort¦a loop doesn't sort; `assign` the sorted list before it, with `| sort: 'name'`
+¦sort_by¦a loop doesn't sort; `assign` the sorted list before it, with `| sort: 'name'`
+¦sorted¦a loop doesn't sort; `assign` the sorted list before it, with `| sort: 'name'`
+¦order¦a loop doesn't sort; `assign` the sorted list before it, with `| sort: 'name'`
+¦order_by¦a loop doesn't sort; `assign` the sorted list before it, with `| sort: 'name'`
+¦orderby¦a loop doesn't sort; `assign` the sorted list before it, with `| sort: 'name'`
+¦where¦a loop takes each item; `assign` the others before it, with `| where: 'name'`
+¦max¦the number of items is a `limit`, as `limit: 2`
+¦take¦the number of items is a `limit`, as `limit: 2`
+¦first¦the number of items is a `limit`, as `limit: 2`
+¦count¦the number of items is a `limit`, as `limit: 2`
+¦skip¦the items to leave out are an `offset`, as `offset: 2`
+¦start¦the items to leave out are an `offset`, as `offset: 2`
+¦reverse¦`reverse` is written `reversed`
 reversed¦:¦`reversed` has no value: write it alone
 ¦:¦a loop is written `{% for item in list %}`, without `:`
 :¦%}¦a value is wanted after `:`, as `limit: 2`
