@@ -139,6 +139,10 @@ uint32_t bikleinu_register_tag(bikleinu_handle *language, const uint8_t *name, s
 uint32_t bikleinu_register_block(bikleinu_handle *language, const uint8_t *name, size_t length, const uint8_t *filter, size_t filter_length,
                                  uint32_t style);
 
+/* Makes a language escape for HTML what outputs and cycle write, but not an output that ends with "| raw", in templates that are parsed from
+ * then on. A captured text is escaped already, and needs it. */
+uint32_t bikleinu_escape_html(bikleinu_handle *language);
+
 /* Parses the source of a template in a language. The template doesn't need the language any more, or the source. It keeps a copy of a source
  * of at most 1 MiB, so that the fault of a run stands at its item, and else at the output or the tag. */
 uint32_t bikleinu_parse(bikleinu_handle *language, const uint8_t *source, size_t length, bikleinu_handle *made);

@@ -276,6 +276,14 @@ def jekyll():
     return page or copy or code or raises(lambda: Template("{% include card.html a='b' %}"), LiquidError)
 
 
+def escaped():
+    made = Environment(autoescape=True, partials={"p": "{{ a }}"}, filters={"own": own})
+    copied = pickle.loads(pickle.dumps(made))
+    source = "{{ a }}{{ a | raw }}{{ a | own }}{% include 'p' %}{% cycle a %}"
+    page, copy = (same(lambda: it.from_string(source).render(a="<"), "&lt;<&lt;&lt;&lt;") for it in (made, copied))
+    return page or copy or raises(lambda: Template("{{ a | raw }}"), LiquidError)
+
+
 def mails():
     """Ten thousand mails on four threads, with a filter; each thousandth has a fault, which is reported with its place."""
     made = Environment(filters={"money": money}, partials={"end": "\n{{ from }}"})
@@ -339,6 +347,7 @@ CHECKS = {
     "ten thousand mails on four threads": mails,
     "names": names,
     "Jekyll's language": jekyll,
+    "escaped pages": escaped,
     "Jekyll's filters over a site": sites,
     "tags and blocks": tags,
     "refused tags": refused_tags,

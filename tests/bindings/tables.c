@@ -283,6 +283,22 @@ static void of_languages(void) {
     end();
 }
 
+/* A language that escapes, and handles that hold none. */
+static void of_escaping(void) {
+    static const char source[] = "{{ a }}{{ a | raw }}{% cycle a %}";
+    is("language", bikleinu_language(&language), BIKLEINU_DONE);
+    is("raw", bikleinu_parse(&language, bytes(source), strlen(source), &template_), BIKLEINU_UNKNOWN_FILTER);
+    is("escape", bikleinu_escape_html(&language), BIKLEINU_DONE);
+    is("parse", bikleinu_parse(&language, bytes(source), strlen(source), &template_), BIKLEINU_DONE);
+    is("data", bikleinu_data(bytes("{\"a\":\"<\"}"), 9, &data), BIKLEINU_DONE);
+    is("render", bikleinu_render(&template_, &data, &partials, 32, &page), BIKLEINU_DONE);
+    reads("escaped", &page, BIKLEINU_TEXT, "&lt;<&lt;");
+    is("in data", bikleinu_escape_html(&data), BIKLEINU_OTHER_HANDLE);
+    is("share", bikleinu_share(&language, &answer), BIKLEINU_DONE);
+    is("in what is shared", bikleinu_escape_html(&language), BIKLEINU_SHARED_HANDLE);
+    end();
+}
+
 static uint32_t add_tag(const char *name, const char *filter, uint32_t style) {
     return bikleinu_register_tag(&language, bytes(name), strlen(name), bytes(filter), strlen(filter), style);
 }
@@ -433,7 +449,7 @@ static void of_sites(void) {
 
 int main(void) {
     size_t before = blocks;
-    of_rounds(), of_faults(), of_memory(), of_refusals(), of_languages(), of_bounds(), of_limits();
+    of_rounds(), of_faults(), of_memory(), of_refusals(), of_languages(), of_escaping(), of_bounds(), of_limits();
     of_tags(), of_refused_tags(), of_highlight(), of_sites();
     if (blocks != before) wrong++, printf("%zu pieces of memory are left\n", blocks - before);
     printf("tables: %zu\n", tests);

@@ -66,6 +66,7 @@ def _loaded() -> Any:
         "register_jekyll": ([handle], number),
         "register_tag": ([handle, text, size, text, size, number], number),
         "register_block": ([handle, text, size, text, size, number], number),
+        "escape_html": ([handle], number),
         "parse": ([handle, text, size, handle], number),
         "data": ([text, size, handle], number),
         "partials": ([handle], number),

@@ -35,7 +35,7 @@ class Environment:
     depth, levels, max_bytes and max_turns are as of Template.page, decimals, dates and default as of Data.
 
     filters are functions in Python by their names (as of Language.add_filter); a page asks them in at most max_rounds rounds. jekyll
-    and site are as of Language. missing is as of Template.page: with missing="nil" what is missing is nil. The
+    site and autoescape are as of Language. missing is as of Template.page: with missing="nil" what is missing is nil. The
     partials of a mapping are parsed with the first template, so filters that are added until then are known to them; those of a folder
     when they are read.
 
@@ -50,6 +50,7 @@ class Environment:
         missing: Missing = "fault",
         jekyll: bool = False,
         site: Site | None = None,
+        autoescape: bool = False,
         depth: int = 32,
         levels: int | None = None,
         max_bytes: int | None = None,
@@ -64,7 +65,7 @@ class Environment:
         for name, value in bounds.items():
             if value is not None:
                 whole(name, value, 1, 2**32 - 1 if name == "levels" else 2**64 - 1)
-        self._language = Language(jekyll=jekyll, filters=filters, site=site)
+        self._language = Language(jekyll=jekyll, filters=filters, site=site, autoescape=autoescape)
         self._given, self._auto_reload = _checked(partials), bool(auto_reload)
         if auto_reload and not isinstance(partials, (str, os.PathLike)):
             raise ValueError("auto_reload is for the path of a folder as partials")
@@ -154,7 +155,7 @@ class Environment:
         named = {"partials": self.partials, "filters": self._language._filters.functions, "jekyll": self._language._jekyll}
         named.update(site=self._language._filters.site, missing=usual.missing, depth=usual.depth, levels=usual.levels, max_bytes=usual.max_bytes)
         named.update(max_turns=usual.max_turns, max_rounds=usual.max_rounds)
-        named.update(decimals=how.decimals, dates=how.dates, default=how.default)
+        named.update(decimals=how.decimals, dates=how.dates, default=how.default, autoescape=self._language._autoescape)
         return _environment, (named, self._language._filters.tags)
 
 

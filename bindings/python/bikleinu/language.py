@@ -42,7 +42,8 @@ class Language(Owner):
     """The standard language: its tags, blocks and filters. With jekyll=True it has the tag include and the filter sort of Jekyll in
     place of the standard ones and its block highlight, and drops the white space of blocks that write nothing. filters are functions in
     Python by their names, which templates call as any other. site is the address and the base path of a site of Jekyll's: then the
-    library has Jekyll's own filters over it, but for those that filters name.
+    library has Jekyll's own filters over it, but for those that filters name. With autoescape=True what outputs and cycle write is
+    escaped for HTML, but not an output that ends with `| raw`; a captured text is escaped already, and needs it.
 
         >>> import bikleinu
         >>> language = bikleinu.Language(jekyll=True, site=("https://example.org", "/blog"))
@@ -50,12 +51,21 @@ class Language(Owner):
         'https://example.org/blog/tea'
     """
 
-    def __init__(self, *, jekyll: bool = False, filters: Mapping[str, Function] | None = None, site: Site | None = None) -> None:
+    def __init__(
+        self,
+        *,
+        jekyll: bool = False,
+        filters: Mapping[str, Function] | None = None,
+        site: Site | None = None,
+        autoescape: bool = False,
+    ) -> None:
         super().__init__()
-        self._jekyll, self._filters = bool(jekyll), Filters(_checked(site))
+        self._jekyll, self._filters, self._autoescape = bool(jekyll), Filters(_checked(site)), bool(autoescape)
         self._need((library.bikleinu_jekyll_language if jekyll else library.bikleinu_language)(self._handle))
         if site is not None:
             self._need(library.bikleinu_register_jekyll(self._handle))
+        if autoescape:
+            self._need(library.bikleinu_escape_html(self._handle))
         for name, function in (filters or {}).items():
             self.add_filter(name, function)
 
@@ -173,7 +183,7 @@ class Language(Owner):
             self._filters.add_tag(name, tag)
 
     def __reduce__(self) -> Any:
-        return _language, (self._jekyll, self._filters.functions, self._filters.tags, self._filters.site)
+        return _language, (self._jekyll, self._filters.functions, self._filters.tags, self._filters.site, self._autoescape)
 
     def __repr__(self) -> str:
         return f"<bikleinu.Language{', jekyll' if self._jekyll else ''}{listed(', filters', self.filters)}>"
@@ -193,8 +203,8 @@ def _checked(site: Any) -> Site | None:
     return address, base
 
 
-def _language(jekyll: bool, filters: Mapping[str, Function], tags: Mapping[str, Tag], site: Site | None) -> Language:
-    made = Language(jekyll=jekyll, filters=filters, site=site)
+def _language(jekyll: bool, filters: Mapping[str, Function], tags: Mapping[str, Tag], site: Site | None, autoescape: bool) -> Language:
+    made = Language(jekyll=jekyll, filters=filters, site=site, autoescape=autoescape)
     for name, tag in tags.items():
         made._add_tag(name, tag)
     return made

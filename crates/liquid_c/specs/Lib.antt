@@ -2,6 +2,7 @@ pub mod Asked
 pub mod CalledNames
 pub mod Calls
 pub mod DataFor
+pub mod Escaping
 pub mod HostTags
 pub mod Hosted
 pub mod Jekylls

@@ -11,6 +11,7 @@ mod asked;
 mod content;
 mod create_and_free;
 mod data_for;
+mod escaping;
 mod handle;
 mod handle_content;
 mod hosted;
