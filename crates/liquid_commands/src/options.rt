@@ -325,7 +325,8 @@ pub(crate) fn decimals<'a>(alloc: Global) -> Arg<'a> {
         alloc,
         "decimals",
         "HOW",
-        "How to read a number with a fraction: as a fault of the data, or as the text of its spelling",
+        "How to read a number with a fraction: as a fault of the data, \
+         or as the text of its spelling",
     )
     .value_parser(DECIMALS)
     .default_value("fault")

@@ -21,7 +21,6 @@ use std::alloc::{AllocError, Global};
 /// Registers the tags `link`, `post_url` and `feed_meta` and the block `highlight` in a language
 /// with Jekyll's own tags and none of a host. `Memory` where a growth was refused; then some of
 /// them may be registered.
-#[tactic(auto, using(crate::proofs::FreeName::highlight_allowed, crate::proofs::FreeName::link_allowed, crate::proofs::FreeName::feed_meta_allowed))]
 pub(crate) fn register_jekyll_tags(alloc: Global, language: &mut Language) -> Result<()>
     requires own_tags { listed (kinds_of language.old.tags) ≡ jekyll_tags }
     requires own_blocks { listed (kinds_of language.old.blocks) ≡

@@ -34,7 +34,8 @@ or_text (b ∷ s) t = b ∷ s
 
 -- where it stands in the folder of the site
 abbrev pub item_path : Datum → Text
-item_path d = or_text (member_text_or_none (codes "relative_path") d) (member_text_or_none (codes "path") d)
+item_path d = or_text (member_text_or_none (codes "relative_path") d)
+    (member_text_or_none (codes "path") d)
 
 -- its URL; a file that has none stays where it stands
 abbrev pub item_url : Datum → Text

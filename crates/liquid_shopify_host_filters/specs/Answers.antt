@@ -31,7 +31,7 @@ use Rattle.liquid_shopify_host_filters.specs.declared.kind.ShopifyKind.TheVarian
 use Rattle.liquid_shopify_host_filters.specs.declared.kind.ShopifyKind.TheVariants.{Base64Decode}
 use Rattle.liquid_shopify_host_filters.specs.declared.kind.ShopifyKind.TheVariants.{Base64Encode}
 use Rattle.liquid_shopify_host_filters.specs.declared.kind.ShopifyKind.TheVariants.{Camelize}
-use Rattle.liquid_shopify_host_filters.specs.declared.kind.ShopifyKind.TheVariants.{DefaultPagination}
+use Rattle.liquid_shopify_host_filters.specs.declared.kind.ShopifyKind.TheVariants as kinds
 use Rattle.liquid_shopify_host_filters.specs.declared.kind.ShopifyKind.TheVariants.{Find, FindIndex}
 use Rattle.liquid_shopify_host_filters.specs.declared.kind.ShopifyKind.TheVariants.{Form}
 use Rattle.liquid_shopify_host_filters.specs.declared.kind.ShopifyKind.TheVariants.{GlobalAssetUrl}
@@ -81,7 +81,7 @@ shopify_answer AssetUrl shop d args = prefixed_answer (string_bytes shop.assets)
 shopify_answer Base64Decode shop d args = decode_answer d
 shopify_answer Base64Encode shop d args = encode_answer d
 shopify_answer Camelize shop d args = camelize_answer d
-shopify_answer DefaultPagination shop d args = pagination_answer d
+shopify_answer kinds.DefaultPagination shop d args = pagination_answer d
 shopify_answer Find shop d args = shopify_find_answer d args
 shopify_answer FindIndex shop d args = find_index_answer d args
 shopify_answer Form shop d args = form_answer d args

@@ -6,7 +6,7 @@ use Rattle.liquid_shopify_host_filters.specs.declared.kind.ShopifyKind.TheVarian
 use Rattle.liquid_shopify_host_filters.specs.declared.kind.ShopifyKind.TheVariants.{Base64Decode}
 use Rattle.liquid_shopify_host_filters.specs.declared.kind.ShopifyKind.TheVariants.{Base64Encode}
 use Rattle.liquid_shopify_host_filters.specs.declared.kind.ShopifyKind.TheVariants.{Camelize}
-use Rattle.liquid_shopify_host_filters.specs.declared.kind.ShopifyKind.TheVariants.{DefaultPagination}
+use Rattle.liquid_shopify_host_filters.specs.declared.kind.ShopifyKind.TheVariants as kinds
 use Rattle.liquid_shopify_host_filters.specs.declared.kind.ShopifyKind.TheVariants.{Find, FindIndex}
 use Rattle.liquid_shopify_host_filters.specs.declared.kind.ShopifyKind.TheVariants.{Form}
 use Rattle.liquid_shopify_host_filters.specs.declared.kind.ShopifyKind.TheVariants.{GlobalAssetUrl}
@@ -48,7 +48,7 @@ shopify_filter_name AssetUrl = codes "asset_url"
 shopify_filter_name Base64Decode = codes "base64_decode"
 shopify_filter_name Base64Encode = codes "base64_encode"
 shopify_filter_name Camelize = codes "camelize"
-shopify_filter_name DefaultPagination = codes "default_pagination"
+shopify_filter_name kinds.DefaultPagination = codes "default_pagination"
 shopify_filter_name Find = codes "find"
 shopify_filter_name FindIndex = codes "find_index"
 shopify_filter_name Form = codes "form"

@@ -195,7 +195,8 @@ fn truth_text(alloc: Global, path: &str, text: &str) -> Said
     let path = Quoted { text: path };
     let text = Quoted { text };
     format!(in alloc;
-        "`{path}` is the text `{text}` in the data, and no truth value: such a comparison never holds"
+        "`{path}` is the text `{text}` in the data, and no truth value: \
+        such a comparison never holds"
     )
 }
 
