@@ -62,10 +62,12 @@ fn take_copies<W: CountedWrite>(
         return Ok(());
     }
     match nodes.get(at) {
-        Some(Node::Include(_, bindings)) => take_pairs(alloc, bindings, out, state),
-        Some(Node::JekyllInclude(_, bindings)) => take_pairs(alloc, bindings, out, state),
-        Some(Node::Render(_, bindings)) => take_pairs(alloc, bindings, out, state),
-        Some(Node::RenderEach(_, _, bindings)) => take_pairs(alloc, bindings, out, state),
+        Some(
+            Node::Include(_, bindings)
+            | Node::JekyllInclude(_, bindings)
+            | Node::Render(_, bindings)
+            | Node::RenderEach(_, _, bindings),
+        ) => take_pairs(alloc, bindings, out, state),
         Some(Node::For(head, _)) => take_list(alloc, &head.source, out, state),
         Some(Node::TableRow(head, _)) => take_list(alloc, &head.source, out, state),
         _ => Ok(()),
