@@ -1,5 +1,7 @@
 //! Pages, and what they show silently.
-ghost use Rattle.std.specs.Prelude.{◌≡◌, ◌≤◌, IfErr, IfOk, None, length};
+ghost use Rattle.std.specs.Prelude.{◌≡◌, ◌≤◌, IfErr, IfOk, None, [], length};
+ghost use Rattle.liquid_check.specs.Findings.{SaysAll};
+ghost use Rattle.liquid_check.specs.Silence.{silent_among};
 ghost use Rattle.liquid_core.specs.Held.{held};
 ghost use Rattle.liquid_engine.specs.LimitedPages.{PageWithin};
 ghost use Rattle.liquid_engine.specs.Limits.{unlimited};
@@ -93,12 +95,18 @@ pub fn silent_of(
     remarks: Vec<Remark>,
     template: &Template,
     missing: Missing,
-) -> std::result::Result<Vec<Remark>, AllocError> {
-    let mut silent = Vec::new(alloc);
-    for remark in remarks {
-        if is_silent(&remark, template, missing) {
-            silent.push(remark)?;
-        }
-    }
+) -> std::result::Result<Vec<Remark>, AllocError>
+    ensures { IfOk result (λ rs.
+        SaysAll [] (silent_among missing template.now remarks.items) rs.items) }
+{
+    let mut silent = remarks;
+    keep_silent(&mut silent, template, missing);
     remarks_of(alloc, &[], silent)
+}
+
+/// Leaves out the warnings that are about something else.
+fn keep_silent(warnings: &mut Vec<Remark>, template: &Template, missing: Missing)
+    ensures { warnings.new.items ≡ silent_among missing template.now warnings.old.items }
+{
+    warnings.retain(|remark| is_silent(remark, template, missing));
 }
