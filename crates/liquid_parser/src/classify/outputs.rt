@@ -34,6 +34,24 @@ pub(super) fn read_output(
         (leaf_or (output_of language.now (tokens_view items.entry.items))) result }
     ensures place { FaultsAt (length at.now) result }
 {
+    if language.escapes_html {
+        return read_escaped(alloc, language, items, at);
+    }
+    let chain = read_chain(alloc, &language.filters, items, at)?;
+    Ok(Statement::Leaf(Node::Output(chain)))
+}
+
+/// The same, apart from the way of each output in a language that doesn't escape.
+fn read_escaped(
+    alloc: Global,
+    language: &Language,
+    items: VecDeque<Item<'_>>,
+    at: &str,
+) -> Result<Statement, ParseError>
+    ensures statement { Classifies
+        (leaf_or (output_of language.now (tokens_view items.entry.items))) result }
+    ensures place { FaultsAt (length at.now) result }
+{
     let mut items = items;
     if language.escapes_html && skip_raw(&mut items) {
         return match read_chain(alloc, &language.filters, items, at) {
