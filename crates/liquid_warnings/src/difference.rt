@@ -53,6 +53,7 @@ pub fn difference_of(
         Want::Present | Want::Perhaps | Want::Tested => Ok(None),
         Want::Date | Want::Number | Want::Truth => Ok(None),
         Want::NumberWord | Want::TruthWord => Ok(None),
+        Want::Shown | Want::Keyed | Want::Sized => Ok(None),
     }
 }
 
