@@ -9,7 +9,7 @@ def case(title, words, files, out="", errors=(), status=0):
 
 
 def silent_cases():
-    return kinds() + slips() + texts() + truths() + shapes() + lacks() + passing() + places() + merges()
+    return kinds() + slips() + texts() + misused() + truths() + shapes() + lacks() + passing() + places() + merges()
 
 
 def kinds():
@@ -92,11 +92,33 @@ def texts():
     ]
 
 
+def misused():
+    number, truth = ("a tag sets `a` to a text, which is no %s: such a comparison never holds" % other for other in ("number", "truth value"))
+    empty = "the captured `a` counts as true, also empty; write `a != ''`"
+    quoted = "`'name'` is a text, and the data has a value of that name; write it without quotes"
+    captured = "{% capture a %}{% endcapture %}"
+    name = '{"name": "Ada"}'
+    return [
+        case("a captured number", "render t", {"t": "{% capture a %}5{% endcapture %}{% if a > 3 or 5 == a %}x{% endif %}!"}, "!", (said("TextNumber", 32, number),)),
+        case("an assigned text beside a truth value", "render t", {"t": "{% assign a = 'true' %}{% if a == true %}x{% endif %}!"}, "!", (said("TextTruth", 24, truth),)),
+        case("an assigned text of a filter", "render t", {"t": "{% assign a = 5 | append: '' %}{% if a == 5 %}x{% endif %}!"}, "!", (said("TextNumber", 32, number),)),
+        case("a name that is a number once", "render t", {"t": "{% assign a = '5' %}{% assign a = a | plus: 0 %}{% if a == 5 %}x{% endif %}!"}, "x!"),
+        case("an assigned text beside a text", "render t", {"t": "{% assign a = 'b' %}{% if a == 'b' and a contains 'b' %}x{% endif %}!"}, "x!"),
+        case("a captured text that is tested", "render t", {"t": captured + "{% if a %}x{% endif %}!"}, "x!", (said("AlwaysTrue", 32, empty),)),
+        case("a text that is captured under a condition", "render t", {"t": "{% if b %}" + captured + "{% endif %}{% if a %}x{% endif %}!"}, "!"),
+        case("a text that is captured later", "render t", {"t": "{% if a %}x{% endif %}" + captured + "!"}, "!"),
+        case("a captured text that an include may set", "render t -p p", {"t": captured + "{% include 'q' %}{% if a %}x{% endif %}!", "p/q": "{% assign a = false %}"}, "!"),
+        case("a name in quotes", "render t d", {"t": "{{ 'name' | upcase }}{{ 'name' | append: 's' }}{{ 'game' }}", "d": name}, "NAMEnamesgame", (said("QuotedName", 1, quoted),)),
+    ]
+
+
 def shapes():
     never = "`a` is %s in the data, and no %s: such a comparison never holds"
     compared = (("[1]", "1", "NoNumber", "a list", "number"), ('{"b": 1}', "1", "NoNumber", "a map", "number"), ("true", "1", "NoNumber", "a truth value", "number"), ("1", "true", "NoTruth", "a number", "truth value"), ("true", "'yes'", "NoText", "a truth value", "text"))
     shown = "`a` is a map or a list of maps in the data, and is shown with all that it has; name a part, as `a.name`"
     asked = "`a` is a list in the data, which has no such key; take each item by `for`, or one as `a[0]`"
+    false = "`a` is `false` in the data, which `default` replaces too; test it by `if`"
+    date = "`a` is a number in the data, which `date` prints as it is"
     sized = "`a.size` is a number, and 0 counts as true too; write `a.size > 0`"
     return [
         *(case(f"{value} beside {other}", "render t d", {"t": f"{{% if a == {other} %}}x{{% endif %}}!", "d": f'{{"a": {value}}}'}, "!", (said(kind, 1, never % (what, wanted)),)) for value, other, kind, what, wanted in compared),
@@ -106,6 +128,9 @@ def shapes():
         case("a list of texts that is shown", "render t d", {"t": "{{ a }}{{ b | size }}", "d": '{"a": ["b", "c"], "b": {"c": 1}}'}, "bc1"),
         case("a list that is asked for a key", "render t d", {"t": "{{ a.b | upcase }}{% if a.b %}x{% endif %}", "d": '{"a": [{"b": "c"}]}'}, "", (said("NoKey", 1, asked),)),
         case("a list that is asked for what it has", "render t d", {"t": "{{ a.first.b | upcase }}{{ a.size | plus: 1 }}{{ c.b | upcase }}", "d": '{"a": [{"b": "c"}], "c": {"b": "d"}}'}, "C2D"),
+        case("a list beside a text", "render t d", {"t": "{% if a == 'b' %}x{% endif %}!", "d": '{"a": ["b"]}'}, "!", (said("NoText", 1, never % ("a list", "text")),)),
+        case("false before a default", "render t d", {"t": "{{ a | default: 'x' }}{{ b | default: 'y' }}", "d": '{"a": false, "b": 0}'}, "x0", (said("FalseDefault", 1, false),)),
+        case("a number for a date", "render t d", {"t": "{{ a | date: '%Y' }}", "d": '{"a": 1775000000}'}, "1775000000", (said("NumberDate", 1, date),)),
         case("the size of an empty list", "render t d", {"t": "{% if a.size %}x{% endif %}{% if a.size > 0 %}y{% endif %}", "d": '{"a": []}'}, "x", (said("AlwaysTrue", 1, sized),)),
         case("a key named size", "render t d", {"t": "{% if a.size %}x{% endif %}", "d": '{"a": {"size": "XL"}}'}, "x"),
     ]

@@ -7,6 +7,7 @@ use Rattle.liquid_warnings.specs.declared.doubt.Doubt.TheVariants.{Lacks, NoList
 use Rattle.liquid_warnings.specs.declared.doubt.Doubt.TheVariants.{AlwaysTrue, NoText, NumberText}
 use Rattle.liquid_warnings.specs.declared.doubt.Doubt.TheVariants.{NoKey, NoNumber, NoTruth}
 use Rattle.liquid_warnings.specs.declared.doubt.Doubt.TheVariants.{TestedSize, TruthText}
+use Rattle.liquid_warnings.specs.declared.doubt.Doubt.TheVariants.{FalseDefault, NumberDate}
 use Rattle.liquid_warnings.specs.declared.doubt.Doubt.TheVariants.{WholeMap}
 
 abbrev pub doubt_view : Doubt → seen.Doubt
@@ -23,3 +24,5 @@ doubt_view (NoTruth v) = seen.no_truth (view v.now)
 doubt_view WholeMap = seen.whole_map
 doubt_view NoKey = seen.no_key
 doubt_view TestedSize = seen.tested_size
+doubt_view FalseDefault = seen.false_default
+doubt_view NumberDate = seen.number_date

@@ -19,13 +19,15 @@ use Rattle.liquid_warnings.specs.declared.doubt.Want.TheVariants.{Present, Perha
 use Rattle.liquid_warnings.specs.declared.doubt.Want.TheVariants.{Searched, Contained, Number}
 use Rattle.liquid_warnings.specs.declared.doubt.Want.TheVariants.{Tested, Truth}
 use Rattle.liquid_warnings.specs.declared.doubt.Want.TheVariants.{NumberWord, TruthWord}
-use Rattle.liquid_warnings.specs.declared.doubt.Want.TheVariants.{Keyed, Shown, Sized}
+use Rattle.liquid_warnings.specs.declared.doubt.Want.TheVariants.{Defaulted, Keyed, Shown}
+use Rattle.liquid_warnings.specs.declared.doubt.Want.TheVariants.{Sized, Word}
 
 -- a map lacks a key; a loop goes over what is no list and no map; it asks for items past the end
 -- of a list with this number of them; a text is no date; a text is compared with a number, or with
--- a truth value; one of these with a text; a condition tests what looks false and isn't; what is no
--- number, or no truth value, is compared with one; an output shows a map; a list is asked for a key;
--- a condition tests the number of items or characters
+-- a truth value; what is no text with one; a condition tests what looks false and isn't; what is no
+-- number, or no truth value, is compared with one; an output shows a map; a list is asked for a
+-- key; a condition tests the number of items or characters; `default` gets `false`; a number is
+-- no date
 pub data Doubt : Type 0 where
   lacks : Lacking → Doubt
   no_list : Datum → Doubt
@@ -40,6 +42,8 @@ pub data Doubt : Type 0 where
   whole_map : Doubt
   no_key : Doubt
   tested_size : Doubt
+  false_default : Doubt
+  number_date : Doubt
 
 -- an amount that is asked for of n items: at most all; a negative one is huge
 abbrev pub amount_within : ℤ → ℕ → ℕ
@@ -80,6 +84,7 @@ is_empty_or_date s = (length s == 0) || is_some (read s)
 -- of what is printed as a date
 abbrev pub date_doubt : Datum → Option Doubt
 date_doubt (text s) = cond (is_empty_or_date s) None (Some (no_date s))
+date_doubt (number z) = Some number_date
 date_doubt d = None
 
 abbrev pub has_digit : Text → Bool
@@ -99,15 +104,21 @@ truth_doubt (text s) = Some (truth_text s)
 truth_doubt (number z) = Some (no_truth (number z))
 truth_doubt d = None
 
+-- of what is compared with any text
+abbrev pub word_doubt : Datum → Option Doubt
+word_doubt (array ds) = Some (no_text (array ds))
+word_doubt (object ps) = Some (no_text (object ps))
+word_doubt d = None
+
 -- of what is compared with a text that spells a number
 abbrev pub number_word_doubt : Datum → Option Doubt
 number_word_doubt (number z) = Some (no_text (number z))
-number_word_doubt d = None
+number_word_doubt d = word_doubt d
 
 -- of what is compared with a text that spells a truth value
 abbrev pub truth_word_doubt : Datum → Option Doubt
 truth_word_doubt (truth b) = Some (no_text (truth b))
-truth_word_doubt d = None
+truth_word_doubt d = word_doubt d
 
 -- nothing, 0, or a word that says no
 abbrev pub says_no : Text → Bool
@@ -149,6 +160,11 @@ abbrev pub keyed_doubt : Datum → Option Doubt
 keyed_doubt (array ds) = Some no_key
 keyed_doubt d = None
 
+-- of what `default` gets
+abbrev pub defaulted_doubt : Datum → Option Doubt
+defaulted_doubt (truth false) = Some false_default
+defaulted_doubt d = None
+
 -- of what a condition tests the `size` of
 abbrev pub sized_doubt : Datum → Option Doubt
 sized_doubt (array ds) = Some tested_size
@@ -167,6 +183,8 @@ value_doubt NumberWord d = number_word_doubt d
 value_doubt TruthWord d = truth_word_doubt d
 value_doubt Tested d = tested_doubt d
 value_doubt Shown d = shown_doubt d
+value_doubt Word d = word_doubt d
+value_doubt Defaulted d = defaulted_doubt d
 value_doubt Keyed d = keyed_doubt d
 value_doubt Sized d = sized_doubt d
 value_doubt (Items s) d = items_doubt s d
@@ -196,6 +214,8 @@ asks_values NumberWord = true
 asks_values TruthWord = true
 asks_values Tested = true
 asks_values Shown = true
+asks_values Word = true
+asks_values Defaulted = true
 asks_values Keyed = true
 asks_values Sized = true
 asks_values (Items s) = true

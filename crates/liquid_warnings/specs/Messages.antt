@@ -91,6 +91,14 @@ no_key_message path = codes "`" ++ (quotation path ++ (codes
     "` is a list in the data, which has no such key; take each item by `for`, or one as `"
     ++ (quotation path ++ codes "[0]`")))
 
+abbrev pub number_date : Text → Text
+number_date path = codes "`" ++ (quotation path
+    ++ codes "` is a number in the data, which `date` prints as it is")
+
+abbrev pub false_message : Text → Text
+false_message path = codes "`" ++ (quotation path
+    ++ codes "` is `false` in the data, which `default` replaces too; test it by `if`")
+
 abbrev pub size_message : Text → Text
 size_message path = codes "`" ++ (quotation path
     ++ (codes ".size` is a number, and 0 counts as true too; write `" ++ (quotation path
@@ -129,6 +137,19 @@ not_given name = codes "no `render` of this partial gives `" ++ (quotation name
 
 abbrev pub stray_message : Text → Text
 stray_message name = codes "this `" ++ (name ++ codes "` stands in no loop, and ends the page here")
+
+-- a text that a tag sets, and that a condition takes for something else
+abbrev pub text_as : Text → Text → Text
+text_as name other = codes "a tag sets `" ++ (quotation name ++ (codes
+    "` to a text, which is no " ++ (other ++ codes ": such a comparison never holds")))
+
+abbrev pub captured_true : Text → Text
+captured_true name = codes "the captured `" ++ (quotation name
+    ++ (codes "` counts as true, also empty; write `" ++ (quotation name ++ codes " != ''`")))
+
+abbrev pub quoted_message : Text → Text
+quoted_message name = codes "`'" ++ (quotation name
+    ++ codes "'` is a text, and the data has a value of that name; write it without quotes")
 
 abbrev pub front_matter_message : Text
 front_matter_message = codes

@@ -28,7 +28,8 @@ is_odd kind = bytes_eq kind (codes "UnknownPart") || (bytes_eq kind (codes "NoEs
     || (bytes_eq kind (codes "DownRange") || (bytes_eq kind (codes "FixedTest")
     || (bytes_eq kind (codes "TagAsOutput") || (bytes_eq kind (codes "AndOr")
     || (bytes_eq kind (codes "StrayBreak") || (bytes_eq kind (codes "FrontMatter")
-    || bytes_eq kind (codes "ForeignOutput"))))))))))
+    || (bytes_eq kind (codes "ForeignOutput")
+    || bytes_eq kind (codes "QuotedName")))))))))))
 
 -- a name that is set and not read, or read where it isn't set
 abbrev pub is_unread : Text → Bool
@@ -38,7 +39,8 @@ is_unread kind = bytes_eq kind (codes "UnusedVariable") || (bytes_eq kind (codes
 -- a value of another shape than it is taken for
 abbrev pub is_misshapen : Text → Bool
 is_misshapen kind = bytes_eq kind (codes "NoNumber") || (bytes_eq kind (codes "NoTruth")
-    || (bytes_eq kind (codes "WholeMap") || bytes_eq kind (codes "NoKey")))
+    || (bytes_eq kind (codes "WholeMap") || (bytes_eq kind (codes "NoKey")
+    || (bytes_eq kind (codes "FalseDefault") || bytes_eq kind (codes "NumberDate")))))
 
 -- a mistake whatever becomes of a missing value
 abbrev pub is_of_template : Text → Bool

@@ -1,5 +1,5 @@
 -- Expressions that are read otherwise than they look.
---     node_slip node      the first such expression of an output, an `assign`, a condition or a `case`
+--     node_slip node      the first of an output, an `assign`, a condition or a `case`
 --     slip_said position x      what is said of it
 use Rattle.std.specs.Prelude.{ℕ, ◌-◌, ◌==◌, ◌&&◌, ◌||◌, Bool, true, false, cond, List, [], ◌∷◌}
 use Rattle.std.specs.Prelude.{Option, Some, None, Vec, codes, is_some, length, nat_lt, slice_index}

@@ -10,8 +10,10 @@ use Rattle.liquid_warnings.specs.Messages.{always_true, else_if_message, escaped
 use Rattle.liquid_warnings.specs.Messages.{false_words, in_data, kind_word, lack_message, no_text}
 use Rattle.liquid_warnings.specs.Messages.{truth_text}
 use Rattle.liquid_warnings.specs.Messages.{IsForeignMessage, front_matter_message, not_given}
-use Rattle.liquid_warnings.specs.Messages.{no_key_message, no_other, size_message}
-use Rattle.liquid_warnings.specs.Messages.{stray_message, whole_map_message}
+use Rattle.liquid_warnings.specs.Messages.{false_message, no_key_message, no_other}
+use Rattle.liquid_warnings.specs.Messages.{number_date, size_message}
+use Rattle.liquid_warnings.specs.Messages.{captured_true, quoted_message, stray_message}
+use Rattle.liquid_warnings.specs.Messages.{text_as, whole_map_message}
 use Rattle.liquid_warnings.specs.Messages.{no_date, number_text, past_end, recursive_message}
 use Rattle.liquid_warnings.specs.Messages.{unescaped_message, unused_message}
 use Rattle.liquid_warnings.specs.Messages.{unused_partial_message, value_message}
@@ -106,10 +108,19 @@ IsNoKey s = (path : Text) × WarnsOf (codes "NoKey") (no_key_message path) s
 abbrev pub IsTestedSize : Said → Type 0
 IsTestedSize s = (path : Text) × WarnsOf (codes "AlwaysTrue") (size_message path) s
 
+-- `false`, which `default` replaces
+abbrev pub IsFalseDefault : Said → Type 0
+IsFalseDefault s = (path : Text) × WarnsOf (codes "FalseDefault") (false_message path) s
+
+-- a number that is printed as a date
+abbrev pub IsNumberDate : Said → Type 0
+IsNumberDate s = (path : Text) × WarnsOf (codes "NumberDate") (number_date path) s
+
 abbrev pub IsDoubt : Said → Type 0
 IsDoubt s = IsUnknownPath s ⊎ (IsUnlisted s ⊎ (IsPastEnd s ⊎ (IsUndated s
-    ⊎ (IsNumberText s ⊎ (IsTruthText s ⊎ (IsNoText s ⊎ (IsAlwaysTrue s ⊎ (IsNoNumber s ⊎ (IsNoTruth s
-    ⊎ (IsWholeMap s ⊎ (IsNoKey s ⊎ IsTestedSize s)))))))))))
+    ⊎ (IsNumberText s ⊎ (IsTruthText s ⊎ (IsNoText s ⊎ (IsAlwaysTrue s ⊎ (IsNoNumber s
+    ⊎ (IsNoTruth s ⊎ (IsWholeMap s ⊎ (IsNoKey s ⊎ (IsTestedSize s ⊎ (IsFalseDefault s
+    ⊎ IsNumberDate s)))))))))))))
 
 -- ---- of partials
 
@@ -140,6 +151,16 @@ IsNotGiven s = (name : Text) × WarnsOf (codes "NotGiven") (not_given name) s
 -- a `break` or a `continue` in no loop
 abbrev pub IsStray : Said → Type 0
 IsStray s = (name : Text) × WarnsOf (codes "StrayBreak") (stray_message name) s
+
+-- a text that a tag sets, and a condition takes for something else
+abbrev pub IsTextTest : Said → Type 0
+IsTextTest s = (name : Text) × (WarnsOf (codes "TextNumber") (text_as name (codes "number")) s
+    ⊎ (WarnsOf (codes "TextTruth") (text_as name (codes "truth value")) s
+    ⊎ WarnsOf (codes "AlwaysTrue") (captured_true name) s))
+
+-- a name of the data that an output shows in place of its value
+abbrev pub IsQuotedName : Said → Type 0
+IsQuotedName s = (name : Text) × WarnsOf (codes "QuotedName") (quoted_message name) s
 
 -- front matter, which is printed
 abbrev pub IsFrontMatter : Said → Type 0

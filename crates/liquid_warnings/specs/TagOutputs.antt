@@ -25,7 +25,8 @@ unfiltered (f ∷ fs) name = None
 
 -- the name that an output shows as it is
 abbrev pub name_shown : Node → Option Text
-name_shown (Output chain) = unfiltered chain.filters.items (plain_name (expression_view chain.entry))
+name_shown (Output chain) =
+    unfiltered chain.filters.items (plain_name (expression_view chain.entry))
 name_shown _ = None
 
 abbrev pub is_tag_word : Text → Bool

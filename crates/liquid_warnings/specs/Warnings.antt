@@ -25,7 +25,7 @@ use Rattle.liquid_warnings.specs.Sorts.{InOrder, IsElseIf, IsEscapedTwice, IsMis
 use Rattle.liquid_warnings.specs.Sorts.{IsRecursive, IsUnescaped, IsUnknownName, IsUnusedPartial}
 use Rattle.liquid_warnings.specs.Sorts.{IsUnusedName, OnlyWhere}
 use Rattle.liquid_warnings.specs.Sorts.{IsForeign, IsFrontMatter, IsNotGiven, IsStray}
-use Rattle.liquid_warnings.specs.Sorts.{IsUnusedPair}
+use Rattle.liquid_warnings.specs.Sorts.{IsQuotedName, IsTextTest, IsUnusedPair}
 use Rattle.liquid_warnings.specs.TagOutputs.{tag_said}
 use Rattle.liquid_warnings.specs.declared.remark.Remark.{Remark}
 use Rattle.liquid_warnings.specs.declared.warnings.CheckedFile.{CheckedFile}
@@ -85,8 +85,12 @@ abbrev pub AreOfNames : Bool → List Said → Type 0
 AreOfNames has_data = InOrder (OnlyWhere has_data (All IsUnknownName))
     (InOrder (All IsUnusedName) (All IsEscapedTwice))
 
+abbrev pub AreOfMisusedTexts : List Said → Type 0
+AreOfMisusedTexts = InOrder (All IsTextTest) (All IsQuotedName)
+
 abbrev pub AreOfText : List Said → Type 0
-AreOfText = InOrder (All IsStray) (InOrder (All IsFrontMatter) (All IsForeign))
+AreOfText = InOrder (All IsStray) (InOrder AreOfMisusedTexts
+    (InOrder (All IsFrontMatter) (All IsForeign)))
 
 abbrev pub AreOfPartials : List Said → Type 0
 AreOfPartials = InOrder (All IsMissingPartial) (InOrder (All IsUnusedPartial)

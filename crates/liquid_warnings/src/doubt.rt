@@ -9,7 +9,8 @@ ghost use Rattle.liquid_warnings.specs.Doubts.{doubt_of, first_doubt, is_empty_o
 ghost use Rattle.liquid_warnings.specs.Doubts.{has_digit, is_zero_of, items_doubt, looks_false};
 ghost use Rattle.liquid_warnings.specs.Doubts.{number_doubt, number_word_doubt, truth_word_doubt};
 ghost use Rattle.liquid_warnings.specs.Doubts.{passes_end, says_no, span_doubt, tested_doubt};
-ghost use Rattle.liquid_warnings.specs.Doubts.{begins_with_map, keyed_doubt, shown_doubt};
+ghost use Rattle.liquid_warnings.specs.Doubts.{begins_with_map, defaulted_doubt, keyed_doubt};
+ghost use Rattle.liquid_warnings.specs.Doubts.{shown_doubt, word_doubt};
 ghost use Rattle.liquid_warnings.specs.Doubts.{sized_doubt, truth_doubt, unlisted_doubt};
 ghost use Rattle.liquid_warnings.specs.Doubts.{value_doubt};
 
@@ -41,8 +42,12 @@ pub enum Want {
     NumberWord,
     /// No truth values: they are compared with a text that spells one.
     TruthWord,
+    /// No lists and no maps: they are compared with a text.
+    Word,
     /// No maps: an output shows them as they are.
     Shown,
+    /// Nothing that has to be there, and no `false`: `default` gets them.
+    Defaulted,
     /// Nothing that has to be there, and no lists: they are asked for a key that none has.
     Keyed,
     /// Nothing that has to be there, and nothing with a `size`, which a condition tests.
@@ -76,8 +81,8 @@ pub enum Doubt<'d> {
     NumberText(&'d str),
     /// What is compared with a truth value is a text, which is never equal.
     TruthText(&'d str),
-    /// What is compared with a text that spells a number or a truth value is one, which is never
-    /// equal.
+    /// What is compared with a text is a list, a map, or the number or the truth value that the
+    /// text spells: they are never equal.
     NoText(&'d Value),
     /// What a condition tests looks false, and isn't.
     AlwaysTrue(&'d Value),
@@ -91,6 +96,10 @@ pub enum Doubt<'d> {
     NoKey,
     /// What a condition tests is the number of a list's items or of a text's characters.
     TestedSize,
+    /// What `default` gets is `false`, which it replaces.
+    FalseDefault,
+    /// What is printed as a date is a number.
+    NumberDate,
 }
 
 /// The first doubt about the values at a path in data: a map on the way lacks a key, or one of the
@@ -149,7 +158,9 @@ fn value_doubt<'d>(want: Want, value: &'d Value) -> Option<Doubt<'d>>
         Want::NumberWord => number_word_doubt(value),
         Want::TruthWord => truth_word_doubt(value),
         Want::Tested => tested_doubt(value),
+        Want::Word => word_doubt(value),
         Want::Shown => shown_doubt(value),
+        Want::Defaulted => defaulted_doubt(value),
         Want::Keyed => keyed_doubt(value),
         Want::Sized => sized_doubt(value),
         Want::Items(span) => items_doubt(span, value),
@@ -219,6 +230,7 @@ fn date_doubt<'d>(value: &'d Value) -> Option<Doubt<'d>>
 {
     match value {
         Value::Text(text) if !is_empty_or_date(text.as_str()) => Some(Doubt::NoDate(text.as_str())),
+        Value::Integer(_) => Some(Doubt::NumberDate),
         _ => None,
     }
 }
@@ -249,12 +261,21 @@ fn truth_doubt<'d>(value: &'d Value) -> Option<Doubt<'d>>
     }
 }
 
+fn word_doubt<'d>(value: &'d Value) -> Option<Doubt<'d>>
+    ensures { option_map doubt_view result ≡ word_doubt (view value.now) }
+{
+    match value {
+        Value::Array(_) | Value::Object(_) => Some(Doubt::NoText(value)),
+        _ => None,
+    }
+}
+
 fn number_word_doubt<'d>(value: &'d Value) -> Option<Doubt<'d>>
     ensures { option_map doubt_view result ≡ number_word_doubt (view value.now) }
 {
     match value {
         Value::Integer(_) => Some(Doubt::NoText(value)),
-        _ => None,
+        _ => word_doubt(value),
     }
 }
 
@@ -263,7 +284,7 @@ fn truth_word_doubt<'d>(value: &'d Value) -> Option<Doubt<'d>>
 {
     match value {
         Value::Bool(_) => Some(Doubt::NoText(value)),
-        _ => None,
+        _ => word_doubt(value),
     }
 }
 
@@ -338,6 +359,15 @@ fn keyed_doubt<'d>(value: &'d Value) -> Option<Doubt<'d>>
 {
     match value {
         Value::Array(_) => Some(Doubt::NoKey),
+        _ => None,
+    }
+}
+
+fn defaulted_doubt<'d>(value: &'d Value) -> Option<Doubt<'d>>
+    ensures { option_map doubt_view result ≡ defaulted_doubt (view value.now) }
+{
+    match value {
+        Value::Bool(false) => Some(Doubt::FalseDefault),
         _ => None,
     }
 }

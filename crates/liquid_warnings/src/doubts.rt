@@ -17,7 +17,10 @@ use crate::path_texts::{
     first_steps, key_before, lack_words, lacking_text, list_before, meant_text, path_text,
 };
 use crate::remark::{Remark, push_found};
-use crate::shapes::{no_key_in, no_number_in, no_truth_in, tested_size_in, whole_map_in};
+use crate::shapes::{
+    false_default_in, no_key_in, no_number_in, no_truth_in, number_date_in, tested_size_in,
+    whole_map_in,
+};
 use crate::used_path::UsedPath;
 use crate::warnings::is_full;
 use crate::{DataPath, Doubt, Lack, Want, doubt_of};
@@ -99,6 +102,8 @@ fn remark_of(alloc: Global, asked: &UsedPath, doubt: Option<Doubt<'_>>) -> Found
         Doubt::WholeMap => whole_map_in(alloc, at, path),
         Doubt::NoKey => no_key_in(alloc, at, path),
         Doubt::TestedSize => tested_size_in(alloc, at, path),
+        Doubt::FalseDefault => false_default_in(alloc, at, path),
+        Doubt::NumberDate => number_date_in(alloc, at, path),
         Doubt::AlwaysTrue(value) => always_true_in(alloc, at, path, value),
     }
 }
@@ -266,7 +271,7 @@ fn is_needed(want: Want) -> bool
 {
     !matches!(
         want,
-        Want::Perhaps | Want::Tested | Want::Date | Want::Keyed | Want::Sized
+        Want::Perhaps | Want::Tested | Want::Date | Want::Defaulted | Want::Keyed | Want::Sized
     )
 }
 

@@ -40,6 +40,8 @@ mod slips;
 mod stray;
 mod suggestions;
 mod tag_output;
+mod text_names;
+mod text_tests;
 mod text_warnings;
 mod truths;
 mod unescaped;

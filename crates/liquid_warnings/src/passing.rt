@@ -191,6 +191,7 @@ fn not_given(alloc: Global, name: &str) -> Result<String, AllocError>
 {
     let name = Quoted { text: name };
     format!(in alloc;
-        "no `render` of this partial gives `{name}`, so it is nil here; write `{name}: {name}` there"
+        "no `render` of this partial gives `{name}`, so it is nil here; \
+        write `{name}: {name}` there"
     )
 }

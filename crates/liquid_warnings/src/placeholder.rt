@@ -12,13 +12,14 @@ pub(crate) enum Meant<'s> {
 }
 
 /// How a placeholder of a value opens and closes.
-static FORMS: [(&str, &str); 9] = [
+static FORMS: [(&str, &str); 10] = [
     ("${", "}"),
     ("#{", "}"),
     ("%{", "}"),
     ("{", "}"),
     ("[[", "]]"),
     ("<%=", "%>"),
+    ("<%-", "%>"),
     ("<<", ">>"),
     ("\u{ab}", "\u{bb}"),
     ("%(", ")s"),
@@ -60,17 +61,17 @@ pub(crate) fn meant_by<'s>(before: &str, text: &'s str) -> Option<Meant<'s>> {
     value_in(before, text)
 }
 
-/// A comment, after its opener: the next sign closes it.
+/// A comment, after its opener: the next sign closes it, or nothing but a piece follows.
 fn comment_in<'s>(after: &str) -> Option<Meant<'s>> {
     if !after.starts_with(' ') {
         return None;
     }
-    let end = after.find(['#', '{'])?;
-    if after.get(end..)?.starts_with("#}") {
-        Some(Meant::Comment)
-    } else {
-        None
-    }
+    let closes = match after.find(['#', '{']) {
+        Some(end) => after.get(end..)?.starts_with("#}"),
+        // a piece follows
+        None => after.trim_start().is_empty(),
+    };
+    if closes { Some(Meant::Comment) } else { None }
 }
 
 /// A tag, after its opener: the word of one stands there.

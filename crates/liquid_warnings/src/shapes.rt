@@ -1,10 +1,11 @@
 //! Doubts about values of another shape than a template takes them for.
 ghost use Rattle.std.specs.Prelude.{◌≡◌, IfOk, IfSome, string_bytes};
-ghost use Rattle.liquid_warnings.specs.Messages.{no_key_message, no_other, size_message};
-ghost use Rattle.liquid_warnings.specs.Messages.{whole_map_message};
+ghost use Rattle.liquid_warnings.specs.Messages.{false_message, no_key_message, no_other};
+ghost use Rattle.liquid_warnings.specs.Messages.{size_message};
+ghost use Rattle.liquid_warnings.specs.Messages.{number_date, whole_map_message};
 ghost use Rattle.liquid_warnings.specs.Remarks.{remark_view};
 ghost use Rattle.liquid_warnings.specs.Sorts.{IsNoKey, IsNoNumber, IsNoTruth, IsTestedSize};
-ghost use Rattle.liquid_warnings.specs.Sorts.{IsWholeMap};
+ghost use Rattle.liquid_warnings.specs.Sorts.{IsFalseDefault, IsNumberDate, IsWholeMap};
 
 use crate::loops::kind_word;
 use crate::remark::Remark;
@@ -93,4 +94,36 @@ fn size_message(alloc: Global, path: &str) -> Said
     format!(in alloc;
         "`{path}.size` is a number, and 0 counts as true too; write `{path}.size > 0`"
     )
+}
+
+/// `FalseDefault`: what `default` gets is `false`.
+pub(crate) fn false_default_in(alloc: Global, at: Position, path: &str) -> Found
+    ensures { IfOk result (λ r. IfSome r (λ w. IsFalseDefault (remark_view w))) }
+{
+    let message = false_message(alloc, path)?;
+    Ok(Some(Remark::warning(at, "FalseDefault", message)))
+}
+
+fn false_message(alloc: Global, path: &str) -> Said
+    ensures { IfOk result (λ message. string_bytes message ≡ false_message path.now) }
+{
+    let path = Quoted { text: path };
+    format!(in alloc;
+        "`{path}` is `false` in the data, which `default` replaces too; test it by `if`"
+    )
+}
+
+/// `NumberDate`: what is to be a date is a number.
+pub(crate) fn number_date_in(alloc: Global, at: Position, path: &str) -> Found
+    ensures { IfOk result (λ r. IfSome r (λ w. IsNumberDate (remark_view w))) }
+{
+    let message = number_date(alloc, path)?;
+    Ok(Some(Remark::warning(at, "NumberDate", message)))
+}
+
+fn number_date(alloc: Global, path: &str) -> Said
+    ensures { IfOk result (λ message. string_bytes message ≡ number_date path.now) }
+{
+    let path = Quoted { text: path };
+    format!(in alloc; "`{path}` is a number in the data, which `date` prints as it is")
 }

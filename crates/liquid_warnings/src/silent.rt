@@ -15,10 +15,10 @@ use liquid_syntax::{Node, Position, Template};
 
 /// Whether a warning of a template is about what a page that came out shows silently: what is read
 /// otherwise than it looks or does nothing, as an `else` with more after it; a name that is set and
-/// not read, or not given to a partial; a value of another kind than it is taken for, as a text that
-/// is compared with a number; and where a missing value is a fault, a missing one
-/// that is like one that is there, or of which a filter makes something. The latter counts where an
-/// output or an `assign` asks for it first. It takes no memory.
+/// not read, or not given to a partial; a value of another kind than it is taken for, as a text
+/// that is compared with a number; and where a missing value is a fault, a missing one that is like
+/// one that is there, or of which a filter makes something. The latter counts where an output or an
+/// `assign` asks for it first. It takes no memory.
 pub fn is_silent(remark: &Remark, template: &Template, missing: Missing) -> bool
     ensures { result ≡ is_shown_silently missing (remark_view remark.now)
         (template_nodes template.now) (positions_of template.now) }
@@ -72,6 +72,7 @@ fn is_odd(kind: &str) -> bool
             | "StrayBreak"
             | "FrontMatter"
             | "ForeignOutput"
+            | "QuotedName"
     )
 }
 
@@ -86,7 +87,10 @@ fn is_unread(kind: &str) -> bool
 fn is_misshapen(kind: &str) -> bool
     ensures { result ≡ is_misshapen kind.now }
 {
-    matches!(kind, "NoNumber" | "NoTruth" | "WholeMap" | "NoKey")
+    matches!(
+        kind,
+        "NoNumber" | "NoTruth" | "WholeMap" | "NoKey" | "FalseDefault" | "NumberDate"
+    )
 }
 
 /// Whether the kind is of what the data lacks.

@@ -54,7 +54,8 @@ fn sign_message(alloc: Global) -> Result<String, AllocError>
 {
     String::from_str(
         alloc,
-        "a `\\` escapes nothing in a text; for a line end write the line end itself between the quotes",
+        "a `\\` escapes nothing in a text; for a line end write the line end itself between the \
+        quotes",
     )
 }
 

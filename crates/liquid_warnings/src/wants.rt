@@ -53,7 +53,7 @@ fn want_beside_text(text: &str) -> Want {
     match text {
         "true" | "false" | "yes" | "no" | "on" | "off" => Want::TruthWord,
         _ if whole_of(text).is_some() => Want::NumberWord,
-        _ => Want::Present,
+        _ => Want::Word,
     }
 }
 
@@ -63,6 +63,7 @@ pub(crate) fn want_of_entry(filters: &[ChainFilter]) -> Want {
     match filters.first() {
         None => Want::Present,
         Some(filter) if is_date_filter(filter.filter.name()) => Want::Date,
+        Some(filter) if filter.filter.name() == "default" => Want::Defaulted,
         Some(_) => Want::Perhaps,
     }
 }

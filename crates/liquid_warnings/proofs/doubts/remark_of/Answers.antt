@@ -1,6 +1,6 @@
 use Rattle.std.proofs.Common.{inl, inr}
 use Rattle.liquid_warnings.proofs.AddedRemarks.{found_of}
-use Rattle.liquid_warnings.specs.Sorts.{IsAlwaysTrue, IsDoubt, IsNoKey, IsNoNumber, IsNoText, IsNoTruth, IsNumberText, IsPastEnd, IsTestedSize, IsTruthText, IsUndated, IsUnlisted, IsWholeMap}
+use Rattle.liquid_warnings.specs.Sorts.{IsAlwaysTrue, IsDoubt, IsFalseDefault, IsNoKey, IsNoNumber, IsNoText, IsNoTruth, IsNumberDate, IsNumberText, IsPastEnd, IsTestedSize, IsTruthText, IsUndated, IsUnlisted, IsWholeMap}
 use Rattle.liquid_warnings.proofs.doubts.remark_of.Goals as goal
 
 pub returns-in-NoList : goal.returns-in-NoList
@@ -34,7 +34,13 @@ pub returns-in-NoKey : goal.returns-in-NoKey
 returns-in-NoKey c = found_of IsNoKey IsDoubt _ (λ s is. inr (inr (inr (inr (inr (inr (inr (inr (inr (inr (inr (inl is)))))))))))) c.no_key_in.ensures
 
 pub returns-in-TestedSize : goal.returns-in-TestedSize
-returns-in-TestedSize c = found_of IsTestedSize IsDoubt _ (λ s is. inr (inr (inr (inr (inr (inr (inr (inr (inr (inr (inr (inr (is))))))))))))) c.tested_size_in.ensures
+returns-in-TestedSize c = found_of IsTestedSize IsDoubt _ (λ s is. inr (inr (inr (inr (inr (inr (inr (inr (inr (inr (inr (inr (inl is))))))))))))) c.tested_size_in.ensures
+
+pub returns-in-FalseDefault : goal.returns-in-FalseDefault
+returns-in-FalseDefault c = found_of IsFalseDefault IsDoubt _ (λ s is. inr (inr (inr (inr (inr (inr (inr (inr (inr (inr (inr (inr (inr (inl is)))))))))))))) c.false_default_in.ensures
+
+pub returns-in-NumberDate : goal.returns-in-NumberDate
+returns-in-NumberDate c = found_of IsNumberDate IsDoubt _ (λ s is. inr (inr (inr (inr (inr (inr (inr (inr (inr (inr (inr (inr (inr (inr (is))))))))))))))) c.number_date_in.ensures
 
 pub returns : goal.returns
 returns c = found_of IsAlwaysTrue IsDoubt _ (λ s is. inr (inr (inr (inr (inr (inr (inr (inl is)))))))) c.always_true_in.ensures

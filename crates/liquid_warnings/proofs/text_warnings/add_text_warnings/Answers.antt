@@ -5,4 +5,5 @@ use Rattle.liquid_warnings.proofs.text_warnings.add_text_warnings.Goals as goal
 pub returns-clause-added : goal.returns-clause-added
 returns-clause-added c =
     let front = adds_found IsFrontMatter _ _ _ _ (adds_no_more IsFrontMatter _) c.in_ok-push_found.ensures c.in_ok-front_matter.ensures in
-    adds_then _ _ _ _ _ c.in_ok-add_strays.ensures (adds_then _ _ _ _ _ front c.in_ok-add_foreign.ensures.added)
+    adds_then _ _ _ _ _ c.in_ok-add_strays.ensures (adds_then _ _ _ _ _ c.in_ok-add_misused_texts.ensures
+    (adds_then _ _ _ _ _ front c.in_ok-add_foreign.ensures.added))
