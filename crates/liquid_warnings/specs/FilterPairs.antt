@@ -37,14 +37,14 @@ abbrev pub is_late_default : ChainFilter → ChainFilter → Bool
 is_late_default f g = bytes_eq (stored_name g.filter) (codes "default") && is_never_empty f
 
 -- how a filter and the next one go wrong, and the name of the first
-abbrev pub pair_of : ChainFilter → ChainFilter → Option (Bool × Text)
-pair_of f g = cond (escapes_again (stored_name f.filter) (stored_name g.filter))
+abbrev pub filter_pair : ChainFilter → ChainFilter → Option (Bool × Text)
+filter_pair f g = cond (escapes_again (stored_name f.filter) (stored_name g.filter))
     (Some (true, stored_name f.filter))
     (cond (is_late_default f g) (Some (false, stored_name f.filter)) None)
 
 abbrev pub pair_after : Option ChainFilter → ChainFilter → Option (Bool × Text)
 pair_after None g = None
-pair_after (Some f) g = pair_of f g
+pair_after (Some f) g = filter_pair f g
 
 abbrev pub first_pair : Option ChainFilter → List ChainFilter → Option (Bool × Text)
 first_pair before [] = None

@@ -45,11 +45,11 @@ down_said position node = cond (down_found (looped node))
 
 -- ---- comparisons
 
-abbrev pub is_literal : Expression → Bool
-is_literal x = is_some (literal_of (expression_view x))
+abbrev pub is_any_literal : Expression → Bool
+is_any_literal x = is_some (literal_of (expression_view x))
 
 abbrev pub is_fixed_atom : Atom → Bool
-is_fixed_atom (Compared l comparison r) = is_literal l && is_literal r
+is_fixed_atom (Compared l comparison r) = is_any_literal l && is_any_literal r
 is_fixed_atom _ = false
 
 abbrev pub has_fixed_atom : Vec Atom Global → Bool

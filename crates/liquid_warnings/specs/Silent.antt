@@ -32,8 +32,8 @@ is_odd kind = bytes_eq kind (codes "UnknownPart") || (bytes_eq kind (codes "NoEs
     || bytes_eq kind (codes "QuotedName")))))))))))
 
 -- a name that is set and not read, or read where it isn't set
-abbrev pub is_unread : Text → Bool
-is_unread kind = bytes_eq kind (codes "UnusedVariable") || (bytes_eq kind (codes "UnusedPair")
+abbrev pub is_unread_name : Text → Bool
+is_unread_name kind = bytes_eq kind (codes "UnusedVariable") || (bytes_eq kind (codes "UnusedPair")
     || bytes_eq kind (codes "NotGiven"))
 
 -- a value of another shape than it is taken for
@@ -44,7 +44,7 @@ is_misshapen kind = bytes_eq kind (codes "NoNumber") || (bytes_eq kind (codes "N
 
 -- a mistake whatever becomes of a missing value
 abbrev pub is_of_template : Text → Bool
-is_of_template kind = is_misread kind || (is_odd kind || (is_unread kind || is_misshapen kind))
+is_of_template kind = is_misread kind || (is_odd kind || (is_unread_name kind || is_misshapen kind))
 
 -- what the data lacks
 abbrev pub is_lack : Text → Bool

@@ -163,8 +163,8 @@ abbrev pub IsQuotedName : Said → Type 0
 IsQuotedName s = (name : Text) × WarnsOf (codes "QuotedName") (quoted_message name) s
 
 -- front matter, which is printed
-abbrev pub IsFrontMatter : Said → Type 0
-IsFrontMatter s = s ≡ warning_at 1 1 (codes "FrontMatter") front_matter_message
+abbrev pub IsPrintedFront : Said → Type 0
+IsPrintedFront s = s ≡ warning_at 1 1 (codes "FrontMatter") front_matter_message
 
 -- a value, a tag or a comment as other languages write them
 abbrev pub IsForeign : Said → Type 0

@@ -24,10 +24,10 @@ unfiltered [] name = name
 unfiltered (f ∷ fs) name = None
 
 -- the name that an output shows as it is
-abbrev pub name_shown : Node → Option Text
-name_shown (Output chain) =
+abbrev pub name_alone : Node → Option Text
+name_alone (Output chain) =
     unfiltered chain.filters.items (plain_name (expression_view chain.entry))
-name_shown _ = None
+name_alone _ = None
 
 abbrev pub is_tag_word : Text → Bool
 is_tag_word s = bytes_eq s (codes "else") || (bytes_eq s (codes "elsif")
@@ -48,4 +48,4 @@ tag_found position None = None
 tag_found position (Some name) = tag_of position name
 
 abbrev pub tag_said : Position → Node → Option Said
-tag_said position node = tag_found position (name_shown node)
+tag_said position node = tag_found position (name_alone node)

@@ -24,7 +24,7 @@ use Rattle.liquid_warnings.specs.Slips.{slip_said}
 use Rattle.liquid_warnings.specs.Sorts.{InOrder, IsElseIf, IsEscapedTwice, IsMissingPartial}
 use Rattle.liquid_warnings.specs.Sorts.{IsRecursive, IsUnescaped, IsUnknownName, IsUnusedPartial}
 use Rattle.liquid_warnings.specs.Sorts.{IsUnusedName, OnlyWhere}
-use Rattle.liquid_warnings.specs.Sorts.{IsForeign, IsFrontMatter, IsNotGiven, IsStray}
+use Rattle.liquid_warnings.specs.Sorts.{IsForeign, IsPrintedFront, IsNotGiven, IsStray}
 use Rattle.liquid_warnings.specs.Sorts.{IsQuotedName, IsTextTest, IsUnusedPair}
 use Rattle.liquid_warnings.specs.TagOutputs.{tag_said}
 use Rattle.liquid_warnings.specs.declared.remark.Remark.{Remark}
@@ -90,7 +90,7 @@ AreOfMisusedTexts = InOrder (All IsTextTest) (All IsQuotedName)
 
 abbrev pub AreOfText : List Said → Type 0
 AreOfText = InOrder (All IsStray) (InOrder AreOfMisusedTexts
-    (InOrder (All IsFrontMatter) (All IsForeign)))
+    (InOrder (All IsPrintedFront) (All IsForeign)))
 
 abbrev pub AreOfPartials : List Said → Type 0
 AreOfPartials = InOrder (All IsMissingPartial) (InOrder (All IsUnusedPartial)

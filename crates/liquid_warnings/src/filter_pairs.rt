@@ -3,7 +3,8 @@ ghost use Rattle.std.specs.Prelude.{◌≡◌, IfOk, option_map, string_bytes};
 ghost use Rattle.liquid_warnings.specs.FilterPairs.{adds_text, again_message, chain_pair};
 ghost use Rattle.liquid_warnings.specs.FilterPairs.{escapes_again, first_pair, is_any_text};
 ghost use Rattle.liquid_warnings.specs.FilterPairs.{is_escape, is_late_default, is_never_empty};
-ghost use Rattle.liquid_warnings.specs.FilterPairs.{late_message, pair_after, pair_of, pair_said};
+ghost use Rattle.liquid_warnings.specs.FilterPairs.{filter_pair, late_message, pair_after};
+ghost use Rattle.liquid_warnings.specs.FilterPairs.{pair_said};
 ghost use Rattle.liquid_warnings.specs.FilterPairs.{said_of_pair};
 ghost use Rattle.liquid_warnings.specs.Nodes.{printed_chain};
 ghost use Rattle.liquid_warnings.specs.Remarks.{remark_view};
@@ -90,13 +91,13 @@ fn pair_after<'t>(before: Option<&'t ChainFilter>, filter: &ChainFilter) -> Opti
         ≡ pair_after (option_map (λ f. f.now) before.entry) filter.now }
 {
     match before {
-        Some(before) => pair_of(before, filter),
+        Some(before) => filter_pair(before, filter),
         None => None,
     }
 }
 
-fn pair_of<'t>(first: &'t ChainFilter, next: &ChainFilter) -> Option<(bool, &'t str)>
-    ensures { option_map (λ p. (p.0, p.1.now)) result ≡ pair_of first.now next.now }
+fn filter_pair<'t>(first: &'t ChainFilter, next: &ChainFilter) -> Option<(bool, &'t str)>
+    ensures { option_map (λ p. (p.0, p.1.now)) result ≡ filter_pair first.now next.now }
 {
     if escapes_again(first.filter.name(), next.filter.name()) {
         Some((true, first.filter.name()))

@@ -4,7 +4,7 @@ ghost use Rattle.std.specs.List.{list_any};
 ghost use Rattle.liquid_model.specs.View.{view};
 ghost use Rattle.liquid_warnings.specs.Fixed.{down_found, down_message, down_said, falls};
 ghost use Rattle.liquid_warnings.specs.Fixed.{fixed_found, fixed_said, has_fixed_atom};
-ghost use Rattle.liquid_warnings.specs.Fixed.{is_down, is_fixed_atom, is_literal};
+ghost use Rattle.liquid_warnings.specs.Fixed.{is_down, is_fixed_atom, is_any_literal};
 ghost use Rattle.liquid_warnings.specs.Fixed.{literals_message, literals_said};
 ghost use Rattle.liquid_warnings.specs.Nodes.{looped, tested};
 ghost use Rattle.liquid_warnings.specs.Remarks.{remark_view};
@@ -135,13 +135,13 @@ fn is_fixed_atom(atom: &Atom) -> bool
     ensures { result ≡ is_fixed_atom atom.now }
 {
     match atom {
-        Atom::Compared(left, _, right) => is_literal(left) && is_literal(right),
+        Atom::Compared(left, _, right) => is_any_literal(left) && is_any_literal(right),
         Atom::Bare(_) => false,
     }
 }
 
-fn is_literal(expression: &Expression) -> bool
-    ensures { result ≡ is_literal expression.now }
+fn is_any_literal(expression: &Expression) -> bool
+    ensures { result ≡ is_any_literal expression.now }
 {
     literal_value(expression).is_some()
 }

@@ -2,7 +2,7 @@
 ghost use Rattle.std.specs.Prelude.{◌≡◌, IfOk, IfSome, codes};
 ghost use Rattle.liquid_warnings.specs.Messages.{front_matter_message};
 ghost use Rattle.liquid_warnings.specs.Remarks.{remark_view, warning_at};
-ghost use Rattle.liquid_warnings.specs.Sorts.{IsFrontMatter};
+ghost use Rattle.liquid_warnings.specs.Sorts.{IsPrintedFront};
 
 use crate::remark::Remark;
 use crate::written_for::WrittenFor;
@@ -16,7 +16,7 @@ pub(crate) fn front_matter(
     source: Option<&str>,
     written_for: WrittenFor,
 ) -> Result<Option<Remark>, AllocError>
-    ensures { IfOk result (λ r. IfSome r (λ w. IsFrontMatter (remark_view w))) }
+    ensures { IfOk result (λ r. IfSome r (λ w. IsPrintedFront (remark_view w))) }
 {
     match source {
         Some(source) if !written_for.is_for_jekyll() && has_front_matter(source) => {

@@ -4,7 +4,8 @@ ghost use Rattle.liquid_syntax.specs.Templates.{positions_of, template_nodes};
 ghost use Rattle.liquid_warnings.specs.Remarks.{remark_view};
 ghost use Rattle.liquid_warnings.specs.Silent.{has_similar, is_fault, is_filtered, is_filtered_at};
 ghost use Rattle.liquid_warnings.specs.Silent.{is_filtered_node, is_lack, is_misread};
-ghost use Rattle.liquid_warnings.specs.Silent.{is_misshapen, is_odd, is_of_template, is_unread};
+ghost use Rattle.liquid_warnings.specs.Silent.{is_misshapen, is_odd, is_of_template};
+ghost use Rattle.liquid_warnings.specs.Silent.{is_unread_name};
 ghost use Rattle.liquid_warnings.specs.Silent.{is_shown_silently, is_through, stands_at};
 
 use crate::dates::printed_chain;
@@ -34,7 +35,7 @@ pub fn is_silent(remark: &Remark, template: &Template, missing: Missing) -> bool
 fn is_of_template(kind: &str) -> bool
     ensures { result ≡ is_of_template kind.now }
 {
-    is_misread(kind) || (is_odd(kind) || (is_unread(kind) || is_misshapen(kind)))
+    is_misread(kind) || (is_odd(kind) || (is_unread_name(kind) || is_misshapen(kind)))
 }
 
 /// Whether the kind is of what is read otherwise than it looks.
@@ -77,8 +78,8 @@ fn is_odd(kind: &str) -> bool
 }
 
 /// Whether the kind is of a name that is set and not read, or read where it isn't set.
-fn is_unread(kind: &str) -> bool
-    ensures { result ≡ is_unread kind.now }
+fn is_unread_name(kind: &str) -> bool
+    ensures { result ≡ is_unread_name kind.now }
 {
     matches!(kind, "UnusedVariable" | "UnusedPair" | "NotGiven")
 }

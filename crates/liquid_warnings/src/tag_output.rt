@@ -2,7 +2,7 @@
 ghost use Rattle.std.specs.Prelude.{◌≡◌, IfOk, option_map, string_bytes};
 ghost use Rattle.liquid_core.specs.ExpressionView.{expression_view};
 ghost use Rattle.liquid_warnings.specs.Remarks.{remark_view};
-ghost use Rattle.liquid_warnings.specs.TagOutputs.{is_tag_word, name_shown, plain_name};
+ghost use Rattle.liquid_warnings.specs.TagOutputs.{is_tag_word, name_alone, plain_name};
 ghost use Rattle.liquid_warnings.specs.TagOutputs.{tag_message, tag_of, tag_said};
 
 use crate::remark::Remark;
@@ -18,7 +18,7 @@ pub(crate) fn tag_as_output(
 ) -> Result<Option<Remark>, AllocError>
     ensures { IfOk result (λ r. option_map remark_view r ≡ tag_said position node.now) }
 {
-    match name_shown(node) {
+    match name_alone(node) {
         Some(name) => tag_of(alloc, position, name),
         None => Ok(None),
     }
@@ -43,8 +43,8 @@ fn tag_message(alloc: Global, name: &str) -> Result<String, AllocError>
 }
 
 /// The name that an output shows as it is.
-pub(crate) fn name_shown(node: &Node) -> Option<&str>
-    ensures { option_map (λ n. n.now) result ≡ name_shown node.now }
+pub(crate) fn name_alone(node: &Node) -> Option<&str>
+    ensures { option_map (λ n. n.now) result ≡ name_alone node.now }
 {
     match node {
         Node::Output(chain) => {
