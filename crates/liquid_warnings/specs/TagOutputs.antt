@@ -13,11 +13,14 @@ use Rattle.liquid_syntax.specs.declared.node.Node.TheVariants.{Output}
 use Rattle.liquid_syntax.specs.declared.positions.Position.{Position}
 use Rattle.liquid_warnings.specs.Remarks.{Said, warning}
 
+abbrev pub before_steps : Text → Steps → Option Text
+before_steps name no_steps = Some name
+before_steps name (step x xs) = None
+
 -- a name without steps
 abbrev pub plain_name : Expression → Option Text
 plain_name (literal d) = None
-plain_name (variable name no_steps) = Some name
-plain_name (variable name (step x xs)) = None
+plain_name (variable name steps) = before_steps name steps
 
 abbrev pub unfiltered : List ChainFilter → Option Text → Option Text
 unfiltered [] name = name

@@ -1,8 +1,9 @@
 //! Outputs that were meant as tags.
 ghost use Rattle.std.specs.Prelude.{◌≡◌, IfOk, option_map, string_bytes};
-ghost use Rattle.liquid_core.specs.ExpressionView.{expression_view};
+ghost use Rattle.liquid_core.specs.ExpressionView.{expression_view, steps_view};
 ghost use Rattle.liquid_warnings.specs.Remarks.{remark_view};
-ghost use Rattle.liquid_warnings.specs.TagOutputs.{is_tag_word, name_alone, plain_name};
+ghost use Rattle.liquid_warnings.specs.TagOutputs.{before_steps, is_tag_word, name_alone};
+ghost use Rattle.liquid_warnings.specs.TagOutputs.{plain_name};
 ghost use Rattle.liquid_warnings.specs.TagOutputs.{tag_message, tag_of, tag_said};
 
 use crate::remark::Remark;
@@ -63,14 +64,17 @@ pub(crate) fn plain_name(expression: &Expression) -> Option<&str>
     ensures { option_map (λ n. n.now) result ≡ plain_name (expression_view expression.now) }
 {
     match expression {
-        Expression::Variable(variable) => {
-            if variable.indexes.is_empty() {
-                Some(variable.name.as_str())
-            } else {
-                None
-            }
-        }
+        Expression::Variable(variable) => before_steps(variable.name.as_str(), &variable.indexes),
         Expression::Literal(_) => None,
+    }
+}
+
+fn before_steps<'t>(name: &'t str, steps: &[Expression]) -> Option<&'t str>
+    ensures { option_map (λ n. n.now) result ≡ before_steps name.now (steps_view steps.now) }
+{
+    match steps {
+        [] => Some(name),
+        [_, ..] => None,
     }
 }
 
