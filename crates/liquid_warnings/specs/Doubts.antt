@@ -7,7 +7,7 @@ use Rattle.std.specs.Prelude.{bytes_eq, codes}
 use Rattle.std.specs.List.{list_any}
 use Rattle.liquid_model.specs.Bytes.{is_digit}
 use Rattle.liquid_model.specs.Data.{Datum, nil, truth, number, text, array, object, Pairs}
-use Rattle.liquid_model.specs.Data.{Items, item}
+use Rattle.liquid_model.specs.Data.{Items as Listed, item}
 use Rattle.liquid_model.specs.Digest.{items_len, pairs_len}
 use Rattle.liquid_model.specs.Texts.{Text}
 use Rattle.liquid_filters.specs.DateSpelling.{read}
@@ -145,7 +145,7 @@ looks_false d = is_zero_of (count_of d)
 abbrev pub tested_doubt : Datum → Option Doubt
 tested_doubt d = cond (looks_false d) (Some (always_true d)) None
 
-abbrev pub begins_with_map : Items → Bool
+abbrev pub begins_with_map : Listed → Bool
 begins_with_map (item (object ps) ds) = true
 begins_with_map ds = false
 

@@ -153,15 +153,28 @@ fn foreign_in<'s>(
             remaining: rest.len(),
         };
         is_code = part.add_to(&mut found, is_code, known)?;
-        let Some(inside) = past_byte(at, b'{') else {
-            break;
-        };
-        rest = match past_piece(alloc, language, inside)? {
+        rest = match after_piece(alloc, language, at)? {
             Some(after) => after,
-            None => inside,
+            None => break,
         };
     }
     Ok(found)
+}
+
+/// What follows the piece that a text begins with, or its first brace where that can't be read;
+/// nothing where the text is empty.
+fn after_piece<'s>(
+    alloc: Global,
+    language: &Language,
+    at: &'s str,
+) -> std::result::Result<Option<&'s str>, AllocError> {
+    let Some(inside) = past_byte(at, b'{') else {
+        return Ok(None);
+    };
+    match past_piece(alloc, language, inside)? {
+        Some(after) => Ok(Some(after)),
+        None => Ok(Some(inside)),
+    }
 }
 
 impl<'s> Part<'s> {

@@ -101,9 +101,7 @@ pub(crate) fn add_unused_pairs(
         (AddsRemarks (All IsUnusedPair) remarks.old.items remarks.new.items) }
 {
     for call in calls {
-        if let Some(read) = readers.read_by(call) {
-            add_of_call(alloc, call, read, remarks)?;
-        }
+        add_of_call(alloc, call, readers, remarks)?;
     }
     Ok(())
 }
@@ -111,12 +109,15 @@ pub(crate) fn add_unused_pairs(
 fn add_of_call(
     alloc: Global,
     call: &Call<'_>,
-    read: &Places,
+    readers: Readers<'_>,
     remarks: &mut Vec<Remark>,
 ) -> Result<(), AllocError>
     ensures { OnOk result
         (AddsRemarks (All IsUnusedPair) remarks.old.items remarks.new.items) }
 {
+    let Some(read) = readers.read_by(call) else {
+        return Ok(());
+    };
     for pair in call.pairs {
         if is_full(remarks) {
             return Ok(());

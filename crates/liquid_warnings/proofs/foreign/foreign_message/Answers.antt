@@ -9,5 +9,5 @@ returns-in-Value c = IfOk-weaker c.foreign_value.result _ _ (λ m same. subst Is
 pub returns-in-Tag : goal.returns-in-Tag
 returns-in-Tag c = IfOk-weaker c.foreign_tag.result _ _ (λ m same. subst IsForeignMessage (sym same) (of_tag _)) c.foreign_tag.ensures
 
-pub returns : goal.returns
-returns c = IfOk-weaker c.foreign_comment.result _ _ (λ m same. subst IsForeignMessage (sym same) of_comment) c.foreign_comment.ensures
+pub returns-in-Comment : goal.returns-in-Comment
+returns-in-Comment c = IfOk-weaker c.foreign_comment.result _ _ (λ m same. subst IsForeignMessage (sym same) of_comment) c.foreign_comment.ensures

@@ -5,4 +5,4 @@ use Rattle.liquid_warnings.proofs.foreign.foreign_output.Goals as goal
 
 pub returns : goal.returns
 returns c = IfOk-weaker c.at.result _ _
-    (λ r is. (c.as_str.result.now, (subst IsForeignMessage (sym c.as_str.ensures.value) c.in_ok-message.ensures, (_, (_, is))))) c.at.ensures
+    (λ r is. (c.as_str.result.now, (subst IsForeignMessage (sym c.as_str.ensures.value) c.in_ok-message.ensures, (_, _, is)))) c.at.ensures
