@@ -1,9 +1,8 @@
 -- The view of an expression that is a literal, or none.
-use Rattle.std.proofs.Common.{◌≡◌, Some, None, rules, ap, string_bytes, ◌∙◌}
+use Rattle.std.proofs.Common.{◌≡◌, Some, None, rules, ap, ◌∙◌}
 use Rattle.liquid_model.specs.View.{view}
 use Rattle.liquid_model.specs.declared.value.Value.{Value}
-use Rattle.liquid_core.specs.Expression as tree
-use Rattle.liquid_core.specs.ExpressionView.{expression_view, steps_view, variable_view}
+use Rattle.liquid_core.specs.ExpressionView.{expression_view, variable_view}
 use Rattle.liquid_core.specs.declared.expression.Expression.{Expression, Literal, Variable, the_lemmas}
 use Rattle.liquid_core.specs.declared.expression.Variable as declared
 use Rattle.liquid_core.proofs.ExpressionViews.{literal_is, variable_is}
@@ -14,13 +13,6 @@ of_literal x v is = ap (λ y. literal_of (expression_view y)) is ∙ ap literal_
 
 seen_variable : (w : declared.Variable) → expression_view (Variable w) ≡ variable_view w
 seen_variable w = search (rules, the_lemmas)
-
--- what a literal and a variable are seen as
-pub seen_literal : (x : Expression) (v : Value) → x ≡ Literal v → expression_view x ≡ tree.literal (view v)
-seen_literal x v is = ap (λ y. expression_view y) is ∙ literal_is v
-
-pub seen_name : (x : Expression) (w : declared.Variable) → x ≡ Variable w → expression_view x ≡ tree.variable (string_bytes w.name) (steps_view w.indexes.items)
-seen_name x w is = ap (λ y. expression_view y) is ∙ (seen_variable w ∙ variable_is w)
 
 pub of_variable : (x : Expression) (w : declared.Variable) → x ≡ Variable w → literal_of (expression_view x) ≡ None
 of_variable x w is = ap (λ y. literal_of (expression_view y)) is ∙ ap literal_of (seen_variable w ∙ variable_is w)
