@@ -1,5 +1,5 @@
 -- The view of a variable's steps, where there are some.
-use Rattle.std.proofs.Common.{◌≡◌, ◌≤◌, List, [], ◌∷◌, length, None, absurd, arith, refl}
+use Rattle.std.proofs.Common.{◌≡◌, ◌≤◌, List, [], ◌∷◌, length, None, arith, refl}
 use Rattle.liquid_core.specs.ExpressionView.{steps_view}
 use Rattle.liquid_core.specs.declared.expression.Expression.{Expression}
 use Rattle.liquid_model.specs.Texts.{Text}
