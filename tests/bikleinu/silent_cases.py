@@ -99,7 +99,7 @@ def misused():
     captured = "{% capture a %}{% endcapture %}"
     name = '{"name": "Ada"}'
     return [
-        case("a captured number", "render t", {"t": "{% capture a %}5{% endcapture %}{% if a > 3 or 5 == a %}x{% endif %}!"}, "!", (said("TextNumber", 32, number),)),
+        case("a captured number", "render t", {"t": "{% capture a %}5{% endcapture %}{% if a > 3 or 5 == a %}x{% endif %}!"}, "!", (said("TextNumber", 33, number),)),
         case("an assigned text beside a truth value", "render t", {"t": "{% assign a = 'true' %}{% if a == true %}x{% endif %}!"}, "!", (said("TextTruth", 24, truth),)),
         case("an assigned text of a filter", "render t", {"t": "{% assign a = 5 | append: '' %}{% if a == 5 %}x{% endif %}!"}, "!", (said("TextNumber", 32, number),)),
         case("a name that is a number once", "render t", {"t": "{% assign a = '5' %}{% assign a = a | plus: 0 %}{% if a == 5 %}x{% endif %}!"}, "x!"),
