@@ -1,5 +1,5 @@
 //! Values: literals, and variables with their steps.
-ghost use Rattle.std.specs.Prelude.{◌≡◌, [], length};
+ghost use Rattle.std.specs.Prelude.{◌≡◌, [], IfOk, length};
 ghost use Rattle.liquid_model.specs.View.{view};
 ghost use Rattle.liquid_core.specs.ExpressionView.{steps_view};
 ghost use Rattle.liquid_model.specs.Whole.{whole_text};
@@ -7,7 +7,7 @@ ghost use Rattle.liquid_lexer.specs.inside.ValueFaults.{number_fault, value_faul
 ghost use Rattle.liquid_lexer.specs.Values.{word_kind};
 ghost use Rattle.liquid_lexer.specs.ValueReading.{word_value, inner_of, expression_at};
 ghost use Rattle.liquid_model.specs.Front.{literal_at};
-ghost use Rattle.liquid_lexer.specs.ValueReading.{step_at, steps_at};
+ghost use Rattle.liquid_lexer.specs.ValueReading.{member_name_at, step_at, steps_at};
 ghost use Rattle.liquid_lexer.specs.Readers.{Parses};
 ghost use Rattle.liquid_lexer.specs.PieceView.{word_kind_view, read_view};
 ghost use Rattle.std.specs.Option.{option_map};
@@ -19,7 +19,7 @@ use liquid_core::{Expression, Variable};
 use liquid_model::{
     Value, number_len, past_byte, past_white, quoted, whole_number, whole_of, word,
 };
-use std::alloc::Global;
+use std::alloc::{AllocError, Global};
 
 /// What a word is where it opens a value.
 #[derive(Drop)]
@@ -161,7 +161,7 @@ fn read_steps(
     Ok((steps, rest))
 }
 
-/// One step, `.word` or `[value]`, where one stands at the front.
+/// One step, `.word`, `.word?` or `[value]`, where one stands at the front.
 #[cycle(read_value)]
 #[tactic(auto, unfolding(crate::specs::ValueReading::step_at, crate::specs::ValueReading::index_at), using(crate::proofs::ValueLaws::inner_is, crate::proofs::ValueLaws::inner_none))]
 fn read_step(
@@ -189,10 +189,22 @@ fn read_step(
     let Some(from) = past_byte(text, b'.') else {
         return Ok(None);
     };
-    let Some((name, rest)) = word(from) else {
+    Ok(read_member(alloc, from)?)
+}
+
+/// The name of a member, where one stands at the front.
+#[tactic(auto, unfolding(crate::specs::ValueReading::member_name_at))]
+fn read_member(alloc: Global, text: &str) -> Result<Option<(Expression, &str)>, AllocError>
+    ensures { IfOk result (λ o. option_map read_view o ≡ member_name_at text.now) }
+{
+    let Some((word, after)) = word(text) else {
         return Ok(None);
     };
-    let name = String::from_str(alloc, name)?;
+    let mut name = String::from_str(alloc, word)?;
+    let Some(rest) = past_byte(after, b'?') else {
+        return Ok(Some((Expression::Literal(Value::Text(name)), after)));
+    };
+    name.push_str("?")?;
     Ok(Some((Expression::Literal(Value::Text(name)), rest)))
 }
 
