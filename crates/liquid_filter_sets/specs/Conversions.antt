@@ -7,6 +7,7 @@ use Rattle.liquid_model.specs.Data.{Datum, nil, text, object, Pairs, text_of}
 use Rattle.liquid_model.specs.Find.{value_at}
 use Rattle.liquid_model.specs.Texts.{Text}
 use Rattle.liquid_model.specs.declared.error.ErrorKind.TheVariants.{InvalidInput}
+use Rattle.liquid_filters.specs.Ends.{or_nil}
 use Rattle.liquid_filter_sets.specs.Settings.{text_in}
 use Rattle.liquid_filter_sets.specs.declared.conversion.Converter.{Converter}
 use Rattle.liquid_filter_sets.specs.declared.conversion.Converter.TheVariants as c
@@ -17,11 +18,6 @@ converter_name c.Smartify = codes "smartify"
 
 abbrev pub converters : List Converter
 converters = c.Markdownify ∷ c.Smartify ∷ []
-
--- what is found, or nil
-abbrev pub or_nil : Option Datum → Datum
-or_nil None = nil
-or_nil (Some d) = d
 
 -- what a map has at a name; of another value nil
 abbrev pub found_in : Text → Option Datum → Datum

@@ -59,10 +59,13 @@ abbrev pub with_jekyll_filters : Map RegisteredFilter → Map RegisteredFilter
 with_jekyll_filters m = insert (with_converters (with_sites m jekyll_filters) converters)
     (codes "where_exp") (Host 2 2)
 
--- the standard tags, with two of one kind
+-- two tags of one kind
+abbrev pub with_includes : Map TagKind → Map TagKind
+with_includes m = insert (insert m (codes "include") JekyllInclude) (codes "include_relative")
+    JekyllInclude
+
 abbrev pub jekyll_tags : Map TagKind
-jekyll_tags = insert (insert (bind_each standard_tags (listed [])) (codes "include") JekyllInclude)
-    (codes "include_relative") JekyllInclude
+jekyll_tags = with_includes (bind_each standard_tags (listed []))
 
 -- `site.w`
 abbrev pub of_site : Text → Expression

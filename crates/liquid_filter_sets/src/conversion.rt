@@ -3,7 +3,8 @@ ghost use Rattle.std.specs.Prelude.{◌≡◌, [], nat_eq, option_map};
 ghost use Rattle.liquid_model.specs.Answer.{Answers, IsValueOrMemory};
 ghost use Rattle.liquid_model.specs.View.{pairs_view, view};
 ghost use Rattle.liquid_filter_sets.specs.Conversions.{conversion_answer, conversions_in};
-ghost use Rattle.liquid_filter_sets.specs.Conversions.{converter_name, or_nil};
+ghost use Rattle.liquid_filter_sets.specs.Conversions.{converter_name};
+ghost use Rattle.liquid_filters.specs.Ends.{or_nil};
 
 use crate::member::text_in;
 use liquid_core::{Filter, Object, Result, Value};

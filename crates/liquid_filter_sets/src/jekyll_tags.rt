@@ -44,7 +44,7 @@ pub(crate) fn register_jekyll_tags(alloc: Global, language: &mut Language) -> Re
     register_site_tag(alloc, language, "post_url", posts)?;
     let feed = feed_parts(alloc)?;
     register_site_tag(alloc, language, "feed_meta", feed)?;
-    let seo = seo_text(alloc)?;
+    let seo = seo_parts(alloc)?;
     register_site_tag(alloc, language, "seo", seo)?;
     register_highlight(alloc, language)
 }
@@ -146,14 +146,21 @@ fn feed_parts(alloc: Global) -> Result<Vec<Expression>>
 }
 
 /// What `seo` is given.
-fn seo_text(alloc: Global) -> Result<Vec<Expression>>
+fn seo_parts(alloc: Global) -> Result<Vec<Expression>>
     ensures { IsValueOrMemory (λ v. map expression_view v.items) result (seo_text ∷ []) }
 {
     let mut parts = Vec::with_capacity(alloc, 1)?;
+    parts.push(seo_text(alloc)?)?;
+    Ok(parts)
+}
+
+/// What `seo` writes.
+fn seo_text(alloc: Global) -> Result<Expression>
+    ensures { IsValueOrMemory expression_view result seo_text }
+{
     let name = String::from_str(alloc, "seo_tag")?;
     let indexes = Vec::new(alloc);
-    parts.push(Expression::Variable(Variable { name, indexes }))?;
-    Ok(parts)
+    Ok(Expression::Variable(Variable { name, indexes }))
 }
 
 /// A list of one part of the site.

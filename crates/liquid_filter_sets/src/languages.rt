@@ -2,13 +2,15 @@
 ghost use Rattle.std.specs.Prelude.{◌≡◌, IfErr, IfOk};
 ghost use Rattle.liquid_model.specs.Answer.{IsValueOrMemory};
 ghost use Rattle.liquid_model.specs.Maps.{insert, listed};
+ghost use Rattle.liquid_language.specs.Languages.{kinds_of};
 ghost use Rattle.liquid_language.specs.Registered.{registered_in};
 ghost use Rattle.liquid_language.specs.declared.registered_filter.RegisteredFilter.TheVariants.{Host};
 ghost use Rattle.liquid_filter_sets.specs.Languages.{HasDecimals, IsJekyll};
 ghost use Rattle.liquid_filter_sets.specs.Languages.{IsShopify};
 ghost use Rattle.liquid_filter_sets.specs.Languages.{with_converters, with_decimal_filters};
 ghost use Rattle.liquid_filter_sets.specs.Languages.{with_each_decimal};
-ghost use Rattle.liquid_filter_sets.specs.Languages.{with_jekyll_filters, with_kinds};
+ghost use Rattle.liquid_filter_sets.specs.Languages.{with_includes, with_jekyll_filters};
+ghost use Rattle.liquid_filter_sets.specs.Languages.{with_kinds};
 ghost use Rattle.liquid_filter_sets.specs.Languages.{with_shopify_filters, with_sites};
 
 use crate::conversion::{CONVERTERS, Converter};
@@ -18,7 +20,9 @@ use liquid_core::{ErrorKind, Result};
 use liquid_decimals::{DECIMAL_FILTERS, DecimalFilter};
 use liquid_filters::FilterKind;
 use liquid_jekyll_host_filters::{JEKYLL_FILTERS, JekyllFilter};
-use liquid_language::{FilterRegistry, Language, TagKind, TagReflection, jekyll, language};
+use liquid_language::{
+    FilterRegistry, Language, Registry, TagKind, TagReflection, jekyll, language,
+};
 use liquid_shopify_host_filters::{SHOPIFY_FILTERS, ShopifyKind};
 use std::alloc::Global;
 
@@ -32,11 +36,7 @@ pub fn jekyll_language(alloc: Global) -> Result<Language>
     ensures memory { IfErr result (λ e. e.kind ≡ ErrorKind.Memory) }
 {
     let mut language = language(alloc)?;
-    let include = jekyll::IncludeTag::new();
-    let name = String::from_str(alloc, include.tag())?;
-    language.tags.register(name, TagKind::from(include))?;
-    let name = String::from_str(alloc, "include_relative")?;
-    language.tags.register(name, TagKind::JekyllInclude)?;
+    register_includes(alloc, &mut language.tags)?;
     language.include_paths = true;
     language.drops_blanks = true;
     let name = String::from_str(alloc, "sort")?;
@@ -44,6 +44,19 @@ pub fn jekyll_language(alloc: Global) -> Result<Language>
     register_jekyll_filters(alloc, &mut language.filters)?;
     register_jekyll_tags(alloc, &mut language)?;
     Ok(language)
+}
+
+fn register_includes(alloc: Global, tags: &mut Registry<TagKind>) -> Result<()>
+    ensures { IsValueOrMemory (λ _. listed (kinds_of tags.new)) result
+        (with_includes (listed (kinds_of tags.old))) }
+{
+    let include = jekyll::IncludeTag::new();
+    let name = String::from_str(alloc, include.tag())?;
+    tags.register(name, TagKind::from(include))?;
+    tags.register(
+        String::from_str(alloc, "include_relative")?,
+        TagKind::JekyllInclude,
+    )
 }
 
 /// The language of Shopify's templates: the standard one with Shopify's tags, blocks and filters of
