@@ -1,5 +1,6 @@
 //! Values: literals, and variables with their steps.
-ghost use Rattle.std.specs.Prelude.{◌≡◌, [], IfOk, length};
+ghost use Rattle.std.specs.Prelude.{◌≡◌, [], ◌∷◌, ◌++◌, IfOk, length, string_bytes};
+ghost use Rattle.liquid_model.specs.Bytes.{question_mark};
 ghost use Rattle.liquid_model.specs.View.{view};
 ghost use Rattle.liquid_core.specs.ExpressionView.{steps_view};
 ghost use Rattle.liquid_model.specs.Whole.{whole_text};
@@ -7,7 +8,7 @@ ghost use Rattle.liquid_lexer.specs.inside.ValueFaults.{number_fault, value_faul
 ghost use Rattle.liquid_lexer.specs.Values.{word_kind};
 ghost use Rattle.liquid_lexer.specs.ValueReading.{word_value, inner_of, expression_at};
 ghost use Rattle.liquid_model.specs.Front.{literal_at};
-ghost use Rattle.liquid_lexer.specs.ValueReading.{member_name_at, step_at, steps_at};
+ghost use Rattle.liquid_lexer.specs.ValueReading.{step_at, steps_at};
 ghost use Rattle.liquid_lexer.specs.Readers.{Parses};
 ghost use Rattle.liquid_lexer.specs.PieceView.{word_kind_view, read_view};
 ghost use Rattle.std.specs.Option.{option_map};
@@ -163,7 +164,7 @@ fn read_steps(
 
 /// One step, `.word`, `.word?` or `[value]`, where one stands at the front.
 #[cycle(read_value)]
-#[tactic(auto, unfolding(crate::specs::ValueReading::step_at, crate::specs::ValueReading::index_at), using(crate::proofs::ValueLaws::inner_is, crate::proofs::ValueLaws::inner_none))]
+#[tactic(auto, unfolding(crate::specs::ValueReading::step_at, crate::specs::ValueReading::index_at, crate::specs::ValueReading::member_name_at), using(crate::proofs::ValueLaws::inner_is, crate::proofs::ValueLaws::inner_none))]
 fn read_step(
     alloc: Global,
     text: &str,
@@ -189,23 +190,24 @@ fn read_step(
     let Some(from) = past_byte(text, b'.') else {
         return Ok(None);
     };
-    Ok(read_member(alloc, from)?)
-}
-
-/// The name of a member, where one stands at the front.
-#[tactic(auto, unfolding(crate::specs::ValueReading::member_name_at))]
-fn read_member(alloc: Global, text: &str) -> Result<Option<(Expression, &str)>, AllocError>
-    ensures { IfOk result (λ o. option_map read_view o ≡ member_name_at text.now) }
-{
-    let Some((word, after)) = word(text) else {
+    let Some((name, rest)) = word(from) else {
         return Ok(None);
     };
-    let mut name = String::from_str(alloc, word)?;
-    let Some(rest) = past_byte(after, b'?') else {
-        return Ok(Some((Expression::Literal(Value::Text(name)), after)));
+    let name = String::from_str(alloc, name)?;
+    let Some(after) = past_byte(rest, b'?') else {
+        return Ok(Some((Expression::Literal(Value::Text(name)), rest)));
     };
+    Ok(Some((Expression::Literal(Value::Text(marked(name)?)), after)))
+}
+
+/// A member's name with its `?`. Few names have one, so it stays out of the cycle's code.
+#[inline(never)]
+fn marked(name: String) -> Result<String, AllocError>
+    ensures { IfOk result (λ t. string_bytes t ≡ string_bytes name ++ question_mark ∷ []) }
+{
+    let mut name = name;
     name.push_str("?")?;
-    Ok(Some((Expression::Literal(Value::Text(name)), rest)))
+    Ok(name)
 }
 
 /// The fault of a text that doesn't begin as it must: `Unclosed` where nothing is left, else
