@@ -29,10 +29,10 @@ abbrev pub conversions_in : Text → Pairs → Datum
 conversions_in name ps = found_in name (value_at (codes "conversions") ps)
 
 -- a text that the table lacks, or has without a text, is refused
-abbrev pub converted : Option Text → Answer
-converted None = Err InvalidInput
-converted (Some made) = Ok (text made)
+abbrev pub conversion_by : Option Text → Answer
+conversion_by None = Err InvalidInput
+conversion_by (Some made) = Ok (text made)
 
 -- what the table has under the input's text
 abbrev pub conversion_answer : Datum → Datum → List Datum → Answer
-conversion_answer table d args = converted (text_in (text_of d) table)
+conversion_answer table d args = conversion_by (text_in (text_of d) table)
