@@ -1,5 +1,5 @@
 //! Values: literals, and variables with their steps.
-ghost use Rattle.std.specs.Prelude.{◌≡◌, [], ◌∷◌, ◌++◌, IfOk, length, string_bytes};
+ghost use Rattle.std.specs.Prelude.{◌≡◌, [], ◌∷◌, ◌++◌, IfOk, length};
 ghost use Rattle.liquid_model.specs.Bytes.{question_mark};
 ghost use Rattle.liquid_model.specs.View.{view};
 ghost use Rattle.liquid_core.specs.ExpressionView.{steps_view};
@@ -8,7 +8,7 @@ ghost use Rattle.liquid_lexer.specs.inside.ValueFaults.{number_fault, value_faul
 ghost use Rattle.liquid_lexer.specs.Values.{word_kind};
 ghost use Rattle.liquid_lexer.specs.ValueReading.{word_value, inner_of, expression_at};
 ghost use Rattle.liquid_model.specs.Front.{literal_at};
-ghost use Rattle.liquid_lexer.specs.ValueReading.{step_at, steps_at};
+ghost use Rattle.liquid_lexer.specs.ValueReading.{member_step, step_at, steps_at};
 ghost use Rattle.liquid_lexer.specs.Readers.{Parses};
 ghost use Rattle.liquid_lexer.specs.PieceView.{word_kind_view, read_view};
 ghost use Rattle.std.specs.Option.{option_map};
@@ -193,21 +193,27 @@ fn read_step(
     let Some((name, rest)) = word(from) else {
         return Ok(None);
     };
+    if let Some(after) = past_byte(rest, b'?') {
+        return Ok(Some(marked_member(alloc, name, after)?));
+    }
     let name = String::from_str(alloc, name)?;
-    let Some(after) = past_byte(rest, b'?') else {
-        return Ok(Some((Expression::Literal(Value::Text(name)), rest)));
-    };
-    Ok(Some((Expression::Literal(Value::Text(marked(name)?)), after)))
+    Ok(Some((Expression::Literal(Value::Text(name)), rest)))
 }
 
-/// A member's name with its `?`. Few names have one, so it stays out of the cycle's code.
+/// A member whose name ends in `?`, before `after`. Few names do, so it stays out of the cycle's
+/// code.
 #[inline(never)]
-fn marked(name: String) -> Result<String, AllocError>
-    ensures { IfOk result (λ t. string_bytes t ≡ string_bytes name ++ question_mark ∷ []) }
+fn marked_member<'s>(
+    alloc: Global,
+    word: &str,
+    after: &'s str,
+) -> Result<(Expression, &'s str), AllocError>
+    ensures { IfOk result (λ x. read_view x
+        ≡ member_step (word.now ++ question_mark ∷ [], after.now)) }
 {
-    let mut name = name;
+    let mut name = String::from_str(alloc, word)?;
     name.push_str("?")?;
-    Ok(name)
+    Ok((Expression::Literal(Value::Text(name)), after))
 }
 
 /// The fault of a text that doesn't begin as it must: `Unclosed` where nothing is left, else
