@@ -71,7 +71,7 @@ named_by w bs rest (Some after) h e = with_mark (subst (Word w bs) (byte_some 63
 member_is : (w : List ℕ × List ℕ) (bs : List ℕ) → Word w.0 bs w.1 → IsMemberName (member_name w).0 bs (member_name w).1
 member_is w bs h = named_by w.0 bs w.1 (past_byte 63 w.1) h refl
 
-dot_takes : (d : ℕ) (from : List ℕ) (x : Option (Expression × List ℕ)) (o : Option (List ℕ × List ℕ)) → word_at from ≡ o → option_map (λ (w : List ℕ × List ℕ). member_step (member_name w)) o ≡ x → Stepped d (46 ∷ from) x
+dot_takes : (d : ℕ) (from : List ℕ) (x : Option (Expression × List ℕ)) (o : Option (List ℕ × List ℕ)) → word_at from ≡ o → option_map member_step (option_map member_name o) ≡ x → Stepped d (46 ∷ from) x
 unfolding Stepped
 dot_takes d from x None e h = subst (Stepped d (46 ∷ from)) h (no_letter_front from e)
 dot_takes d from x (Some w) e h = let m = member_is w from (word_takes from w e) in subst (Stepped d (46 ∷ from)) h ((λ vs rest s. is_member m s), omega (arith, member_shorter m))
@@ -87,7 +87,7 @@ module _ (d : ℕ) (inner : Reads Expression) (inner_takes : (bs : List ℕ) (x 
       (subst (Blank a.0.1) (byte_some 93 _ b.0 b.1) (blank_takes a.0.1)))
 
   member_takes : (bs : List ℕ) (x : Option (Expression × List ℕ)) (o : Option (List ℕ)) → past_byte 91 bs ≡ None → past_byte 46 bs ≡ o → member_at o ≡ x → Stepped d bs x
-  unfolding Stepped member_name_at
+  unfolding Stepped member_name_at member_word_at
   member_takes [] x o k e h = subst (Stepped d []) (ap member_at e ∙ h) refl
   member_takes (b ∷ bs) x None k e h = subst (Stepped d (b ∷ bs)) h (or_from _ _ (byte_none 91 b bs k) (rw (byte_none 46 b bs e)))
   member_takes (b ∷ bs) x (Some from) k e h = subst (λ (l : List ℕ). Stepped d l x) (sym (byte_some 46 (b ∷ bs) from e)) (dot_takes d from x (word_at from) refl h)
@@ -150,7 +150,7 @@ value_takes d bs x h = value_by_takes d (inner_of d) (inner_takes d) bs (word_at
 -- ---- values: what stands in the grammar is read
 
 no_member : (t : Bool) (bs : List ℕ) → (t && is_letter (get_or bs 0 0)) ≡ false → member_at (cond t (Some bs) None) ≡ None
-unfolding word_at member_name_at
+unfolding word_at member_name_at member_word_at
 no_member true bs h = rw h
 no_member false bs h = refl
 
@@ -164,7 +164,7 @@ no_mark_again [] h = refl
 no_mark_again (b ∷ bs) h = rw h
 
 name_again : (w bs rest : List ℕ) → IsMemberName w bs rest → member_name_at bs ≡ Some (literal (text w), rest)
-unfolding member_name_at
+unfolding member_name_at member_word_at
 name_again w bs rest (without_mark h e) = rw (word_again w bs rest h, no_mark_again rest e)
 name_again _ bs rest (with_mark {w = w} h) = rw (word_again w bs (63 ∷ rest) h)
 

@@ -27,8 +27,11 @@ abbrev pub member_step : List ℕ × List ℕ → Expression × List ℕ
 member_step m = (literal (text m.0), m.1)
 
 -- a member's name, or nothing
+unfoldable pub member_word_at : Reads (List ℕ)
+member_word_at bs = option_map member_name (word_at bs)
+
 unfoldable pub member_name_at : List ℕ → Option (Expression × List ℕ)
-member_name_at bs = option_map (λ w. member_step (member_name w)) (word_at bs)
+member_name_at bs = option_map member_step (member_word_at bs)
 
 -- `.` and a member's name, or nothing
 abbrev pub member_at : Option (List ℕ) → Option (Expression × List ℕ)

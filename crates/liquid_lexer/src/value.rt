@@ -1,6 +1,5 @@
 //! Values: literals, and variables with their steps.
-ghost use Rattle.std.specs.Prelude.{◌≡◌, [], ◌∷◌, ◌++◌, IfOk, length};
-ghost use Rattle.liquid_model.specs.Bytes.{question_mark};
+ghost use Rattle.std.specs.Prelude.{◌≡◌, [], length};
 ghost use Rattle.liquid_model.specs.View.{view};
 ghost use Rattle.liquid_core.specs.ExpressionView.{steps_view};
 ghost use Rattle.liquid_model.specs.Whole.{whole_text};
@@ -8,7 +7,7 @@ ghost use Rattle.liquid_lexer.specs.inside.ValueFaults.{number_fault, value_faul
 ghost use Rattle.liquid_lexer.specs.Values.{word_kind};
 ghost use Rattle.liquid_lexer.specs.ValueReading.{word_value, inner_of, expression_at};
 ghost use Rattle.liquid_model.specs.Front.{literal_at};
-ghost use Rattle.liquid_lexer.specs.ValueReading.{member_step, step_at, steps_at};
+ghost use Rattle.liquid_lexer.specs.ValueReading.{member_word_at, step_at, steps_at};
 ghost use Rattle.liquid_lexer.specs.Readers.{Parses};
 ghost use Rattle.liquid_lexer.specs.PieceView.{word_kind_view, read_view};
 ghost use Rattle.std.specs.Option.{option_map};
@@ -20,7 +19,7 @@ use liquid_core::{Expression, Variable};
 use liquid_model::{
     Value, number_len, past_byte, past_white, quoted, whole_number, whole_of, word,
 };
-use std::alloc::{AllocError, Global};
+use std::alloc::Global;
 
 /// What a word is where it opens a value.
 #[derive(Drop)]
@@ -190,30 +189,24 @@ fn read_step(
     let Some(from) = past_byte(text, b'.') else {
         return Ok(None);
     };
-    let Some((name, rest)) = word(from) else {
+    let Some((name, rest)) = member_name(from) else {
         return Ok(None);
     };
-    if let Some(after) = past_byte(rest, b'?') {
-        return Ok(Some(marked_member(alloc, name, after)?));
-    }
     let name = String::from_str(alloc, name)?;
     Ok(Some((Expression::Literal(Value::Text(name)), rest)))
 }
 
-/// A member whose name ends in `?`, before `after`. Few names do, so it stays out of the cycle's
-/// code.
-#[inline(never)]
-fn marked_member<'s>(
-    alloc: Global,
-    word: &str,
-    after: &'s str,
-) -> Result<(Expression, &'s str), AllocError>
-    ensures { IfOk result (λ x. read_view x
-        ≡ member_step (word.now ++ question_mark ∷ [], after.now)) }
+/// The name of a member at the front, a word with a `?` that stands right after it, and what
+/// follows it.
+#[tactic(auto, unfolding(crate::specs::ValueReading::member_word_at))]
+fn member_name(text: &str) -> Option<(&str, &str)>
+    ensures { option_map (λ w. (w.0.now, w.1.now)) result ≡ member_word_at text.now }
 {
-    let mut name = String::from_str(alloc, word)?;
-    name.push_str("?")?;
-    Ok((Expression::Literal(Value::Text(name)), after))
+    let (name, rest) = word(text)?;
+    match rest.as_bytes() {
+        [b'?', ..] => Some(text.split_at(name.len() + 1)),
+        _ => Some((name, rest)),
+    }
 }
 
 /// The fault of a text that doesn't begin as it must: `Unclosed` where nothing is left, else
