@@ -6,7 +6,7 @@ use Rattle.liquid_core.specs.Expression.{Expression, literal, Steps, step}
 use Rattle.liquid_model.specs.Bytes.{is_letter, is_digit, in_word}
 use Rattle.liquid_model.specs.Words.{passes, begins_with, Blank, Word, Quoted}
 use Rattle.liquid_lexer.specs.Values.{WordKind, name, constant, state, word_kind, dotted, step_begins, IsMemberName, without_mark, with_mark, IsValue, is_text, is_number, is_constant, is_variable, AreSteps, no_step, is_member, is_index}
-use Rattle.liquid_lexer.specs.ValueReading.{member_at, member_name, member_name_at, member_step, marked, index_at, step_by, step_at, more_steps, steps_at, word_value, value_by, expression_at, inner_of}
+use Rattle.liquid_lexer.specs.ValueReading.{member_at, member_name, member_name_at, member_word_at, member_step, marked, index_at, step_by, step_at, more_steps, steps_at, word_value, value_by, expression_at, inner_of}
 use Rattle.liquid_model.specs.Front.{Reads, past_white, past_byte, word_at, quoted_at, integer_at, literal_by, literal_at}
 use Rattle.liquid_model.proofs.WordLaws.{opens_value, bind_some, map_some, guard_none, from_some, blank_takes, blank_again, word_takes, word_again, quoted_takes, quoted_again, number_takes, number_again, number_front, byte_some, blank_shorter, word_shorter, quoted_shorter, number_shorter, number_no_quote, number_no_word, either}
 use Rattle.std.proofs.lemmas.List.{length-append}

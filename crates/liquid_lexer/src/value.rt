@@ -203,9 +203,9 @@ fn member_name(text: &str) -> Option<(&str, &str)>
     ensures { option_map (λ w. (w.0.now, w.1.now)) result ≡ member_word_at text.now }
 {
     let (name, rest) = word(text)?;
-    match rest.as_bytes() {
-        [b'?', ..] => Some(text.split_at(name.len() + 1)),
-        _ => Some((name, rest)),
+    match past_byte(rest, b'?') {
+        Some(_) => Some(text.split_at(name.len() + 1)),
+        None => Some((name, rest)),
     }
 }
 
