@@ -1,11 +1,11 @@
 -- A text may be cut after the `?` of a member's name.
-use Rattle.std.proofs.Common.{◌≡◌, ℕ, ◌+◌, ◌×◌, ◌∷◌, [], List, ◌++◌, drop, get_or, length, take, Option, Some, arith, ap, refl, subst, sym, ◌∙◌}
+use Rattle.std.proofs.Common.{◌≡◌, ℕ, ◌+◌, ◌∷◌, [], List, ◌++◌, drop, get_or, length, take, Some, arith, ap, refl, subst, sym, ◌∙◌}
 use Rattle.std.proofs.Common.{append_assoc}
 use Rattle.std.specs.Str.{IsUtf8, IsCharBoundary}
 use Rattle.std.proofs.lemmas.List.{length-append}
+use Rattle.std.proofs.lemmas.Str.{IsCharBoundary-after_ascii}
 use Rattle.std.proofs.Math.Seq.{take-append_seam, drop-append_seam}
 use Rattle.liquid_model.specs.Front.{word_at}
-use Rattle.liquid_model.proofs.Cuts.{after_ascii}
 use Rattle.liquid_model.proofs.WordLaws.{word_takes}
 
 at_seam : (w after : List ℕ) → get_or (w ++ (63 ∷ after)) (length w) 0 ≡ 63
@@ -20,7 +20,7 @@ pub marked_cut : (bs w after : List ℕ) → IsUtf8 bs → bs ≡ w ++ (63 ∷ a
 marked_cut bs w after u e =
     let long = ap (length {A = ℕ}) e ∙ length-append w (63 ∷ after) in
     let seam = ap (λ (l : List ℕ). get_or l (length w) 0) e ∙ at_seam w after in
-    after_ascii bs (length w + 1) u (omega (arith, long)) (λ some. omega (arith, seam))
+    subst (IsCharBoundary bs) (omega arith) (IsCharBoundary-after_ascii bs (length w) u (omega (arith, long)) (omega (arith, seam)))
 
 whole : (w after : List ℕ) → w ++ (63 ∷ after) ≡ (w ++ (63 ∷ [])) ++ after
 whole w after = sym (append_assoc w (63 ∷ []) after)
