@@ -41,14 +41,14 @@ pub record IsReadFor (uses : UsesByName) (whole read : Pairs) : Type 0 where
       SamePages partials nodes whole read
 
 -- data that are read so from the text of JSON
-abbrev pub IsReadFrom : UsesByName → Text → Outer → Type 0
-IsReadFrom uses source d = (whole : Pairs) × (data_of source ≡ Ok whole)
+abbrev pub IsDataRead : UsesByName → Text → Outer → Type 0
+IsDataRead uses source d = (whole : Pairs) × (data_of source ≡ Ok whole)
     × IsReadFor uses whole (pairs_view d.entries)
 
 -- such data, with the uses;  or why it gives none, as where all is read
 abbrev pub ReadsFor : UsesByName → Text → Result Content Refusal → Type 0
 ReadsFor uses source (Ok (content.DataPart d kept)) =
-    (arc_value kept ≡ uses) × IsReadFrom uses source d
+    (arc_value kept ≡ uses) × IsDataRead uses source d
 ReadsFor uses source (Ok (content.Fault e)) = Faulted e.kind (data_of source)
 ReadsFor uses source _ = ⊥
 
