@@ -1,7 +1,7 @@
 //! Runs over data that were read for paths.
 ghost use Rattle.std.specs.Prelude.{◌≡◌, IfErr, IfOk, MatchOption, option_map};
 ghost use Rattle.liquid_syntax.specs.Templates.{partials_of, tree_of};
-ghost use Rattle.liquid_c.specs.Served.{Covers, IsServed, IsUnserved};
+ghost use Rattle.liquid_c.specs.Served.{Covers, IsServed, IsUnserved, Unserves};
 
 use crate::content::Content;
 use crate::refusal::Refusal;
@@ -13,7 +13,6 @@ use std::alloc::Global;
 
 /// What a call answers whose run isn't begun, since its data were read for paths and it asks for
 /// more; nothing where the data serve it.
-#[tactic(auto, using(crate::proofs::ServedRuns::serves))]
 pub(crate) fn unserved(
     alloc: Global,
     data: Option<&Content>,
@@ -29,9 +28,24 @@ pub(crate) fn unserved(
     let Some(Content::DataPart(_, uses)) = data else {
         return None;
     };
-    let Some(partials) = partials else {
-        return None;
-    };
+    match partials {
+        Some(partials) => unserved_by(alloc, uses, template, partials),
+        None => None,
+    }
+}
+
+/// The same of data that were read for these uses.
+#[tactic(auto, using(crate::proofs::ServedRuns::serves))]
+fn unserved_by(
+    alloc: Global,
+    uses: &Uses,
+    template: &Template,
+    partials: &Partials,
+) -> Option<Result<Content, Refusal>>
+    ensures { MatchOption result
+        (Covers (partials_of partials.now) (tree_of template.now) uses.now)
+        (Unserves uses.now (partials_of partials.now) (tree_of template.now)) }
+{
     match asked_uses(alloc, template, partials) {
         Ok(asked) => {
             if includes_all(uses, &asked) {
