@@ -17,7 +17,7 @@ use crate::fault::{Fault, FaultKind, ParseError};
 use crate::scan::is_dotted;
 use liquid_core::{Expression, Variable};
 use liquid_model::{
-    Value, number_len, past_byte, past_white, quoted, whole_number, whole_of, word,
+    Value, number_len, past_byte, past_white, push_first, quoted, whole_number, whole_of, word,
 };
 use std::alloc::Global;
 
@@ -155,7 +155,7 @@ fn read_steps(
     let mut steps = Vec::new(alloc);
     let mut rest = text;
     'steps: while let Some((step, after)) = read_step(alloc, rest, depth)? {
-        steps.push(step)?;
+        push_first(&mut steps, step)?;
         rest = after;
     }
     Ok((steps, rest))
