@@ -1,5 +1,5 @@
--- The nodes of a list, each as a node of the tree with nothing in its bodies: what a definition over
--- trees says of one is what it says of the node itself.
+-- The nodes of a list, each as a node of the tree with nothing in its bodies: what a definition
+-- over trees says of one is what it says of the node itself.
 --     own_node n      of a node;   own_nodes ns      of the nodes of a list
 --     own_whens vss      the `when` parts of a `case` with these values
 use Rattle.std.specs.Prelude.{List, [], ◌∷◌, map}
