@@ -8,7 +8,7 @@ use Rattle.liquid_model.specs.Texts.{Text}
 use Rattle.liquid_files.specs.Files.{File, Files, gone, holds, unreadable, with_file, IsPut, IsSet}
 use Rattle.liquid_files.specs.Parts.{is_part_path, without_parts, files_below, IsKept, with_page, TakesPlace}
 use Rattle.liquid_files.specs.Stories.{OnlyChanges, DifferAt, Each, Between, IsFilled, IsMade, IsRenamed, IsTakenAway, Since, Story}
-use Rattle.liquid_files.specs.Contents.{content_of, is_of_pages}
+use Rattle.liquid_files.specs.Contents.{filled_with, is_of_pages}
 use Rattle.liquid_files.specs.declared.system.Content.{Content}
 use Rattle.liquid_files.specs.declared.system.Content.TheVariants as content
 use Rattle.liquid_files.specs.declared.disk.DiskFault.{DiskFault}
@@ -103,7 +103,7 @@ abbrev pub Held : Text → (Files → File) → Story → Story → Type 0
 Held part held a b = b.now part ≡ held (without_parts a.now)
 
 -- a content that is no part is as it is without parts
-of_pages : (c : Content) (f : Files) → is_of_pages c ≡ true → content_of c f ≡ content_of c (without_parts f)
+of_pages : (c : Content) (f : Files) → is_of_pages c ≡ true → filled_with c f ≡ filled_with c (without_parts f)
 unfolding without_parts
 of_pages (content.Text text) f is = refl
 of_pages (content.Copy path) f is = at (is_part_path path.now) is
@@ -112,10 +112,10 @@ of_pages (content.Copy path) f is = at (is_part_path path.now) is
     at true e = absurd cc
     at false e = refl
 
-pub filled_holds : (a b : Option Story) (part : Text) (c : Content) → is_of_pages c ≡ true → Between (IsFilled part (content_of c)) a b → Between (Held part (content_of c)) a b
+pub filled_holds : (a b : Option Story) (part : Text) (c : Content) → is_of_pages c ≡ true → Between (IsFilled part (filled_with c)) a b → Between (Held part (filled_with c)) a b
 filled_holds None b part c is s = tt
 filled_holds (Some a) None part c is s = s
-filled_holds (Some a) (Some b) part c is s = ap (λ f. f part) s.0 ∙ own_file a.now part (content_of c a.now) ∙ of_pages c a.now is
+filled_holds (Some a) (Some b) part c is s = ap (λ f. f part) s.0 ∙ own_file a.now part (filled_with c a.now) ∙ of_pages c a.now is
 
 -- what holds at the end, from an earlier beginning on
 pub held_since : (a b c : Option Story) (part : Text) (held : Files → File) → Between IsKept a b → Between (Held part held) b c → Between (Held part held) a c

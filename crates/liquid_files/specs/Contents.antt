@@ -1,5 +1,5 @@
 -- What is put into a file.
---     content_of content files      what the file is then, by the files before: the text, or what
+--     filled_with content files      what the file is then, by the files before: the text, or what
 --       the file at another path is
 --     is_of_pages content      it is no copy of a part
 use Rattle.std.specs.Prelude.{Bool, true, not}
@@ -8,9 +8,9 @@ use Rattle.liquid_files.specs.Parts.{is_part_path}
 use Rattle.liquid_files.specs.declared.system.Content.{Content}
 use Rattle.liquid_files.specs.declared.system.Content.TheVariants.{Text, Copy}
 
-abbrev pub content_of : Content → Files → File
-content_of (Text text) files = holds text.now
-content_of (Copy path) files = files path.now
+abbrev pub filled_with : Content → Files → File
+filled_with (Text text) files = holds text.now
+filled_with (Copy path) files = files path.now
 
 abbrev pub is_of_pages : Content → Bool
 is_of_pages (Text text) = true

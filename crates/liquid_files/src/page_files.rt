@@ -2,7 +2,7 @@
 ghost use Rattle.std.specs.Prelude.{◌≡◌, ◌++◌, ◌≤◌, IfOk, IfSome, OnErr, OnOk, false, true};
 ghost use Rattle.std.specs.Prelude.{string_bytes};
 ghost use Rattle.std.specs.BTreeSet.{contains};
-ghost use Rattle.liquid_files.specs.Contents.{content_of, is_of_pages};
+ghost use Rattle.liquid_files.specs.Contents.{filled_with, is_of_pages};
 ghost use Rattle.liquid_files.specs.Files.{gone, holds};
 ghost use Rattle.liquid_files.specs.Names.{hidden_names};
 ghost use Rattle.liquid_files.specs.Parts.{IsKept, TakesPlace, is_part_path};
@@ -149,7 +149,7 @@ impl<S: FileSystem> PageFiles<S> {
     /// Puts a page into the file at a path: all of it, or the file holds what it held.
     pub(crate) fn put(&mut self, path: &str, content: Content<'_>) -> Result<(), DiskFault>
         requires { is_of_pages content ≡ true }
-        ensures placed { OnOk result (Between (TakesPlace path.now (content_of content.entry))
+        ensures placed { OnOk result (Between (TakesPlace path.now (filled_with content.entry))
             (S.story self.old.system) (S.story self.new.system)) }
         ensures kept { OnErr result (Between IsKept (S.story self.old.system)
             (S.story self.new.system)) }
@@ -279,7 +279,7 @@ impl<S: FileSystem> PageFiles<S> {
         requires page { is_part_path draft.path.now ≡ false }
         requires source { is_of_pages draft.content ≡ true }
         ensures placed { OnOk result (Between (TakesPlace draft.entry.path.now
-            (content_of draft.entry.content)) (S.story self.old.system)
+            (filled_with draft.entry.content)) (S.story self.old.system)
             (S.story self.new.system)) }
         ensures kept { OnErr result (Between IsKept (S.story self.old.system)
             (S.story self.new.system)) }
@@ -306,7 +306,7 @@ impl<S: FileSystem> PageFiles<S> {
         requires page { is_part_path draft.path.now ≡ false }
         requires source { is_of_pages draft.content ≡ true }
         ensures placed { OnOk result (Between (TakesPlace draft.entry.path.now
-            (content_of draft.entry.content)) (S.story self.old.system)
+            (filled_with draft.entry.content)) (S.story self.old.system)
             (S.story self.new.system)) }
         ensures kept { OnErr result (Between IsKept (S.story self.old.system)
             (S.story self.new.system)) }

@@ -1,6 +1,6 @@
 //! A page that takes its place whole.
 ghost use Rattle.std.specs.Prelude.{◌≡◌, OnErr, OnOk, false, true};
-ghost use Rattle.liquid_files.specs.Contents.{content_of, is_of_pages};
+ghost use Rattle.liquid_files.specs.Contents.{filled_with, is_of_pages};
 ghost use Rattle.liquid_files.specs.Parts.{IsKept, TakesPlace, is_part_path, without_parts};
 ghost use Rattle.liquid_files.specs.Stories.{Between};
 
@@ -9,8 +9,8 @@ use std::alloc::Global;
 use std::collections::BTreeMap;
 use std::io;
 
-/// A page to be written: its path, what it holds, and who may read and write it, where that isn't as
-/// for any new file.
+/// A page to be written: its path, what it holds, and who may read and write it, where that is not
+/// as for any new file.
 #[derive(Clone, Copy)]
 pub(crate) struct Draft<'t> {
     pub path: &'t str,
@@ -36,7 +36,7 @@ pub(crate) fn put_whole<S: FileSystem>(
     requires page { is_part_path draft.path.now ≡ false }
     requires source { is_of_pages draft.content ≡ true }
     ensures placed { OnOk result (Between (TakesPlace draft.entry.path.now
-        (content_of draft.entry.content)) (S.story system.old) (S.story system.new)) }
+        (filled_with draft.entry.content)) (S.story system.old) (S.story system.new)) }
     ensures kept { OnErr result (Between IsKept (S.story system.old) (S.story system.new)) }
 {
     let path = String::from_str(alloc, draft.path)?;
@@ -66,7 +66,7 @@ fn new_part<S: FileSystem>(
     requires source { is_of_pages content ≡ true }
     ensures kept { Between IsKept (S.story system.old) (S.story system.new) }
     ensures held { OnOk result (Between
-        (λ o n. n.now part.now ≡ content_of content.entry (without_parts o.now))
+        (λ o n. n.now part.now ≡ filled_with content.entry (without_parts o.now))
         (S.story system.old) (S.story system.new)) }
 {
     system.make(part, mode)?;
@@ -85,7 +85,7 @@ fn filled<S: FileSystem>(system: &mut S, part: &str, content: Content<'_>) -> io
     requires source { is_of_pages content ≡ true }
     ensures kept { Between IsKept (S.story system.old) (S.story system.new) }
     ensures held { OnOk result (Between
-        (λ o n. n.now part.now ≡ content_of content.entry (without_parts o.now))
+        (λ o n. n.now part.now ≡ filled_with content.entry (without_parts o.now))
         (S.story system.old) (S.story system.new)) }
 {
     system.fill(part, content)?;

@@ -1,7 +1,7 @@
 //! What a system does with its files.
 ghost use Rattle.std.specs.Prelude.{◌≡◌, None, Option, IfOk, IfSome, OnErr, OnOk};
 ghost use Rattle.liquid_model.specs.Texts.{Text};
-ghost use Rattle.liquid_files.specs.Contents.{content_of};
+ghost use Rattle.liquid_files.specs.Contents.{filled_with};
 ghost use Rattle.liquid_files.specs.Files.{IsFound};
 ghost use Rattle.liquid_files.specs.Stories.{Between, IsFilled, IsMade, IsRenamed, IsTakenAway};
 ghost use Rattle.liquid_files.specs.Stories.{OnlyChanges, Story};
@@ -80,7 +80,7 @@ pub trait FileSystem {
     /// Writes a text, or what another file holds, into the file that was made last, which is at
     /// this path.
     fn fill(&mut self, path: &str, content: Content<'_>) -> io::Result<()>
-        ensures filled { OnOk result (Between (IsFilled path.now (content_of content.entry))
+        ensures filled { OnOk result (Between (IsFilled path.now (filled_with content.entry))
             (story self.old) (story self.new)) }
         ensures unfilled { OnErr result (Between (OnlyChanges path.now) (story self.old)
             (story self.new)) };

@@ -1,4 +1,4 @@
-use Rattle.liquid_files.specs.Contents.{content_of}
+use Rattle.liquid_files.specs.Contents.{filled_with}
 use Rattle.liquid_files.proofs.Told.{held_since, kept_both, part_made, part_taken_away}
 use Rattle.liquid_files.proofs.put.new_part.Goals as goal
 
@@ -11,7 +11,7 @@ returns-in-Ok-clause-kept g c =
 pub returns-in-Ok-clause-held : goal.returns-in-Ok-clause-held
 returns-in-Ok-clause-held g c =
     let story = g.S.FileSystem.story in
-    held_since (story c.args.system.now) (story c.make.new.self) (story c.filled.new.system) c.args.part.now (content_of c.args.content)
+    held_since (story c.args.system.now) (story c.make.new.self) (story c.filled.new.system) c.args.part.now (filled_with c.args.content)
     (part_made (story c.args.system.now) (story c.make.new.self) c.args.part.now c.requires.part c.in_ok-make.ensures.made) c.in-Ok.ensures.held
 
 pub returns-in-Err-clause-kept : goal.returns-in-Err-clause-kept

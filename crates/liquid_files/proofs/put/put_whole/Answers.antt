@@ -1,4 +1,4 @@
-use Rattle.liquid_files.specs.Contents.{content_of}
+use Rattle.liquid_files.specs.Contents.{filled_with}
 use Rattle.liquid_files.proofs.Told.{kept_both, kept_same, part_taken_away, placed}
 use Rattle.liquid_files.proofs.put.put_whole.Goals as goal
 
@@ -11,7 +11,7 @@ returns-in-Err-clause-kept g c =
 pub returns-in-Ok-clause-placed : goal.returns-in-Ok-clause-placed
 returns-in-Ok-clause-placed g c =
     let story = g.S.FileSystem.story in
-    placed (story c.args.system.now) (story c.new_part.new.system) (story c.rename.new.self) c.args.part.now c.args.draft.path.now (content_of c.args.draft.content)
+    placed (story c.args.system.now) (story c.new_part.new.system) (story c.rename.new.self) c.args.part.now c.args.draft.path.now (filled_with c.args.draft.content)
     c.requires.part c.requires.page c.new_part.ensures.kept c.in_ok-id.ensures.held c.in-Ok.ensures.renamed
 
 pub returns-in-Err-rename-clause-kept : goal.returns-in-Err-rename-clause-kept
