@@ -117,8 +117,8 @@ uint32_t bikleinu_register(bikleinu_handle *language, const uint8_t *name, size_
 
 /* Registers the names of Jekyll's own filters, which bikleinu_answers_jekyll (below) lets the library answer, in a language: relative_url,
  * absolute_url, the four of dates, xml_escape, cgi_escape, uri_escape, jsonify, normalize_whitespace, number_of_words, to_integer,
- * array_to_sentence_string, group_by, where, find and where_exp, and highlight, link, post_url and feed_meta, which tags of Jekyll's call. What
- * such a name stood for before is forgotten. After BIKLEINU_MEMORY some may be registered; after any other number but 0 nothing changed. */
+ * array_to_sentence_string, group_by, where, find and where_exp, and highlight, link, post_url, feed_meta and seo, which tags of Jekyll's call.
+ * What such a name stood for before is forgotten. After BIKLEINU_MEMORY some may be registered; after any other number but 0 nothing changed. */
 uint32_t bikleinu_register_jekyll(bikleinu_handle *language);
 
 /* Sets of filters that the library has itself. */
