@@ -7,7 +7,7 @@ ghost use Rattle.liquid_lexer.specs.inside.ValueFaults.{number_fault, value_faul
 ghost use Rattle.liquid_lexer.specs.Values.{word_kind};
 ghost use Rattle.liquid_lexer.specs.ValueReading.{word_value, inner_of, expression_at};
 ghost use Rattle.liquid_model.specs.Front.{literal_at};
-ghost use Rattle.liquid_lexer.specs.ValueReading.{step_at, steps_at};
+ghost use Rattle.liquid_lexer.specs.ValueReading.{member_word_at, step_at, steps_at};
 ghost use Rattle.liquid_lexer.specs.Readers.{Parses};
 ghost use Rattle.liquid_lexer.specs.PieceView.{word_kind_view, read_view};
 ghost use Rattle.std.specs.Option.{option_map};
@@ -161,9 +161,9 @@ fn read_steps(
     Ok((steps, rest))
 }
 
-/// One step, `.word` or `[value]`, where one stands at the front.
+/// One step, `.word`, `.word?` or `[value]`, where one stands at the front.
 #[cycle(read_value)]
-#[tactic(auto, unfolding(crate::specs::ValueReading::step_at, crate::specs::ValueReading::index_at), using(crate::proofs::ValueLaws::inner_is, crate::proofs::ValueLaws::inner_none))]
+#[tactic(auto, unfolding(crate::specs::ValueReading::step_at, crate::specs::ValueReading::index_at, crate::specs::ValueReading::member_name_at), using(crate::proofs::ValueLaws::inner_is, crate::proofs::ValueLaws::inner_none))]
 fn read_step(
     alloc: Global,
     text: &str,
@@ -189,11 +189,24 @@ fn read_step(
     let Some(from) = past_byte(text, b'.') else {
         return Ok(None);
     };
-    let Some((name, rest)) = word(from) else {
+    let Some((name, rest)) = member_name(from) else {
         return Ok(None);
     };
     let name = String::from_str(alloc, name)?;
     Ok(Some((Expression::Literal(Value::Text(name)), rest)))
+}
+
+/// The name of a member at the front, a word with a `?` that stands right after it, and what
+/// follows it.
+#[tactic(auto, unfolding(crate::specs::ValueReading::member_word_at))]
+fn member_name(text: &str) -> Option<(&str, &str)>
+    ensures { option_map (λ w. (w.0.now, w.1.now)) result ≡ member_word_at text.now }
+{
+    let (name, rest) = word(text)?;
+    match past_byte(rest, b'?') {
+        Some(_) => Some(text.split_at(name.len() + 1)),
+        None => Some((name, rest)),
+    }
 }
 
 /// The fault of a text that doesn't begin as it must: `Unclosed` where nothing is left, else
