@@ -1,7 +1,7 @@
 //! The names of files: below a folder, without a suffix, and given by NAME=FILE.
 ghost use Rattle.std.specs.Prelude.{◌≡◌, ◌<◌, IfOk, option_map, string_bytes};
 ghost use Rattle.std.specs.List.{list_all};
-ghost use Rattle.std.specs.Path.{rsplit_once, slash};
+ghost use Rattle.std.specs.Path.{dot, rsplit_once, slash};
 ghost use Rattle.liquid_files.specs.FileNames.{are_names, ends_with_slash, is_no_slash};
 ghost use Rattle.liquid_files.specs.FileNames.{joined_path, named_file, parts_view};
 ghost use Rattle.liquid_files.specs.FileNames.{suffix_parts, without_suffix};
