@@ -170,17 +170,23 @@ all_done (Some f) (Some g) all left r u none ok on =
 -- ---- the list ahead
 
 -- whether the list is that of what is built
-is_built : (f : Files) (list text : Text) (held : Option (Bor Text)) (fs : BuiltFiles) (b : Bool) → f list ≡ list_file held → b ≡ is_held (list_file held) text → text ≡ list_text (built_names fs) → is_held (f list) (list_text (built_names fs)) ≡ b
+is_built : (f : Files) (list text : Text) (held : Option (String Global)) (fs : BuiltFiles) (b : Bool) → f list ≡ list_file held → b ≡ is_held (list_file held) text → text ≡ list_text (built_names fs) → is_held (f list) (list_text (built_names fs)) ≡ b
 is_built f list text held fs b at is same = (λ i. is_held (at i) (list_text (built_names fs))) ∙ sym (ap (is_held (list_file held)) same) ∙ sym is
 
-pub ahead_none : {E : Type 0} (o : Option Files) (list text : Text) (held : Option (Bor Text)) (fs : BuiltFiles) (names : List Text) (b : Bool) (r : Result (Unit {0}) E) (u : Unit {0}) → IfSome o (λ f. f list ≡ list_file held) → b ≡ is_held (list_file held) text
-    → text ≡ list_text (built_names fs) → b ≡ true → r ≡ Ok u → IfSome o (λ f. AreSet (list_ahead list fs names f) f r o)
-ahead_none None list text held fs names b r u at is same yes ok = tt
-ahead_none (Some f) list text held fs names b r u at is same yes ok =
-    let none : list_ahead list fs names f ≡ [] = ap (λ x. cond x [] (list_setting list (names ++ built_names fs))) (is_built f list text held fs b at is same ∙ yes) in
-    subst (λ x. AreSet (list_ahead list fs names f) f x (Some f)) (sym ok) (subst (λ ss. AreSet {E = E} ss f (Ok u) (Some f)) (sym none) refl)
+pub set_none : {E : Type 0} (o : Option Files) (ss : List Setting) (r : Result (Unit {0}) E) (u : Unit {0}) → ss ≡ [] → r ≡ Ok u → IfSome o (λ f. AreSet ss f r o)
+set_none None ss r u none ok = tt
+set_none {E = E} (Some f) ss r u none ok = subst (λ x. AreSet ss f x (Some f)) (sym ok) (subst (λ l. AreSet {E = E} l f (Ok u) (Some f)) (sym none) refl)
 
-pub ahead_set : {E : Type 0} (o v : Option Files) (list given text ahead : Text) (held : Option (Bor Text)) (fs : BuiltFiles) (names : List Text) (b : Bool) (r : Result (Unit {0}) E) → IfSome o (λ f. f list ≡ list_file held) → b ≡ is_held (list_file held) text
+pub set_one : {E : Type 0} (o v : Option Files) (ss : List Setting) (path : Text) (held : Files → File) (r : Result (Unit {0}) E) → ss ≡ (path, held) ∷ [] → IfSome o (λ f. IsSet path (held f) f r v) → IfSome o (λ f. AreSet ss f r v)
+set_one o v ss path held r one set = subst (λ l. IfSome o (λ f. AreSet l f r v)) (sym one) (one_set o v path held r set)
+
+pub ahead_none : {E : Type 0} (o : Option Files) (list text : Text) (held : Option (String Global)) (fs : BuiltFiles) (names : List Text) (b : Bool) (r : Result (Unit {0}) E) (u : Unit {0}) → IfSome o (λ f. f list ≡ list_file held) → b ≡ is_held (list_file held) text
+    → text ≡ list_text (built_names fs) → b ≡ true → r ≡ Ok u → IfSome o (λ f. AreSet (list_ahead list fs names f) f r o)
+ahead_none None list text held fs names b r u at is same holds_it ok = tt
+ahead_none (Some f) list text held fs names b r u at is same holds_it ok =
+    set_none (Some f) (list_ahead list fs names f) r u (ap (λ x. cond x [] (list_setting list (names ++ built_names fs))) (is_built f list text held fs b at is same ∙ holds_it)) ok
+
+pub ahead_set : {E : Type 0} (o v : Option Files) (list given text ahead : Text) (held : Option (String Global)) (fs : BuiltFiles) (names : List Text) (b : Bool) (r : Result (Unit {0}) E) → IfSome o (λ f. f list ≡ list_file held) → b ≡ is_held (list_file held) text
     → text ≡ list_text (built_names fs) → b ≡ false → given ≡ list → ahead ≡ list_text (names ++ built_names fs) → IfSome o (λ f. IsSet given (holds ahead) f r v) → IfSome o (λ f. AreSet (list_ahead list fs names f) f r v)
 ahead_set None v list given text ahead held fs names b r at is same other there whole set = tt
 ahead_set (Some f) v list given text ahead held fs names b r at is same other there whole set =
@@ -190,24 +196,24 @@ ahead_set (Some f) v list given text ahead held fs names b r at is same other th
 
 -- ---- what is taken away
 
-next_word : (ns : List (Bor Text)) (i : ℕ) (n : Bor Text) → n ≡ get_or ns i n → i < length ns → words (drop i ns) ≡ n.now ∷ words (drop (i + 1) ns)
-next_word ns i n is lt = ap words (rw add-one (drop-cons ns i n lt ∙ ap (λ m. m ∷ drop (suc i) ns) (sym is)))
+next_one : {X : Type 0} (xs : List X) (i : ℕ) (d : X) → i < length xs → drop i xs ≡ get_or xs i d ∷ drop (i + 1) xs
+next_one xs i d lt = rw add-one (drop-cons xs i d lt)
 
 -- the removals that are left are that of the next name, and those after it
-pub next_removal : (out : Text) (fs : BuiltFiles) (ns : List (Bor Text)) (i : ℕ) (n : Bor Text) → n ≡ get_or ns i n → i < length ns
-    → removals out fs (words (drop i ns)) ≡ removal out n.now (listed fs n.now) ++ removals out fs (words (drop (i + 1) ns))
-next_removal out fs ns i n is lt = ap (removals out fs) (next_word ns i n is lt)
+pub next_removal : (out : Text) (fs : BuiltFiles) (ns : List (Bor Text)) (i : ℕ) (d : Bor Text) → i < length ns
+    → removals out fs (words (drop i ns)) ≡ removal out (get_or ns i d).now (listed fs (get_or ns i d).now) ++ removals out fs (words (drop (i + 1) ns))
+next_removal out fs ns i d lt = ap (λ l. removals out fs (words l)) (next_one ns i d lt)
 
 is_built_file : (r : Option (Bor BuiltFile)) (out name : Text) → is_some r ≡ true → removal out name (option_map built_file_view (option_copied r)) ≡ []
-is_built_file None out name yes = absurd cc
-is_built_file (Some x) out name yes = refl
+is_built_file None out name h = absurd cc
+is_built_file (Some x) out name h = refl
 
 is_no_built_file : (r : Option (Bor BuiltFile)) (out name : Text) → is_some r ≡ false → removal out name (option_map built_file_view (option_copied r)) ≡ (out ++ name, λ _. gone) ∷ []
-is_no_built_file None out name none = refl
-is_no_built_file (Some x) out name none = absurd cc
+is_no_built_file None out name h = refl
+is_no_built_file (Some x) out name h = absurd cc
 
 pub removes_none : (r : Option (Bor BuiltFile)) (out name : Text) (es : List (String Global × BuiltFile)) → option_copied r ≡ lookup (named name) es → is_some r ≡ true → removal out name (listed (seen built_file_view es) name) ≡ []
-removes_none r out name es found yes = ap (removal out name) (sym (looked_up built_file_view name es)) ∙ sym (ap (λ o. removal out name (option_map built_file_view o)) found) ∙ is_built_file r out name yes
+removes_none r out name es found h = ap (removal out name) (sym (looked_up built_file_view name es)) ∙ sym (ap (λ o. removal out name (option_map built_file_view o)) found) ∙ is_built_file r out name h
 
 pub removes_one : (r : Option (Bor BuiltFile)) (out name : Text) (es : List (String Global × BuiltFile)) → option_copied r ≡ lookup (named name) es → is_some r ≡ false → removal out name (listed (seen built_file_view es) name) ≡ (out ++ name, λ _. gone) ∷ []
-removes_one r out name es found none = ap (removal out name) (sym (looked_up built_file_view name es)) ∙ sym (ap (λ o. removal out name (option_map built_file_view o)) found) ∙ is_no_built_file r out name none
+removes_one r out name es found h = ap (removal out name) (sym (looked_up built_file_view name es)) ∙ sym (ap (λ o. removal out name (option_map built_file_view o)) found) ∙ is_no_built_file r out name h

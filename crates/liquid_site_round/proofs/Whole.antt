@@ -1,6 +1,5 @@
 -- A site that is written over what was there, and one that isn't.
-use Rattle.std.specs.Prelude.{◌≡◌, ◌⊎◌, ◌++◌, List, [], ◌∷◌, Option, Some, None, IfSome, OnErr, OnOk, IsErr, Result, Ok, Err}
-use Rattle.std.specs.Borrow.{Bor}
+use Rattle.std.specs.Prelude.{◌≡◌, ◌⊎◌, ◌++◌, List, [], ◌∷◌, Option, Some, None, IfSome, OnErr, OnOk, IsErr, Result, Ok, Err, ⊤}
 use Rattle.std.proofs.Common.{inl, inr}
 use mathlib.Core.Path.{refl, sym, ap, subst, ◌∙◌}
 use Rattle.liquid_model.specs.Texts.{Text}
@@ -13,20 +12,20 @@ use Rattle.liquid_site_round.specs.SiteWriting.{BuiltFiles, IsBegun, IsWritten, 
 use Rattle.liquid_site_round.specs.WrittenNames.{names_listed}
 use Rattle.liquid_site_round.specs.inside.Settled.{list_file, text_or_empty}
 
-of_held : (held : Option (Bor Text)) (names : List Text) → Ok names ≡ names_listed (text_or_empty held) → names_in (list_file held) ≡ Ok names
+of_held : (held : Option (String Global)) (names : List Text) → Ok names ≡ names_listed (text_or_empty held) → names_in (list_file held) ≡ Ok names
 of_held None names h = (let e : Ok [] ≡ names_listed [] = refl in ap names_or_line e ∙ ap names_or_line (sym h))
 of_held (Some text) names h = ap names_or_line (sym h)
 
-before_is : (f : Files) (out given : Text) (held : Option (Bor Text)) (names : List Text) → f (out ++ list_name) ≡ list_file held → given ≡ text_or_empty held → Ok names ≡ names_listed given → names_before out f ≡ Ok names
+before_is : (f : Files) (out given : Text) (held : Option (String Global)) (names : List Text) → f (out ++ list_name) ≡ list_file held → given ≡ text_or_empty held → Ok names ≡ names_listed given → names_before out f ≡ Ok names
 before_is f out given held names at is h = ap names_in at ∙ of_held held names (h ∙ ap names_listed is)
 
-pub as_written : {E : Type 0} (o v : Option Files) (source out given : Text) (fs : BuiltFiles) (held : Option (Bor Text)) (names : List Text) (r : Result (Unit {0}) E) → IfSome o (λ f. f (out ++ list_name) ≡ list_file held) → given ≡ text_or_empty held → Ok names ≡ names_listed given
+pub as_written : {E : Type 0} (o v : Option Files) (source out given : Text) (fs : BuiltFiles) (held : Option (String Global)) (names : List Text) (r : Result (Unit {0}) E) → IfSome o (λ f. f (out ++ list_name) ≡ list_file held) → given ≡ text_or_empty held → Ok names ≡ names_listed given
     → IfSome o (λ f. AreSet (site_settings source out fs names f) f r v) → IfSome o (λ f. OnOk r (IsWritten source out fs f v))
 as_written None v source out given fs held names r at is h set = tt
 as_written (Some f) v source out given fs held names (Ok u) at is h set = (names, before_is f out given held names at is h, set)
 as_written (Some f) v source out given fs held names (Err e) at is h set = tt
 
-pub as_begun : {E : Type 0} (o v : Option Files) (source out given : Text) (fs : BuiltFiles) (held : Option (Bor Text)) (names : List Text) (r : Result (Unit {0}) E) → IfSome o (λ f. f (out ++ list_name) ≡ list_file held) → given ≡ text_or_empty held → Ok names ≡ names_listed given
+pub as_begun : {E : Type 0} (o v : Option Files) (source out given : Text) (fs : BuiltFiles) (held : Option (String Global)) (names : List Text) (r : Result (Unit {0}) E) → IfSome o (λ f. f (out ++ list_name) ≡ list_file held) → given ≡ text_or_empty held → Ok names ≡ names_listed given
     → IfSome o (λ f. AreSet (site_settings source out fs names f) f r v) → IfSome o (λ f. OnErr r (IsBegun source out fs f v))
 as_begun None v source out given fs held names r at is h set = tt
 as_begun (Some f) v source out given fs held names (Ok u) at is h set = tt
@@ -34,24 +33,30 @@ as_begun (Some f) v source out given fs held names (Err e) at is h set = inr (na
 
 -- where an error comes before anything is set
 pub none_written : {E : Type 0} (o : Option Files) (source out : Text) (fs : BuiltFiles) (r : Result (Unit {0}) E) → IsErr r → IfSome o (λ f. OnOk r (IsWritten source out fs f o))
-none_written None source out fs r is = tt
-none_written (Some f) source out fs (Ok u) is = absurd is
-none_written (Some f) source out fs (Err e) is = tt
+none_written None source out fs r bad = tt
+none_written (Some f) source out fs (Ok u) bad = absurd cc
+none_written (Some f) source out fs (Err e) bad = tt
+
+pub err_written : {E : Type 0} (o : Option Files) (source out : Text) (fs : BuiltFiles) (r : Result (Unit {0}) E) (e : E) → r ≡ Err e → IfSome o (λ f. OnOk r (IsWritten source out fs f o))
+err_written None source out fs r e is = tt
+err_written (Some f) source out fs r e is = subst (λ x. OnOk x (IsWritten source out fs f (Some f))) (sym is) tt
 
 pub none_begun : {E : Type 0} (o : Option Files) (source out : Text) (fs : BuiltFiles) (r : Result (Unit {0}) E) → IfSome o (λ f. OnErr r (IsBegun source out fs f o))
 none_begun None source out fs r = tt
 none_begun (Some f) source out fs (Ok u) = tt
 none_begun (Some f) source out fs (Err e) = inl refl
 
+pub nothing_set : (o : Option Files) (source out : Text) (fs : BuiltFiles) → IfSome o (λ f. IsBegun source out fs f o)
+nothing_set None source out fs = tt
+nothing_set (Some f) source out fs = inl refl
+
+pub nothing : (o : Option Files) → IfSome o (λ f. ⊤)
+nothing None = tt
+nothing (Some f) = tt
+
 -- ---- the list that was read
 
-pub read_some : (o : Option Files) (path given : Text) (r : Result (Option (String Global)) DiskFault) (text : String Global) (t : Bor Text) → r ≡ Ok (Some text) → given ≡ path → t.now ≡ string_bytes text → IfSome o (λ f. IsFound (f given) r)
-    → IfSome o (λ f. f path ≡ list_file (Some t))
-read_some None path given r text t is same as_is found = tt
-read_some (Some f) path given r text t is same as_is found =
-    let there : f path ≡ holds (string_bytes text) = subst (λ p. IsFound (f p) (Ok (Some text))) same (subst (λ x. IsFound (f given) x) is found) in
-    there ∙ ap holds (sym as_is)
-
-pub read_none : (o : Option Files) (path given : Text) (r : Result (Option (String Global)) DiskFault) → r ≡ Ok None → given ≡ path → IfSome o (λ f. IsFound (f given) r) → IfSome o (λ f. f path ≡ list_file None)
-read_none None path given r is same found = tt
-read_none (Some f) path given r is same found = subst (λ p. IsFound (f p) (Ok None)) same (subst (λ x. IsFound (f given) x) is found)
+pub found_list : (o : Option Files) (path given : Text) (r : Result (Option (String Global)) DiskFault) (held : Option (String Global)) → r ≡ Ok held → given ≡ path → IfSome o (λ f. IsFound (f given) r) → IfSome o (λ f. f path ≡ list_file held)
+found_list None path given r held is same found = tt
+found_list (Some f) path given r None is same found = subst (λ p. IsFound (f p) (Ok None)) same (subst (λ x. IsFound (f given) x) is found)
+found_list (Some f) path given r (Some text) is same found = subst (λ p. IsFound (f p) (Ok (Some text))) same (subst (λ x. IsFound (f given) x) is found)

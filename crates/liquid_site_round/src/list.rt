@@ -82,6 +82,16 @@ pub(crate) fn list_of(
     Ok(text)
 }
 
+/// The list of the files that are built.
+pub(crate) fn list_of_built(alloc: Global, files: &BuiltFiles<'_>) -> Result<String, AllocError>
+    ensures { IfOk result (λ text. string_bytes text
+        ≡ list_text (built_names (seen built_file_view files.now.entries))) }
+{
+    let mut text = String::new(alloc);
+    push_names(&mut text, files)?;
+    Ok(text)
+}
+
 /// Adds the names of files that are built.
 fn push_names(text: &mut String, files: &BuiltFiles<'_>) -> Result<(), AllocError>
     ensures { OnOk result (string_bytes text.new ≡ string_bytes text.old

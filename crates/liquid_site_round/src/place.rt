@@ -4,7 +4,8 @@ ghost use Rattle.liquid_files.specs.Files.{IsSet, gone, holds, is_held};
 ghost use Rattle.liquid_language.specs.Entries.{seen};
 ghost use Rattle.liquid_site_round.specs.Settings.{AreSet};
 ghost use Rattle.liquid_site_round.specs.SiteWriting.{built_file_view, file_built, placings};
-ghost use Rattle.liquid_site_round.specs.SiteWriting.{removals};
+ghost use Rattle.liquid_model.specs.Maps.{listed};
+ghost use Rattle.liquid_site_round.specs.SiteWriting.{removal, removals};
 ghost use Rattle.liquid_site_round.specs.inside.Settled.{is_gone, settled};
 
 use crate::writing::SiteStop;
@@ -115,12 +116,27 @@ pub(crate) fn remove_files<D: Disk>(
         (D.files disk.new)) }
 {
     for name in names {
-        if files.get(*name).is_some() {
-            continue;
-        }
-        remove_file(alloc, out, *name, disk)?;
+        remove_unbuilt(alloc, out, name, files, disk)?;
     }
     Ok(())
+}
+
+/// Takes away a file that isn't built.
+fn remove_unbuilt<D: Disk>(
+    alloc: Global,
+    out: &str,
+    name: &&str,
+    files: &BuiltFiles<'_>,
+    disk: &mut D,
+) -> Result<(), SiteStop>
+    ensures { IfSome (D.files disk.old) (λ f. AreSet (removal out.now name.now.now
+        (listed (seen built_file_view files.now.entries) name.now.now)) f result
+        (D.files disk.new)) }
+{
+    if files.get(*name).is_some() {
+        return Ok(());
+    }
+    remove_file(alloc, out, *name, disk)
 }
 
 /// Takes away a file, where one is there.

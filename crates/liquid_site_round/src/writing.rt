@@ -10,7 +10,7 @@ ghost use Rattle.liquid_site_round.specs.WrittenNames.{list_text};
 ghost use Rattle.liquid_site_round.specs.declared.writing.SiteStop.TheVariants.{Memory};
 ghost use Rattle.liquid_site_round.specs.inside.Settled.{list_file, text_or_empty};
 
-use crate::list::{WrittenNames, list_of, names_listed};
+use crate::list::{WrittenNames, list_of, list_of_built, names_listed};
 use crate::place::{BuiltFiles, Places, joined, place_files, remove_files, write_file};
 use liquid_files::{Disk, DiskFault};
 use std::alloc::{AllocError, AllocFailed, Global};
@@ -50,7 +50,7 @@ impl<T: Drop> From<AllocFailed<T>> for SiteStop {
 /// The list of what was written before: its text, where it is there, and the names that this has.
 #[derive(Clone, Copy)]
 struct Before<'t> {
-    held: Option<&'t str>,
+    held: &'t Option<String>,
     names: &'t [&'t str],
 }
 
@@ -76,22 +76,22 @@ pub fn write_site<D: Disk>(
 {
     let path = joined(alloc, places.out, LIST_NAME)?;
     match disk.read(path.as_str()) {
-        Ok(Some(text)) => write_after(alloc, places, Some(text.as_str()), files, disk),
-        Ok(None) => write_after(alloc, places, None, files, disk),
+        Ok(held) => write_after(alloc, places, &held, files, disk),
         Err(DiskFault::Memory) => Err(SiteStop::Memory),
         Err(fault) => Err(SiteStop::Unread(path, fault)),
     }
 }
 
-/// The same, once the list is read.
+/// The same, once the list is read: its text, where it is there.
 fn write_after<D: Disk>(
     alloc: Global,
     places: Places<'_>,
-    held: Option<&str>,
+    held: &Option<String>,
     files: &BuiltFiles<'_>,
     disk: &mut D,
 ) -> Result<(), SiteStop>
-    requires { IfSome (D.files disk.old) (λ f. f (places.out.now ++ list_name) ≡ list_file held) }
+    requires { IfSome (D.files disk.old)
+        (λ f. f (places.out.now ++ list_name) ≡ list_file held.now) }
     ensures written { IfSome (D.files disk.old) (λ f. OnOk result (IsWritten
         places.entry.source.now places.entry.out.now (seen built_file_view files.now.entries)
         f (D.files disk.new))) }
@@ -112,11 +112,11 @@ fn write_after<D: Disk>(
 }
 
 /// The text of a list that was read; without one the empty text.
-fn text_or_empty(held: Option<&str>) -> &str
-    ensures { result.now ≡ text_or_empty held.entry }
+fn text_or_empty(held: &Option<String>) -> &str
+    ensures { result.now ≡ text_or_empty held.now }
 {
     match held {
-        Some(text) => text,
+        Some(text) => text.as_str(),
         None => "",
     }
 }
@@ -139,12 +139,12 @@ fn write_listed<D: Disk>(
     disk: &mut D,
 ) -> Result<(), SiteStop>
     requires { IfSome (D.files disk.old)
-        (λ f. f (places.out.now ++ list_name) ≡ list_file before.held) }
+        (λ f. f (places.out.now ++ list_name) ≡ list_file before.held.now) }
     ensures { IfSome (D.files disk.old) (λ f. AreSet (site_settings places.entry.source.now
         places.entry.out.now (seen built_file_view files.now.entries)
         (map (λ n. n.now) before.entry.names.now) f) f result (D.files disk.new)) }
 {
-    let built = list_of(alloc, &[], files)?;
+    let built = list_of_built(alloc, files)?;
     put_ahead(alloc, places.out, before, (built.as_str(), files), disk)?;
     remove_files(alloc, places.out, before.names, files, disk)?;
     place_files(alloc, places, files, disk)?;
@@ -159,7 +159,7 @@ fn put_ahead<D: Disk>(
     built: (&str, &BuiltFiles<'_>),
     disk: &mut D,
 ) -> Result<(), SiteStop>
-    requires held { IfSome (D.files disk.old) (λ f. f (out.now ++ list_name) ≡ list_file before.held) }
+    requires held { IfSome (D.files disk.old) (λ f. f (out.now ++ list_name) ≡ list_file before.held.now) }
     requires built { built.0.now ≡ list_text (built_names (seen built_file_view
         built.1.now.entries)) }
     ensures { IfSome (D.files disk.old) (λ f. AreSet (list_ahead (out.now ++ list_name)
@@ -175,11 +175,11 @@ fn put_ahead<D: Disk>(
 }
 
 /// Whether the list that was read is there and has this text.
-fn is_of(held: Option<&str>, text: &str) -> bool
-    ensures { result ≡ is_held (list_file held.entry) text.now }
+fn is_of(held: &Option<String>, text: &str) -> bool
+    ensures { result ≡ is_held (list_file held.now) text.now }
 {
     match held {
-        Some(held) => held == text,
+        Some(held) => held.as_str() == text,
         None => false,
     }
 }

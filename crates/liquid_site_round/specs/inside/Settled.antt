@@ -1,6 +1,5 @@
 -- What was made of one file, as an outcome of the whole; and the file of a list that was read.
-use Rattle.std.specs.Prelude.{Bool, true, false, [], Option, Some, None, Result, Ok, Err, String}
-use Rattle.std.specs.Borrow.{Bor}
+use Rattle.std.specs.Prelude.{Bool, true, false, [], Option, Some, None, Result, Ok, Err, String, string_bytes}
 use Rattle.std.specs.declared.alloc.Global.{Global}
 use Rattle.liquid_model.specs.Texts.{Text}
 use Rattle.liquid_files.specs.Files.{File, gone, holds, unreadable}
@@ -14,15 +13,15 @@ settled path (Ok u) = Ok u
 settled path (Err fault.Memory) = Err stop.Memory
 settled path (Err why) = Err (stop.Refused path why)
 
-abbrev pub list_file : Option (Bor Text) → File
+abbrev pub list_file : Option (String Global) → File
 list_file None = gone
-list_file (Some text) = holds text.now
+list_file (Some text) = holds (string_bytes text)
 
 abbrev pub is_gone : File → Bool
 is_gone gone = true
 is_gone (holds text) = false
 is_gone unreadable = false
 
-abbrev pub text_or_empty : Option (Bor Text) → Text
+abbrev pub text_or_empty : Option (String Global) → Text
 text_or_empty None = []
-text_or_empty (Some text) = text.now
+text_or_empty (Some text) = string_bytes text
