@@ -12,7 +12,7 @@ use Rattle.liquid_files.specs.Files.{File, Files, gone, holds, unreadable, with_
 use Rattle.liquid_files.specs.declared.disk.DiskFault.{DiskFault}
 use Rattle.liquid_files.specs.declared.disk.DiskFault.TheVariants as fault
 use Rattle.liquid_site_build.specs.Written.{SiteFile}
-use Rattle.liquid_site_round.specs.Settings.{Setting, all_set, AreSet, IsFrontSet}
+use Rattle.liquid_site_round.specs.Settings.{FileSetting, all_set, AreSet, IsFrontSet}
 use Rattle.liquid_site_round.specs.SiteWriting.{BuiltFiles, built_file_view, built_names, file_built, list_ahead, list_setting, placing, removal, removals}
 use Rattle.liquid_site_round.specs.declared.place.BuiltFile.{BuiltFile}
 use Rattle.liquid_site_round.proofs.Names.{words}
@@ -25,24 +25,24 @@ use Rattle.liquid_site_round.specs.declared.writing.SiteStop.{SiteStop}
 
 -- ---- one after another
 
-pub set_both : (a b : List Setting) (f : Files) → all_set (a ++ b) f ≡ all_set b (all_set a f)
+pub set_both : (a b : List FileSetting) (f : Files) → all_set (a ++ b) f ≡ all_set b (all_set a f)
 set_both [] b f = refl
 set_both (s ∷ a) b f = set_both a b (with_file f s.0 (s.1 f))
 
 -- what was set in front, and then what is set of the rest
-more : {E : Type 0} (a b : List Setting) (f g : Files) (v : Option Files) (r : Result (Unit {0}) E) → g ≡ all_set a f → AreSet b g r v → AreSet (a ++ b) f r v
+more : {E : Type 0} (a b : List FileSetting) (f g : Files) (v : Option Files) (r : Result (Unit {0}) E) → g ≡ all_set a f → AreSet b g r v → AreSet (a ++ b) f r v
 more a b f g v (Ok u) is set = set ∙ (λ i. Some (all_set b (is i))) ∙ ap Some (sym (set_both a b f))
 more a b f g v (Err e) is set = (a ++ set.0, set.1, ap (λ l. a ++ l) set.2 ∙ sym (append_assoc a set.0 set.1), set.3 ∙ (λ i. Some (all_set set.0 (is i))) ∙ ap Some (sym (set_both a set.0 f)))
 
-fewer : {E : Type 0} (a b : List Setting) (f : Files) (v : Option Files) (e : E) (r : Result (Unit {0}) E) → AreSet a f (Err e) v → (r ≡ Err e) → AreSet (a ++ b) f r v
+fewer : {E : Type 0} (a b : List FileSetting) (f : Files) (v : Option Files) (e : E) (r : Result (Unit {0}) E) → AreSet a f (Err e) v → (r ≡ Err e) → AreSet (a ++ b) f r v
 fewer a b f v e r set is = subst (λ x. AreSet (a ++ b) f x v) (sym is) (set.0, set.1 ++ b, ap (λ l. l ++ b) set.2 ∙ append_assoc set.0 set.1 b, set.3)
 
 -- nothing was set before an error
-pub none_set : {E : Type 0} (o : Option Files) (a : Files → List Setting) (r : Result (Unit {0}) E) (e : E) → r ≡ Err e → IfSome o (λ f. AreSet (a f) f r o)
+pub none_set : {E : Type 0} (o : Option Files) (a : Files → List FileSetting) (r : Result (Unit {0}) E) (e : E) → r ≡ Err e → IfSome o (λ f. AreSet (a f) f r o)
 none_set None a r e is = tt
 none_set (Some f) a r e is = subst (λ x. AreSet (a f) f x (Some f)) (sym is) ([], a f, refl, refl)
 
-pub after_first : {E F : Type 0} (o w v : Option Files) (a b : Files → List Setting) (r : Result (Unit {0}) F) (u : Unit {0}) (s : Result (Unit {0}) E) → r ≡ Ok u → ((f g : Files) → o ≡ Some f → w ≡ Some g → b f ≡ b g) → IfSome o (λ f. AreSet (a f) f r w)
+pub after_first : {E F : Type 0} (o w v : Option Files) (a b : Files → List FileSetting) (r : Result (Unit {0}) F) (u : Unit {0}) (s : Result (Unit {0}) E) → r ≡ Ok u → ((f g : Files) → o ≡ Some f → w ≡ Some g → b f ≡ b g) → IfSome o (λ f. AreSet (a f) f r w)
     → IfSome w (λ g. AreSet (b g) g s v) → IfSome o (λ f. AreSet (a f ++ b f) f s v)
 after_first None w v a b r u s ok same set next = tt
 after_first (Some f) None v a b (Ok t) u s ok same set next = absurd cc
@@ -51,7 +51,7 @@ after_first (Some f) (Some g) v a b (Err e) u s ok same set next = absurd cc
 after_first (Some f) (Some g) v a b (Ok t) u s ok same set next =
     more (a f) (b f) f g v s (let h : Some g ≡ Some (all_set (a f) f) = set in cc) (subst (λ l. AreSet l g s v) (sym (same f g refl refl)) next)
 
-pub ended_first : {E F : Type 0} (o w : Option Files) (a b : Files → List Setting) (r : Result (Unit {0}) F) (e : F) (s : Result (Unit {0}) E) (x : E) → r ≡ Err e → s ≡ Err x → IfSome o (λ f. AreSet (a f) f r w) → IfSome o (λ f. AreSet (a f ++ b f) f s w)
+pub ended_first : {E F : Type 0} (o w : Option Files) (a b : Files → List FileSetting) (r : Result (Unit {0}) F) (e : F) (s : Result (Unit {0}) E) (x : E) → r ≡ Err e → s ≡ Err x → IfSome o (λ f. AreSet (a f) f r w) → IfSome o (λ f. AreSet (a f ++ b f) f s w)
 ended_first None w a b r e s x err is set = tt
 ended_first (Some f) w a b (Ok t) e s x err is set = absurd cc
 ended_first (Some f) w a b (Err y) e s x err is set =
@@ -125,15 +125,15 @@ gone_there (Some f) path b h k = gone_so (f path) (sym h ∙ k)
 -- ---- files so far
 
 -- some of the settings were made, and these are left
-abbrev pub Progress : List Setting → List Setting → Files → Option Files → Type 0
+abbrev pub Progress : List FileSetting → List FileSetting → Files → Option Files → Type 0
 Progress all left old None = ⊥
-Progress all left old (Some new) = (done : List Setting) × (all ≡ done ++ left) × (new ≡ all_set done old)
+Progress all left old (Some new) = (done : List FileSetting) × (all ≡ done ++ left) × (new ≡ all_set done old)
 
-pub started : (o : Option Files) (all left : List Setting) → left ≡ all → IfSome o (λ f. Progress all left f o)
+pub started : (o : Option Files) (all left : List FileSetting) → left ≡ all → IfSome o (λ f. Progress all left f o)
 started None all left is = tt
 started (Some f) all left is = ([], sym is, refl)
 
-pub went_on : {E : Type 0} (o w v : Option Files) (all left rest one : List Setting) (r : Result (Unit {0}) E) (u : Unit {0}) → left ≡ one ++ rest → r ≡ Ok u → IfSome o (λ f. Progress all left f w) → IfSome w (λ g. AreSet one g r v) → IfSome o (λ f. Progress all rest f v)
+pub went_on : {E : Type 0} (o w v : Option Files) (all left rest one : List FileSetting) (r : Result (Unit {0}) E) (u : Unit {0}) → left ≡ one ++ rest → r ≡ Ok u → IfSome o (λ f. Progress all left f w) → IfSome w (λ g. AreSet one g r v) → IfSome o (λ f. Progress all rest f v)
 went_on None w v all left rest one r u split ok on set = tt
 went_on (Some f) None v all left rest one r u split ok on set = absurd on
 went_on (Some f) (Some g) v all left rest one (Err e) u split ok on set = absurd cc
@@ -144,10 +144,10 @@ went_on (Some f) (Some g) v all left rest one (Ok t) u split ok on set =
       ap (all_set one) on.2 ∙ sym (set_both on.0 one f),
     )
 
-pub went_over : (o w : Option Files) (all left rest : List Setting) → left ≡ rest → IfSome o (λ f. Progress all left f w) → IfSome o (λ f. Progress all rest f w)
+pub went_over : (o w : Option Files) (all left rest : List FileSetting) → left ≡ rest → IfSome o (λ f. Progress all left f w) → IfSome o (λ f. Progress all rest f w)
 went_over o w all left rest is on = subst (λ l. IfSome o (λ f. Progress all l f w)) is on
 
-pub ended : {E F : Type 0} (o w v : Option Files) (all left rest one : List Setting) (r : Result (Unit {0}) F) (e : F) (s : Result (Unit {0}) E) (x : E) → left ≡ one ++ rest → r ≡ Err e → s ≡ Err x → IfSome o (λ f. Progress all left f w) → IfSome w (λ g. AreSet one g r v)
+pub ended : {E F : Type 0} (o w v : Option Files) (all left rest one : List FileSetting) (r : Result (Unit {0}) F) (e : F) (s : Result (Unit {0}) E) (x : E) → left ≡ one ++ rest → r ≡ Err e → s ≡ Err x → IfSome o (λ f. Progress all left f w) → IfSome w (λ g. AreSet one g r v)
     → IfSome o (λ f. AreSet all f s v)
 ended None w v all left rest one r e s x split err is on set = tt
 ended (Some f) None v all left rest one r e s x split err is on set = absurd on
@@ -160,7 +160,7 @@ ended (Some f) (Some g) v all left rest one (Err y) e s x split err is on set =
       set.3 ∙ (λ i. Some (all_set set.0 (on.2 i))) ∙ ap Some (sym (set_both on.0 set.0 f)),
     )
 
-pub all_done : {E : Type 0} (o w : Option Files) (all left : List Setting) (r : Result (Unit {0}) E) (u : Unit {0}) → left ≡ [] → r ≡ Ok u → IfSome o (λ f. Progress all left f w) → IfSome o (λ f. AreSet all f r w)
+pub all_done : {E : Type 0} (o w : Option Files) (all left : List FileSetting) (r : Result (Unit {0}) E) (u : Unit {0}) → left ≡ [] → r ≡ Ok u → IfSome o (λ f. Progress all left f w) → IfSome o (λ f. AreSet all f r w)
 all_done None w all left r u none ok on = tt
 all_done (Some f) None all left r u none ok on = absurd on
 all_done (Some f) (Some g) all left r u none ok on =
@@ -173,11 +173,11 @@ all_done (Some f) (Some g) all left r u none ok on =
 is_built : (f : Files) (list text : Text) (held : Option (String Global)) (fs : BuiltFiles) (b : Bool) → f list ≡ list_file held → b ≡ is_held (list_file held) text → text ≡ list_text (built_names fs) → is_held (f list) (list_text (built_names fs)) ≡ b
 is_built f list text held fs b at is same = (λ i. is_held (at i) (list_text (built_names fs))) ∙ sym (ap (is_held (list_file held)) same) ∙ sym is
 
-pub set_none : {E : Type 0} (o : Option Files) (ss : List Setting) (r : Result (Unit {0}) E) (u : Unit {0}) → ss ≡ [] → r ≡ Ok u → IfSome o (λ f. AreSet ss f r o)
+pub set_none : {E : Type 0} (o : Option Files) (ss : List FileSetting) (r : Result (Unit {0}) E) (u : Unit {0}) → ss ≡ [] → r ≡ Ok u → IfSome o (λ f. AreSet ss f r o)
 set_none None ss r u none ok = tt
 set_none {E = E} (Some f) ss r u none ok = subst (λ x. AreSet ss f x (Some f)) (sym ok) (subst (λ l. AreSet {E = E} l f (Ok u) (Some f)) (sym none) refl)
 
-pub set_one : {E : Type 0} (o v : Option Files) (ss : List Setting) (path : Text) (held : Files → File) (r : Result (Unit {0}) E) → ss ≡ (path, held) ∷ [] → IfSome o (λ f. IsSet path (held f) f r v) → IfSome o (λ f. AreSet ss f r v)
+pub set_one : {E : Type 0} (o v : Option Files) (ss : List FileSetting) (path : Text) (held : Files → File) (r : Result (Unit {0}) E) → ss ≡ (path, held) ∷ [] → IfSome o (λ f. IsSet path (held f) f r v) → IfSome o (λ f. AreSet ss f r v)
 set_one o v ss path held r one set = subst (λ l. IfSome o (λ f. AreSet l f r v)) (sym one) (one_set o v path held r set)
 
 pub ahead_none : {E : Type 0} (o : Option Files) (list text : Text) (held : Option (String Global)) (fs : BuiltFiles) (names : List Text) (b : Bool) (r : Result (Unit {0}) E) (u : Unit {0}) → IfSome o (λ f. f list ≡ list_file held) → b ≡ is_held (list_file held) text

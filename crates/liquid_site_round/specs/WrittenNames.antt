@@ -14,15 +14,15 @@ abbrev pub list_text : List Text → Text
 list_text [] = []
 list_text (n ∷ ns) = n ++ 10 ∷ list_text ns
 
-abbrev pub with_name : Text → Result (List Text) Text → Result (List Text) Text
-with_name n (Ok ns) = Ok (n ∷ ns)
-with_name n (Err line) = Err line
+abbrev pub name_first : Text → Result (List Text) Text → Result (List Text) Text
+name_first n (Ok ns) = Ok (n ∷ ns)
+name_first n (Err line) = Err line
 
 -- an empty line is passed over
 abbrev pub names_among : List Text → Result (List Text) Text
 names_among [] = Ok []
 names_among (l ∷ ls) = cond (length l == 0) (names_among ls)
-    (cond (is_written_name l) (with_name l (names_among ls)) (Err l))
+    (cond (is_written_name l) (name_first l (names_among ls)) (Err l))
 
 abbrev pub names_listed : Text → Result (List Text) Text
 names_listed text = names_among (slice_split (λ b. b == 10) text)

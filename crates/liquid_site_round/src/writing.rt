@@ -3,12 +3,12 @@ ghost use Rattle.std.specs.Prelude.{◌≡◌, ◌++◌, IfSome, IsErr, OnErr, O
 ghost use Rattle.liquid_files.specs.Files.{is_held};
 ghost use Rattle.liquid_language.specs.Entries.{seen};
 ghost use Rattle.liquid_site_round.specs.Settings.{AreSet};
-ghost use Rattle.liquid_site_round.specs.SiteWriting.{IsBegun, IsWritten, built_file_view};
+ghost use Rattle.liquid_site_round.specs.SiteWriting.{SiteIsBegun, SiteIsWritten, built_file_view};
 ghost use Rattle.liquid_site_round.specs.SiteWriting.{built_names, list_ahead, list_name};
 ghost use Rattle.liquid_site_round.specs.SiteWriting.{site_settings};
 ghost use Rattle.liquid_site_round.specs.WrittenNames.{list_text};
 ghost use Rattle.liquid_site_round.specs.declared.writing.SiteStop.TheVariants.{Memory};
-ghost use Rattle.liquid_site_round.specs.inside.Settled.{list_file, text_or_empty};
+ghost use Rattle.liquid_site_round.specs.inside.Settled.{list_file, held_text};
 
 use crate::list::{WrittenNames, list_of, list_of_built, names_listed};
 use crate::place::{BuiltFiles, Places, joined, place_files, remove_files, write_file};
@@ -67,10 +67,10 @@ pub fn write_site<D: Disk>(
     files: &BuiltFiles<'_>,
     disk: &mut D,
 ) -> Result<(), SiteStop>
-    ensures written { IfSome (D.files disk.old) (λ f. OnOk result (IsWritten
+    ensures written { IfSome (D.files disk.old) (λ f. OnOk result (SiteIsWritten
         places.entry.source.now places.entry.out.now (seen built_file_view files.now.entries)
         f (D.files disk.new))) }
-    ensures begun { IfSome (D.files disk.old) (λ f. OnErr result (IsBegun
+    ensures begun { IfSome (D.files disk.old) (λ f. OnErr result (SiteIsBegun
         places.entry.source.now places.entry.out.now (seen built_file_view files.now.entries)
         f (D.files disk.new))) }
 {
@@ -92,14 +92,14 @@ fn write_after<D: Disk>(
 ) -> Result<(), SiteStop>
     requires { IfSome (D.files disk.old)
         (λ f. f (places.out.now ++ list_name) ≡ list_file held.now) }
-    ensures written { IfSome (D.files disk.old) (λ f. OnOk result (IsWritten
+    ensures written { IfSome (D.files disk.old) (λ f. OnOk result (SiteIsWritten
         places.entry.source.now places.entry.out.now (seen built_file_view files.now.entries)
         f (D.files disk.new))) }
-    ensures begun { IfSome (D.files disk.old) (λ f. OnErr result (IsBegun
+    ensures begun { IfSome (D.files disk.old) (λ f. OnErr result (SiteIsBegun
         places.entry.source.now places.entry.out.now (seen built_file_view files.now.entries)
         f (D.files disk.new))) }
 {
-    match names_listed(alloc, text_or_empty(held))? {
+    match names_listed(alloc, held_text(held))? {
         WrittenNames::Names(names) => {
             let before = Before {
                 held,
@@ -112,8 +112,8 @@ fn write_after<D: Disk>(
 }
 
 /// The text of a list that was read; without one the empty text.
-fn text_or_empty(held: &Option<String>) -> &str
-    ensures { result.now ≡ text_or_empty held.now }
+fn held_text(held: &Option<String>) -> &str
+    ensures { result.now ≡ held_text held.now }
 {
     match held {
         Some(text) => text.as_str(),
@@ -159,7 +159,8 @@ fn put_ahead<D: Disk>(
     built: (&str, &BuiltFiles<'_>),
     disk: &mut D,
 ) -> Result<(), SiteStop>
-    requires held { IfSome (D.files disk.old) (λ f. f (out.now ++ list_name) ≡ list_file before.held.now) }
+    requires held { IfSome (D.files disk.old)
+        (λ f. f (out.now ++ list_name) ≡ list_file before.held.now) }
     requires built { built.0.now ≡ list_text (built_names (seen built_file_view
         built.1.now.entries)) }
     ensures { IfSome (D.files disk.old) (λ f. AreSet (list_ahead (out.now ++ list_name)

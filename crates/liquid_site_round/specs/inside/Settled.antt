@@ -1,5 +1,6 @@
 -- What was made of one file, as an outcome of the whole; and the file of a list that was read.
-use Rattle.std.specs.Prelude.{Bool, true, false, [], Option, Some, None, Result, Ok, Err, String, string_bytes}
+use Rattle.std.specs.Prelude.{Bool, true, false, [], Option, Some, None, Result, Ok, Err, String}
+use Rattle.std.specs.Prelude.{string_bytes}
 use Rattle.std.specs.declared.alloc.Global.{Global}
 use Rattle.liquid_model.specs.Texts.{Text}
 use Rattle.liquid_files.specs.Files.{File, gone, holds, unreadable}
@@ -22,6 +23,6 @@ is_gone gone = true
 is_gone (holds text) = false
 is_gone unreadable = false
 
-abbrev pub text_or_empty : Option (String Global) → Text
-text_or_empty None = []
-text_or_empty (Some text) = string_bytes text
+abbrev pub held_text : Option (String Global) → Text
+held_text None = []
+held_text (Some text) = string_bytes text

@@ -11,13 +11,13 @@ pub returns-in-Names-clause-written : goal.returns-in-Names-clause-written
 returns-in-Names-clause-written g c =
     let fs : BuiltFiles = seen built_file_view c.args.files.now.entries in
     let names = sym (ap written_names_view c.in-Names.is) ∙ c.in_ok-names.ensures in
-    as_written _ _ c.args.places.source.now c.args.places.out.now c.text_or_empty.result.now fs c.args.held.now (words c.as_slice.result.now) c.write_listed.result c.requires c.text_or_empty.ensures (ap (λ ns. Ok (words ns)) c.as_slice.ensures.value ∙ names) c.write_listed.ensures
+    as_written _ _ c.args.places.source.now c.args.places.out.now c.held_text.result.now fs c.args.held.now (words c.as_slice.result.now) c.write_listed.result c.requires c.held_text.ensures (ap (λ ns. Ok (words ns)) c.as_slice.ensures.value ∙ names) c.write_listed.ensures
 
 pub returns-in-Names-clause-begun : goal.returns-in-Names-clause-begun
 returns-in-Names-clause-begun g c =
     let fs : BuiltFiles = seen built_file_view c.args.files.now.entries in
     let names = sym (ap written_names_view c.in-Names.is) ∙ c.in_ok-names.ensures in
-    as_begun _ _ c.args.places.source.now c.args.places.out.now c.text_or_empty.result.now fs c.args.held.now (words c.as_slice.result.now) c.write_listed.result c.requires c.text_or_empty.ensures (ap (λ ns. Ok (words ns)) c.as_slice.ensures.value ∙ names) c.write_listed.ensures
+    as_begun _ _ c.args.places.source.now c.args.places.out.now c.held_text.result.now fs c.args.held.now (words c.as_slice.result.now) c.write_listed.result c.requires c.held_text.ensures (ap (λ ns. Ok (words ns)) c.as_slice.ensures.value ∙ names) c.write_listed.ensures
 
 pub returns-in-Refused-clause-written : goal.returns-in-Refused-clause-written
 returns-in-Refused-clause-written g c = none_written _ c.args.places.source.now c.args.places.out.now (seen built_file_view c.args.files.now.entries) c.bad_list.result c.bad_list.ensures

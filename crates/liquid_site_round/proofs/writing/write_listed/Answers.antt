@@ -2,7 +2,7 @@ use Rattle.std.proofs.Common.{◌≡◌, ◌++◌, ◌∙◌, List, refl, sym, s
 use Rattle.std.proofs.lemmas.Result.{err_from_is_err_and}
 use Rattle.liquid_files.specs.Files.{Files, IsSet, holds}
 use Rattle.liquid_language.specs.Entries.{seen}
-use Rattle.liquid_site_round.specs.Settings.{Setting}
+use Rattle.liquid_site_round.specs.Settings.{FileSetting}
 use Rattle.liquid_site_round.specs.SiteWriting.{BuiltFiles, built_file_view, built_names, list_ahead, list_name, list_setting, placings, removals, site_settings}
 use Rattle.liquid_site_round.specs.WrittenNames.{list_text}
 use Rattle.liquid_site_round.proofs.Names.{words}
@@ -16,10 +16,10 @@ returns-in_err-built g c =
 pub returns-in_err-put_ahead : goal.returns-in_err-put_ahead
 returns-in_err-put_ahead g c =
     let fs : BuiltFiles = seen built_file_view c.args.files.now.entries in
-    let ahead : (Files → List Setting) = list_ahead (c.args.places.out.now ++ list_name) fs (words c.args.before.names.now) in
-    let gone_now : List Setting = removals c.args.places.out.now fs (words c.args.before.names.now) in
-    let there : List Setting = placings c.args.places.source.now c.args.places.out.now fs in
-    let last : List Setting = list_setting (c.args.places.out.now ++ list_name) (built_names fs) in
+    let ahead : (Files → List FileSetting) = list_ahead (c.args.places.out.now ++ list_name) fs (words c.args.before.names.now) in
+    let gone_now : List FileSetting = removals c.args.places.out.now fs (words c.args.before.names.now) in
+    let there : List FileSetting = placings c.args.places.source.now c.args.places.out.now fs in
+    let last : List FileSetting = list_setting (c.args.places.out.now ++ list_name) (built_names fs) in
     let r = c.put_ahead.result in
     let was = c.in_err-put_ahead.was in
     ended_first _ _ (λ f. (ahead f ++ gone_now) ++ there) (λ _. last) r _ c.from_residual-in_err-put_ahead.result _ was (err_from_is_err_and c.from_residual-in_err-put_ahead.result c.from_residual-in_err-put_ahead.ensures.1).1
@@ -28,10 +28,10 @@ returns-in_err-put_ahead g c =
 pub returns-in_err-remove_files : goal.returns-in_err-remove_files
 returns-in_err-remove_files g c =
     let fs : BuiltFiles = seen built_file_view c.args.files.now.entries in
-    let ahead : (Files → List Setting) = list_ahead (c.args.places.out.now ++ list_name) fs (words c.args.before.names.now) in
-    let gone_now : List Setting = removals c.args.places.out.now fs (words c.args.before.names.now) in
-    let there : List Setting = placings c.args.places.source.now c.args.places.out.now fs in
-    let last : List Setting = list_setting (c.args.places.out.now ++ list_name) (built_names fs) in
+    let ahead : (Files → List FileSetting) = list_ahead (c.args.places.out.now ++ list_name) fs (words c.args.before.names.now) in
+    let gone_now : List FileSetting = removals c.args.places.out.now fs (words c.args.before.names.now) in
+    let there : List FileSetting = placings c.args.places.source.now c.args.places.out.now fs in
+    let last : List FileSetting = list_setting (c.args.places.out.now ++ list_name) (built_names fs) in
     let r = c.remove_files.result in
     let was = c.in_err-remove_files.was in
     ended_first _ _ (λ f. (ahead f ++ gone_now) ++ there) (λ _. last) r _ c.from_residual-in_err-remove_files.result _ was (err_from_is_err_and c.from_residual-in_err-remove_files.result c.from_residual-in_err-remove_files.ensures.1).1
@@ -40,10 +40,10 @@ returns-in_err-remove_files g c =
 pub returns-in_err-place_files : goal.returns-in_err-place_files
 returns-in_err-place_files g c =
     let fs : BuiltFiles = seen built_file_view c.args.files.now.entries in
-    let ahead : (Files → List Setting) = list_ahead (c.args.places.out.now ++ list_name) fs (words c.args.before.names.now) in
-    let gone_now : List Setting = removals c.args.places.out.now fs (words c.args.before.names.now) in
-    let there : List Setting = placings c.args.places.source.now c.args.places.out.now fs in
-    let last : List Setting = list_setting (c.args.places.out.now ++ list_name) (built_names fs) in
+    let ahead : (Files → List FileSetting) = list_ahead (c.args.places.out.now ++ list_name) fs (words c.args.before.names.now) in
+    let gone_now : List FileSetting = removals c.args.places.out.now fs (words c.args.before.names.now) in
+    let there : List FileSetting = placings c.args.places.source.now c.args.places.out.now fs in
+    let last : List FileSetting = list_setting (c.args.places.out.now ++ list_name) (built_names fs) in
     let r = c.place_files.result in
     ended_first _ _ (λ f. (ahead f ++ gone_now) ++ there) (λ _. last) r _ c.from_residual-in_err-place_files.result _ c.in_err-place_files.was (err_from_is_err_and c.from_residual-in_err-place_files.result c.from_residual-in_err-place_files.ensures.1).1
     (after_first _ _ _ (λ f. ahead f ++ gone_now) (λ _. there) c.remove_files.result _ r c.in_ok-remove_files.was (λ f g p q. refl)
@@ -52,10 +52,10 @@ returns-in_err-place_files g c =
 pub returns : goal.returns
 returns g c =
     let fs : BuiltFiles = seen built_file_view c.args.files.now.entries in
-    let ahead : (Files → List Setting) = list_ahead (c.args.places.out.now ++ list_name) fs (words c.args.before.names.now) in
-    let gone_now : List Setting = removals c.args.places.out.now fs (words c.args.before.names.now) in
-    let there : List Setting = placings c.args.places.source.now c.args.places.out.now fs in
-    let last : List Setting = list_setting (c.args.places.out.now ++ list_name) (built_names fs) in
+    let ahead : (Files → List FileSetting) = list_ahead (c.args.places.out.now ++ list_name) fs (words c.args.before.names.now) in
+    let gone_now : List FileSetting = removals c.args.places.out.now fs (words c.args.before.names.now) in
+    let there : List FileSetting = placings c.args.places.source.now c.args.places.out.now fs in
+    let last : List FileSetting = list_setting (c.args.places.out.now ++ list_name) (built_names fs) in
     let text = c.as_str-2.ensures.value ∙ c.in_ok-built.ensures in
     after_first _ _ _ (λ f. (ahead f ++ gone_now) ++ there) (λ _. last) c.place_files.result _ c.write_file.result c.in_ok-place_files.was (λ f g p q. refl)
     (after_first _ _ _ (λ f. ahead f ++ gone_now) (λ _. there) c.remove_files.result _ c.place_files.result c.in_ok-remove_files.was (λ f g p q. refl)
