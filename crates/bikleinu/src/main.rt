@@ -2,6 +2,7 @@
 //! `paths ..`.
 #![tactic(auto)]
 
+mod data_notes;
 mod extent;
 mod files;
 mod filters;
@@ -9,14 +10,17 @@ mod host_merge;
 mod merge;
 mod page_output;
 mod page_templates;
+mod partial_tips;
 mod parts;
 mod paths;
 mod progress;
 mod reach;
+mod record_tips;
 mod records;
 mod render;
 mod report;
 mod silent;
+mod table_notes;
 mod target;
 mod tips;
 mod watch;

@@ -117,7 +117,7 @@ impl fmt::Display for Report {
             return f.write_str(limit_words(*reached));
         }
         match self {
-            Report::NotUtf8 => f.write_str("its line isn't UTF-8"),
+            Report::NotUtf8 => f.write_str("its line isn't UTF-8; save the file as UTF-8"),
             Report::NoRow(fault) => write!(f, "{fault}"),
             Report::NoItem(fault) => write!(f, "{fault}"),
             Report::NoPage(why) => write!(f, "{why}"),

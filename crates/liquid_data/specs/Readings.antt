@@ -75,6 +75,10 @@ text_read (source.Lines lines) = line_text lines.line.items
 text_read (source.Rows rows) = []
 text_read (source.Objects objects) = line_text objects.object.items
 
+abbrev pub are_lines : {R : Type 0} → Source R → Bool
+are_lines (source.Lines lines) = true
+are_lines _ = false
+
 abbrev pub column_list : {R : Type 0} → Source R → List (String Global)
 column_list (source.Lines lines) = []
 column_list (source.Rows rows) = rows.names.items
