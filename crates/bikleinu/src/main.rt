@@ -7,6 +7,7 @@ mod data_notes;
 mod extent;
 mod files;
 mod filters;
+mod gathered;
 mod host_merge;
 mod merge;
 mod page_output;

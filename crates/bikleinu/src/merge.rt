@@ -2,6 +2,7 @@
 use crate::data_notes::note_data;
 use crate::extent::Extent;
 use crate::files::record_files;
+use crate::gathered::Gathered;
 use crate::host_merge::merge_with;
 use crate::parts::{UsedParts, pattern_if_parsed, read_pattern, read_shared_parts};
 use crate::progress::Progress;
@@ -17,7 +18,7 @@ use liquid_core::{Error, ErrorKind, HostFilters, Object, Result as Answer, Uses}
 use liquid_data::{RecordData, RecordFault, Records};
 use liquid_json::DataReader;
 use liquid_lib::Limits;
-use liquid_records::{Job, Merge, Why};
+use liquid_records::{Job, Merge};
 use std::alloc::AllocError;
 use std::fs;
 use std::io::Read;
@@ -89,7 +90,8 @@ fn target_of<'r>(
     job: Job<HostFilters>,
 ) -> Result<Target<'r>, Stop> {
     let Some(out) = call.out else {
-        return Ok(Target::Output(job));
+        let output = Gathered::new(rt, call.records == "-");
+        return Ok(Target::output(job, output));
     };
     let merge = Merge::new(rt.alloc(), job, read_pattern(rt, out)?);
     if call.dry_run {
@@ -145,7 +147,11 @@ impl Run<'_> {
         let mut reader = reader;
         let front = front_of(self.rt, self.call, &mut reader)?;
         let mut records = records_of(self.rt, self.call, front, reader)?;
-        self.each(target, &mut records, extent)
+        let answer = self.each(target, &mut records, extent);
+        if answer.is_err() {
+            target.end_early();
+        }
+        answer
     }
 
     /// Merges one record after another, up to the last that is asked for, and prints how many pages
@@ -183,6 +189,7 @@ impl Run<'_> {
             columns: records.columns(),
             rows: records.number(),
             made: &self.made,
+            stray: records.stray(),
             uses: self.uses.as_ref(),
             shared: &target.job().shared,
         };
@@ -289,7 +296,10 @@ impl Run<'_> {
         records: &Records<R>,
     ) -> Result<RecordOutcome, Stop> {
         let (outcome, is_whole) = self.taken_as_used(target, records)?;
-        self.is_after_fault = is_page_fault(&outcome);
+        self.is_after_fault = match &outcome {
+            Ok(()) => false,
+            Err(report) => report.is_page_fault(),
+        };
         if is_whole || !self.is_after_fault {
             return Ok(outcome);
         }
@@ -384,13 +394,5 @@ impl Run<'_> {
     ) -> Result<RecordOutcome, Stop> {
         let number = records.number() as usize;
         target.take(self.rt, self.call.separator, number, data)
-    }
-}
-
-/// Whether a record's page or its name ends by a fault.
-fn is_page_fault(outcome: &RecordOutcome) -> bool {
-    match outcome {
-        Ok(()) => false,
-        Err(report) => matches!(report.why(), Some(Why::Faulted(_) | Why::Unnamed(_))),
     }
 }

@@ -78,6 +78,11 @@ impl Report {
         }
     }
 
+    /// Whether the page or its name ends by a fault.
+    pub fn is_page_fault(&self) -> bool {
+        matches!(self.why(), Some(Why::Faulted(_) | Why::Unnamed(_)))
+    }
+
     /// Prints it in one line on standard error, and the line of the text that a fault is in. What
     /// that refuses is lost.
     pub fn print(&self, rt: &HostRuntime, sources: &Sources, number: u64, text: &str) {

@@ -76,6 +76,8 @@ pub struct MergedTable<'t> {
     /// How many rows follow the first.
     pub rows: u64,
     pub made: &'t MadeRows,
+    /// The line of the first text after the closing quote of a cell.
+    pub stray: Option<u64>,
     /// What the template, the pattern and the filters use of data, where it is known.
     pub uses: Option<&'t Uses>,
     /// The data that records share.
@@ -95,6 +97,12 @@ pub fn print_notes(
         return Ok(());
     }
     table.made.print_empty(rt);
+    if let Some(line) = table.stray {
+        let path = shown(call);
+        let _ = eprintln!(rt;
+            "warning: {path}: line {line} has text after a closing quote; a quote in quotes is \"\""
+        );
+    }
     match table.uses {
         Some(uses) if table.made.count > 0 => print_unknown(rt, call, table, uses),
         _ => Ok(()),

@@ -5,7 +5,7 @@ ghost use Rattle.liquid_data.specs.Counted.{record_number_after};
 ghost use Rattle.liquid_data.specs.Found.{AreLinesOf, AreObjectsOf, AreRowsIn};
 ghost use Rattle.liquid_data.specs.Found.{AreRowsOf, ReadsOn};
 ghost use Rattle.liquid_data.specs.Readings.{are_lines, column_list, line_reading, line_text};
-ghost use Rattle.liquid_data.specs.Readings.{reading_of};
+ghost use Rattle.liquid_data.specs.Readings.{reading_of, stray_in};
 ghost use Rattle.liquid_data.specs.Readings.{reading_view, text_read};
 ghost use Rattle.liquid_data.specs.Tables.{IfFaulted, IsHead, IsHeadIn};
 
@@ -147,6 +147,17 @@ impl<R: Read + Drop> Records<R> {
         match &self.source {
             Source::Rows(rows) => rows.names(),
             Source::Lines(_) | Source::Objects(_) => &[],
+        }
+    }
+
+    /// The line of the first text that stands after the closing quote of a cell, among the bytes
+    /// that were read, where the records are rows; else none.
+    pub fn stray(&self) -> Option<u64>
+        ensures { result ≡ stray_in self.now.source }
+    {
+        match &self.source {
+            Source::Rows(rows) => rows.stray(),
+            Source::Lines(_) | Source::Objects(_) => None,
         }
     }
 
