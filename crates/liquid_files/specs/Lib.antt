@@ -1,4 +1,5 @@
 pub mod Buffering
+pub mod Contents
 pub mod Entries
 pub mod Faults
 pub mod FileNames
