@@ -9,7 +9,7 @@ import tempfile
 
 FOLDERS, SEED = 60, 29_11
 IMAGE, NO_UTF8 = b"\x89PNG\0\xff", b"a\nb\xff"
-NOT_UTF8 = "the file isn't UTF-8: line 2, column 2"
+NOT_UTF8 = "the file isn't UTF-8: line 2, column 2; save it as UTF-8"
 
 
 class Folder:
@@ -239,7 +239,7 @@ def named(program):
         made = Folder(f"{room}/parts")
         made.image("icon")
         made.text("ok")
-        refused = "error: parts/icon: the file isn't UTF-8: line 1, column 1"
+        refused = "error: parts/icon: the file isn't UTF-8: line 1, column 1; save it as UTF-8"
         for words in (["render", "parts/ok", "-p", "parts", "-p", "x=parts/icon"], ["check", "parts/ok", "-p", "parts", "-p", "x=parts/icon"], ["check", "parts", "parts/icon"]):
             status, _, told = called(program, room, words)
             if status != 1 or refused not in told:

@@ -36,10 +36,10 @@ def quote_cases():
         table("a quote that is never closed in a record of one cell", 'name\nAda\n"Bo', "<Ada>\n", end),
         table("a quote at the end", 'name,town\nAda,Oslo\nBo,"', "<Ada>\n", end),
         table("a quote that is never closed after lines in quotes", 'name,town\nAda,"Os\n\nlo"\nBo,"Rome""\n', "<Ada>\n", ("error: record 2: " + unclosed(5), "pages 1, failed 1")),
-        table("a quote that is never closed between semicolons", 'name;town\nAda;Oslo\nBo;"Rome', "<Ada>\n", ("note: r.csv: its first row has no comma, so it is read by --delimiter semicolon", *end)),
+        table("a quote that is never closed between semicolons", 'name;town\nAda;Oslo\nBo;"Rome', "<Ada>\n", ("note: r.csv: it is read by --delimiter semicolon, by which its first row has most cells", *end)),
         table("a quote that is never closed in the head", 'name,"town\nAda,Oslo\n', errors=("error: r.csv: " + unclosed(1),)),
         table("a quote that is never closed far from the front", "name,town\n" + "Ada,Oslo\n" * 3000 + 'Bo,"Rome\n', "<Ada>\n" * 3000, ("error: record 3001: " + unclosed(3002), "pages 3000, failed 1")),
-        table("a quote within a cell opens nothing", 'name,town\n5" Ada,"a ""b"" c"\nBo,"d" e"\n', '<5" Ada>\n<Bo>\n', ("pages 2, failed 0",), status=0),
+        table("a quote within a cell opens nothing", 'name,town\n5" Ada,"a ""b"" c"\nBo,"d" e"\n', '<5" Ada>\n<Bo>\n', ('warning: r.csv: line 3 has text after a closing quote', "pages 2, failed 0"), status=0),
         table("a quote that closes at the end", 'name,town\nAda,"Oslo"', "<Ada>\n", ("pages 1, failed 0",), status=0),
     ]
 
@@ -114,7 +114,8 @@ def slip_cases():
         case("an option for a value of other programs", "render t --var title=Tea", page, errors=("error: unexpected argument '--var' found", "  tip: -D NAME=TEXT gives a value"), status=2),
         case("the version by a small letter", "-v", page, errors=("error: unexpected argument '-v' found", "  tip: -V prints the version"), status=2),
         *(case(f"a line of YAML: {line}", "render t d.yml", {**page, "d.yml": f"{line}\n"}, errors=(f"error: d.yml: InvalidInput: in the data: line 1, column 1: {words}", "  tip: a part of YAML is read")) for line, words in YAML_LINES),
-        case("completions", "completions bash", page, errors=("error: unrecognized subcommand 'completions'", "  tip: each package brings those of bash, zsh and fish"), status=2),
+        case("completions of no shell", "completions", page, errors=("error: completions are those of a shell", "  tip: write `bikleinu completions bash`, `zsh` or `fish`"), status=2),
+        case("completions of another shell", "completion bash", page, errors=("error: completions are those of a shell", "  tip: write `bikleinu completions bash`, `zsh` or `fish`"), status=2),
         case("several templates", "render a.liquid b.html d.json", page, errors=("error: one template is rendered a call", "  tip: call it for each, as 'for t in *.liquid;"), status=2),
         case("a folder as the pattern of names", "merge t r -o mails/", page, errors=(folder,), status=2),
         case("data that is checked as a template", "check t d.json", page, errors=(DATA_FILE, "files 2, faults 0, warnings 0"), status=0),

@@ -2,25 +2,32 @@
 //! `paths ..`.
 #![tactic(auto)]
 
+mod completions;
+mod data_notes;
 mod extent;
 mod files;
 mod filters;
+mod gathered;
 mod host_merge;
 mod merge;
 mod page_output;
 mod page_templates;
+mod partial_tips;
 mod parts;
 mod paths;
 mod progress;
 mod reach;
+mod record_tips;
 mod records;
 mod render;
 mod report;
 mod silent;
+mod table_notes;
 mod target;
 mod tips;
 mod watch;
 
+use crate::completions::completions;
 use crate::filters::language_for;
 use crate::merge::merge;
 use crate::paths::paths;
@@ -30,7 +37,8 @@ use clap::ArgMatches;
 use clap::error::ErrorKind;
 use liquid_check::check;
 use liquid_commands::{
-    Stop, check_call, command_fault, merge_call, option_fault, paths_call, program, render_call,
+    Stop, check_call, command_fault, merge_call, option_fault, paths_call, print_text, program,
+    render_call,
 };
 use std::alloc::{AllocError, Global};
 use std::process::ExitCode;
@@ -49,6 +57,9 @@ fn main(rt: HostRuntime) -> ExitCode {
 /// Does what the command line asks.
 fn run(rt: &HostRuntime) -> Result<(), Stop> {
     let words = words_given(rt)?;
+    if let Some(text) = completions(&words) {
+        return print_text(rt, text);
+    }
     match program(rt.alloc())?.try_get_matches_from(words.as_slice()) {
         Ok(matches) => run_command(rt, &matches),
         Err(answer) => print_help_or_error(rt, &explained(rt.alloc(), answer, &words)?),

@@ -1,23 +1,24 @@
 //! The command `merge`.
+use crate::data_notes::note_data;
 use crate::extent::Extent;
 use crate::files::record_files;
+use crate::gathered::Gathered;
 use crate::host_merge::merge_with;
 use crate::parts::{UsedParts, pattern_if_parsed, read_pattern, read_shared_parts};
 use crate::progress::Progress;
-use crate::records::{front_of, records_of, shown, unreadable};
+use crate::record_tips::Failing;
+use crate::records::{front_of, note_columns, records_of, shown, unreadable};
 use crate::report::Report;
+use crate::table_notes::{MadeRows, MergedTable, has_empty_cells, print_notes};
 use crate::target::{RecordOutcome, Target};
 use crate::tips::Tips;
 use crate::watch::{NewWarning, Seen, Watch};
-use liquid_commands::{
-    DataTexts, MergeCall, RecordsFormat, Sources, Stop, Tip, form_of, is_selected,
-    is_template_name, page_tip, record_tip,
-};
-use liquid_core::{Error, ErrorKind, HostFilters, Object, Result as Answer};
+use liquid_commands::{DataTexts, MergeCall, Sources, Stop, form_of, is_selected};
+use liquid_core::{Error, ErrorKind, HostFilters, Object, Result as Answer, Uses};
 use liquid_data::{RecordData, RecordFault, Records};
 use liquid_json::DataReader;
 use liquid_lib::Limits;
-use liquid_records::{Job, Merge, Why};
+use liquid_records::{Job, Merge};
 use std::alloc::AllocError;
 use std::fs;
 use std::io::Read;
@@ -29,6 +30,7 @@ const BYTES_FOR_A_NAME: usize = 32;
 /// where the disk takes no more files, where ten in a row are refused for want of permission, or
 /// where the records or standard output fail.
 pub fn merge<'r>(rt: &'r HostRuntime, call: &'r MergeCall<'r>) -> Result<(), Stop> {
+    note_data(rt, &call.inputs, call.is_quiet);
     let pattern = pattern_if_parsed(rt.alloc(), call.out)?;
     let read = match read_shared_parts(rt, &call.inputs, pattern.as_ref()) {
         Ok(read) => read,
@@ -60,8 +62,8 @@ pub fn merge_by<'r>(
         turns: call.max_turns,
     };
     let reader = match &uses {
-        Some(uses) => Some(DataReader::new(rt.alloc(), uses)?),
-        None => None,
+        Some(uses) => DataReader::new(rt.alloc(), uses)?,
+        None => DataReader::whole(rt.alloc()),
     };
     let (sources, job) = parts.into_job(host, call.missing, limits);
     let mut target = target_of(rt, call, &sources, job)?;
@@ -70,27 +72,14 @@ pub fn merge_by<'r>(
         call,
         sources,
         has_refusals,
+        uses,
         reader,
         texts,
+        made: MadeRows::new(),
         is_after_fault: false,
         watch: Watch::new(rt, call, bytes)?,
     };
     run.merge_into(&mut target)
-}
-
-/// Reports a column that no template can write where the template has a fault: it may be that
-/// column's name. Standard input isn't read for it.
-fn note_columns(rt: &HostRuntime, call: &MergeCall<'_>, stop: &Stop) {
-    if call.records == "-" || !matches!(stop, Stop::Faulted) {
-        return;
-    }
-    let Ok(file) = fs::open(rt, call.records) else {
-        return;
-    };
-    let mut reader = file;
-    if let Ok(front) = front_of(rt, call, &mut reader) {
-        drop(records_of(rt, call, front, reader));
-    }
 }
 
 /// Where the pages of a merge go.
@@ -101,7 +90,8 @@ fn target_of<'r>(
     job: Job<HostFilters>,
 ) -> Result<Target<'r>, Stop> {
     let Some(out) = call.out else {
-        return Ok(Target::Output(job));
+        let output = Gathered::new(rt, call.records == "-");
+        return Ok(Target::output(job, output));
     };
     let merge = Merge::new(rt.alloc(), job, read_pattern(rt, out)?);
     if call.dry_run {
@@ -118,10 +108,14 @@ struct Run<'r> {
     sources: Sources,
     /// Whether a partial is refused, so that one that isn't known may be given.
     has_refusals: bool,
-    /// Reads records as far as they are used, where that is known.
-    reader: Option<DataReader>,
+    /// What is used of data, where it is known.
+    uses: Option<Uses>,
+    /// Reads records of JSON as far as they are used, where that is known.
+    reader: DataReader,
     /// The texts of the shared data, where that isn't whole.
     texts: Option<DataTexts<'r>>,
+    /// The rows whose pages came out.
+    made: MadeRows,
     /// Whether the page of the last record had a fault: then the next is read whole at once.
     is_after_fault: bool,
     /// Looks for what pages show silently.
@@ -153,7 +147,11 @@ impl Run<'_> {
         let mut reader = reader;
         let front = front_of(self.rt, self.call, &mut reader)?;
         let mut records = records_of(self.rt, self.call, front, reader)?;
-        self.each(target, &mut records, extent)
+        let answer = self.each(target, &mut records, extent);
+        if answer.is_err() {
+            target.end_early();
+        }
+        answer
     }
 
     /// Merges one record after another, up to the last that is asked for, and prints how many pages
@@ -174,7 +172,28 @@ impl Run<'_> {
         }
         target.finish(self.rt.alloc())?;
         self.check_begun(records.number())?;
+        self.print_notes(target, records)?;
         progress.end(self.rt, self.call.is_quiet)
+    }
+
+    /// Reports what is likely wrong with a table.
+    fn print_notes<R: Read + Drop>(
+        &self,
+        target: &Target<'_>,
+        records: &Records<R>,
+    ) -> Result<(), Stop> {
+        if self.call.is_quiet || records.columns().is_empty() {
+            return Ok(());
+        }
+        let table = MergedTable {
+            columns: records.columns(),
+            rows: records.number(),
+            made: &self.made,
+            stray: records.stray(),
+            uses: self.uses.as_ref(),
+            shared: &target.job().shared,
+        };
+        print_notes(self.rt, self.call, table)
     }
 
     /// Refuses a `--from` past the last record, which is printed. Without one there may be no
@@ -227,11 +246,7 @@ impl Run<'_> {
             return Ok(());
         };
         report.print(self.rt, &self.sources, number, records.text());
-        if self.is_about_columns(&report, records) {
-            tips.print_columns(self.rt, records.columns());
-        } else {
-            tips.print(self.rt, self.tip_for(&report, number));
-        }
+        self.failing().print_tip(&report, records, tips);
         if report.ends_merge() {
             return Err(Stop::Faulted);
         }
@@ -245,40 +260,13 @@ impl Run<'_> {
         Ok(())
     }
 
-    /// Whether the first record may be no JSON because the file isn't what the call takes it for:
-    /// JSON by its name or by an option, or a template.
-    fn may_be_another_file(&self) -> bool {
-        matches!(self.call.format, Some(RecordsFormat::Lines))
-            || is_template_name(self.call.records)
-    }
-
-    /// Whether a page lacks a value that may be that of a column of another name.
-    fn is_about_columns<R: Read + Drop>(&self, report: &Report, records: &Records<R>) -> bool {
-        match report.why() {
-            Some(Why::Faulted(fault) | Why::Unnamed(fault)) => {
-                fault.kind == ErrorKind::UnknownVariable && !records.columns().is_empty()
-            }
-            _ => false,
-        }
-    }
-
-    /// The tip for a record that has no page.
-    fn tip_for(&self, report: &Report, number: u64) -> Option<Tip> {
-        match report.why()? {
-            Why::NoData(fault) => {
-                let forms = self.call.inputs.forms;
-                record_tip(
-                    fault.kind,
-                    self.call.records,
-                    forms.decimals_as_texts,
-                    number == 1 && self.may_be_another_file(),
-                )
-            }
-            Why::Faulted(fault) => match fault.kind {
-                ErrorKind::UnknownPartial if self.has_refusals => None,
-                kind => page_tip(kind, self.call.missing),
-            },
-            _ => None,
+    /// What is known of the merge where a record has no page.
+    fn failing(&self) -> Failing<'_> {
+        Failing {
+            rt: self.rt,
+            call: self.call,
+            sources: &self.sources,
+            has_refusals: self.has_refusals,
         }
     }
 
@@ -308,7 +296,10 @@ impl Run<'_> {
         records: &Records<R>,
     ) -> Result<RecordOutcome, Stop> {
         let (outcome, is_whole) = self.taken_as_used(target, records)?;
-        self.is_after_fault = is_page_fault(&outcome);
+        self.is_after_fault = match &outcome {
+            Ok(()) => false,
+            Err(report) => report.is_page_fault(),
+        };
         if is_whole || !self.is_after_fault {
             return Ok(outcome);
         }
@@ -328,19 +319,35 @@ impl Run<'_> {
 
     /// Takes one record with what is used of the data, and whether that was all of it.
     fn taken_as_used<R: Read + Drop>(
-        &self,
+        &mut self,
         target: &mut Target<'_>,
         records: &Records<R>,
     ) -> Result<(RecordOutcome, bool), Stop> {
-        let data = match self.data_of(records) {
-            Ok(data) => data,
+        let (data, is_whole) = match self.data_of(records) {
+            Ok(RecordData::Text(text)) => match self.data_in(text) {
+                Ok((data, is_whole)) => (RecordData::Data(data), is_whole),
+                Err(report) => return Ok((Err(report), true)),
+            },
+            Ok(data) => return self.row_taken(target, records, data),
             Err(report) => return Ok((Err(report), true)),
         };
-        match self.used_of(&data) {
-            Some(Ok(used)) => Ok((self.put(target, records, RecordData::Data(used))?, false)),
-            Some(Err(report)) => Ok((Err(report), true)),
-            None => Ok((self.put(target, records, data)?, self.texts.is_none())),
+        let is_whole = is_whole && self.texts.is_none();
+        Ok((self.put(target, records, data)?, is_whole))
+    }
+
+    /// Takes the record of a row.
+    fn row_taken<R: Read + Drop>(
+        &mut self,
+        target: &mut Target<'_>,
+        records: &Records<R>,
+        data: RecordData<'_>,
+    ) -> Result<(RecordOutcome, bool), Stop> {
+        let is_empty = has_empty_cells(&data);
+        let outcome = self.put(target, records, data)?;
+        if outcome.is_ok() {
+            self.made.add(records.number(), is_empty);
         }
+        Ok((outcome, self.texts.is_none()))
     }
 
     /// All data of a record.
@@ -355,20 +362,25 @@ impl Run<'_> {
         }
     }
 
-    /// What is used of a text of JSON, where it has many bytes for each name that is asked for: to
-    /// look a name up takes about as long as to build some bytes.
-    fn used_of(&self, data: &RecordData<'_>) -> Option<Result<Object, Report>> {
-        let (Some(reader), RecordData::Text(text)) = (&self.reader, data) else {
-            return None;
+    /// The data of a text of JSON, and whether it is all of it: what is used of it, where it has
+    /// many bytes for each name that is asked for. To look a name up takes about as long as to
+    /// build some bytes.
+    fn data_in(&mut self, text: &str) -> Result<(Object, bool), Report> {
+        let alloc = self.rt.alloc();
+        let is_used = match self.reader.names() {
+            Some(names) => !self.is_after_fault && text.len() / BYTES_FOR_A_NAME >= names,
+            None => false,
         };
-        if self.is_after_fault || text.len() / BYTES_FOR_A_NAME < reader.names()? {
-            return None;
-        }
-        match reader.data(self.rt.alloc(), text) {
-            Ok(used) => Some(Ok(used)),
+        let read = if is_used {
+            self.reader.data(alloc, text)
+        } else {
+            self.reader.whole_data(alloc, text)
+        };
+        match read {
+            Ok(data) => Ok((data, !is_used)),
             Err(fault) => match fault.kind {
-                ErrorKind::Memory => Some(Err(Report::Fault(fault))),
-                _ => Some(Err(Report::from(RecordFault::NoData(fault)))),
+                ErrorKind::Memory => Err(Report::Fault(fault)),
+                _ => Err(Report::from(RecordFault::NoData(fault))),
             },
         }
     }
@@ -382,13 +394,5 @@ impl Run<'_> {
     ) -> Result<RecordOutcome, Stop> {
         let number = records.number() as usize;
         target.take(self.rt, self.call.separator, number, data)
-    }
-}
-
-/// Whether a record's page or its name ends by a fault.
-fn is_page_fault(outcome: &RecordOutcome) -> bool {
-    match outcome {
-        Ok(()) => false,
-        Err(report) => matches!(report.why(), Some(Why::Faulted(_) | Why::Unnamed(_))),
     }
 }

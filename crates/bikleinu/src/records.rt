@@ -1,14 +1,17 @@
 //! The records of a merge, read as the call says, and else as their path or their front does.
-use liquid_commands::{MergeCall, RecordsFormat, Stop, called, guessed_format};
+use liquid_commands::{
+    MergeCall, RecordsFormat, Stop, TemplateWord, Tip, called, guessed_format, is_records_name,
+    is_toml, is_yaml, print_tip,
+};
 use liquid_core::Quoted;
 use liquid_data::{
     CellForm, HeadStop, NameForm, Records, RowFault, TableForm, column_name, guessed_delimiter,
     is_writable,
 };
-use liquid_files::{Reason, ShownPath};
+use liquid_files::{Reason, ShownPath, foreign_of};
 use std::alloc::AllocError;
-use std::io;
 use std::io::{Chain, Cursor, Read};
+use std::{fs, io};
 
 /// The mark of UTF-8 that some programs write before a text.
 const MARK: &[u8] = b"\xef\xbb\xbf";
@@ -19,16 +22,13 @@ const PARTS: usize = 64;
 const PART: usize = 1024;
 
 /// The bytes that show how records are written: up to the end of the first line that isn't blank,
-/// or 64 KiB. None are read where the call says all of it, so that nothing waits for them.
+/// or 64 KiB. The first record waits for no more than that.
 pub fn front_of<R: Read>(
     rt: &HostRuntime,
     call: &MergeCall<'_>,
     reader: &mut R,
 ) -> Result<Vec<u8>, Stop> {
-    match call.format {
-        Some(RecordsFormat::Lines) => Ok(Vec::new(rt.alloc())),
-        _ => read_front(rt, reader).map_err(|refused| unreadable(rt, call, refused.kind())),
-    }
+    read_front(rt, reader).map_err(|refused| unreadable(rt, call, refused.kind()))
 }
 
 fn read_front<R: Read>(rt: &HostRuntime, reader: &mut R) -> io::Result<Vec<u8>> {
@@ -53,7 +53,8 @@ fn has_line(front: &[u8]) -> bool {
     front.trim_ascii_start().contains(&b'\n')
 }
 
-/// The records that a front and a reader after it give. A fault of a table's head is printed.
+/// The records that a front and a reader after it give. A fault of a table's head is printed, and
+/// so is a front that is none of records.
 pub fn records_of<R: Read + Drop>(
     rt: &HostRuntime,
     call: &MergeCall<'_>,
@@ -61,7 +62,7 @@ pub fn records_of<R: Read + Drop>(
     reader: R,
 ) -> Result<Records<Chain<Cursor<Vec<u8>>, R>>, Stop> {
     let text = without_mark(front.as_slice());
-    match format_of(rt, call, text) {
+    match format_of(rt, call, text)? {
         RecordsFormat::Lines => Ok(Records::lines(rt.alloc(), after_mark(front).chain(reader))?),
         RecordsFormat::List => Ok(Records::list(rt.alloc(), after_mark(front).chain(reader))?),
         RecordsFormat::Table => {
@@ -74,6 +75,21 @@ pub fn records_of<R: Read + Drop>(
                 Err(stop) => Err(head_stop(rt, call, stop)),
             }
         }
+    }
+}
+
+/// Reports a column that no template can write where the template has a fault: it may be that
+/// column's name. Standard input isn't read for it.
+pub fn note_columns(rt: &HostRuntime, call: &MergeCall<'_>, stop: &Stop) {
+    if call.records == "-" || !matches!(stop, Stop::Faulted) {
+        return;
+    }
+    let Ok(file) = fs::open(rt, call.records) else {
+        return;
+    };
+    let mut reader = file;
+    if let Ok(front) = front_of(rt, call, &mut reader) {
+        drop(records_of(rt, call, front, reader));
     }
 }
 
@@ -116,19 +132,79 @@ fn after_mark(front: Vec<u8>) -> Cursor<Vec<u8>> {
     bytes
 }
 
-/// How the records are written. A table that only its front shows is reported.
-fn format_of(rt: &HostRuntime, call: &MergeCall<'_>, front: &[u8]) -> RecordsFormat {
-    if let Some(format) = call.format {
-        return format;
+/// How the records are written. A front that is none of records is a fault, which is printed.
+fn format_of(rt: &HostRuntime, call: &MergeCall<'_>, front: &[u8]) -> Result<RecordsFormat, Stop> {
+    if let Some(foreign) = foreign_of(front) {
+        let reason = Reason::Foreign(foreign);
+        return Err(Stop::unreadable(rt.alloc(), called(call.records), reason));
     }
     let format = guessed_format(front);
-    if matches!(format, RecordsFormat::Table) && !call.is_quiet {
-        let path = shown(call);
-        let _ = eprintln!(rt;
-            "note: {path}: it begins with no `{{` or `[`, so it is read by --records-format csv"
-        );
+    if let Some(given) = call.format {
+        if !front.trim_ascii_start().is_empty() {
+            note_json(rt, call, given, format);
+        }
+        return Ok(given);
     }
-    format
+    if matches!(format, RecordsFormat::Table) {
+        check_table(rt, call, front)?;
+    }
+    Ok(format)
+}
+
+/// Reports a text that is to be a table and begins as JSON does.
+fn note_json(rt: &HostRuntime, call: &MergeCall<'_>, given: RecordsFormat, guessed: RecordsFormat) {
+    let name = match (given, guessed) {
+        (RecordsFormat::Table, RecordsFormat::Lines) if !call.is_quiet => "jsonl",
+        (RecordsFormat::Table, RecordsFormat::List) if !call.is_quiet => "json",
+        _ => return,
+    };
+    let path = shown(call);
+    let _ = eprintln!(rt;
+        "note: {path}: it begins as JSON does, which --records-format {name} reads"
+    );
+}
+
+/// Reports a table that only its front shows. What is no table by its name or its front is a fault,
+/// which is printed.
+fn check_table(rt: &HostRuntime, call: &MergeCall<'_>, front: &[u8]) -> Result<(), Stop> {
+    let path = shown(call);
+    if let Some(other) = no_records(call.records, front) {
+        let _ = eprintln!(rt;
+            "error: {path}: it is {other}; records are a table, JSON lines or a JSON list"
+        );
+        return Err(Stop::Faulted);
+    }
+    if call.is_quiet {
+        return Ok(());
+    }
+    let _ = eprintln!(rt;
+        "note: {path}: it begins with no `{{` or `[`, so it is read by --records-format csv"
+    );
+    if has_records_name(call.inputs.template) {
+        print_tip(rt, Some(Tip::TemplateFirst));
+    }
+    Ok(())
+}
+
+/// What a file is by its name or its front that is no table.
+fn no_records(path: &str, front: &[u8]) -> Option<&'static str> {
+    if is_yaml(path) {
+        Some("YAML")
+    } else if is_toml(path) {
+        Some("TOML")
+    } else if front.trim_ascii_start().starts_with(b"<") {
+        Some("XML or HTML")
+    } else {
+        None
+    }
+}
+
+/// Whether a template is in a file that is named as records are.
+fn has_records_name(template: TemplateWord<'_>) -> bool {
+    match template {
+        TemplateWord::Path(path) => is_records_name(path),
+        TemplateWord::Text(_) => false,
+    }
 }
 
 /// How a table is read. A table without a row is a fault, which is printed; bytes between cells
@@ -139,6 +215,7 @@ fn table_form(rt: &HostRuntime, call: &MergeCall<'_>, front: &[u8]) -> Result<Ta
         let _ = eprintln!(rt; "error: {path}: the table is empty: its first row names the columns");
         return Err(Stop::Faulted);
     }
+    check_first_line(rt, call, front)?;
     let cells = if call.table.are_texts {
         CellForm::Texts
     } else {
@@ -161,13 +238,9 @@ fn table_form(rt: &HostRuntime, call: &MergeCall<'_>, front: &[u8]) -> Result<Ta
         Err(refused) => return Err(unreadable(rt, call, refused.kind())),
     };
     if delimiter != b',' && !call.is_quiet {
-        let name = if delimiter == b';' {
-            "semicolon"
-        } else {
-            "tab"
-        };
+        let name = delimiter_name(delimiter);
         let _ = eprintln!(rt;
-            "note: {path}: its first row has no comma, so it is read by --delimiter {name}"
+            "note: {path}: it is read by --delimiter {name}, by which its first row has most cells"
         );
     }
     Ok(TableForm {
@@ -175,6 +248,38 @@ fn table_form(rt: &HostRuntime, call: &MergeCall<'_>, front: &[u8]) -> Result<Ta
         cells,
         names,
     })
+}
+
+/// How a byte between cells that is no comma is written after `--delimiter`.
+fn delimiter_name(delimiter: u8) -> &'static str {
+    match delimiter {
+        b';' => "semicolon",
+        b'\t' => "tab",
+        _ => "'|'",
+    }
+}
+
+/// Refuses a first line that is for Excel, and no row. It is printed.
+fn check_first_line(rt: &HostRuntime, call: &MergeCall<'_>, front: &[u8]) -> Result<(), Stop> {
+    if !matches!(
+        front,
+        [
+            b's' | b'S',
+            b'e' | b'E',
+            b'p' | b'P',
+            b'=',
+            _,
+            b'\r' | b'\n',
+            ..
+        ]
+    ) {
+        return Ok(());
+    }
+    let path = shown(call);
+    let _ = eprintln!(rt;
+        "error: {path}: its first line, `sep=`, is for Excel and no row: take it out"
+    );
+    Err(Stop::Faulted)
 }
 
 /// Why a table has no records. A fault of its head is printed.

@@ -1,9 +1,11 @@
 //! The command `render`.
 ghost use Rattle.std.specs.Prelude.{◌≡◌};
 
+use crate::data_notes::note_data;
 use crate::files::{SystemPages, page_file, unwritten};
 use crate::filters::page_with;
 use crate::page_output::{PageEnd, print_page};
+use crate::partial_tips::print_partial_tip;
 use crate::parts::{PageParts, UsedParts, read_used_parts};
 use crate::reach::{print_refusal, refusal_of, tip_for_refusal};
 use crate::silent::{print_silent, silent_warnings};
@@ -15,6 +17,7 @@ use std::mem;
 /// Writes the page of a template. A page that ends by a fault goes to standard output up to there,
 /// and into no file. What was read isn't taken apart, so its memory stays until the program ends.
 pub fn render(rt: &HostRuntime, call: &RenderCall<'_>) -> Result<(), Stop> {
+    note_data(rt, &call.inputs, call.is_quiet);
     let mut read = read_used_parts(rt, &call.inputs)?;
     let silent = silent_warnings(rt.alloc(), call, &read)?;
     let answer = match call.out {
@@ -119,7 +122,9 @@ fn print_end(rt: &HostRuntime, call: &RenderCall<'_>, parts: &PageParts, fault: 
         None => page_tip(fault.kind, call.missing),
     };
     sources.print_page_fault(rt, fault);
-    print_tip(rt, tip);
+    if !print_partial_tip(rt, &call.inputs, sources, fault) {
+        print_tip(rt, tip);
+    }
 }
 
 /// What the template is rendered with beside its data: partials nest as deep as they may by

@@ -78,6 +78,11 @@ impl Report {
         }
     }
 
+    /// Whether the page or its name ends by a fault.
+    pub fn is_page_fault(&self) -> bool {
+        matches!(self.why(), Some(Why::Faulted(_) | Why::Unnamed(_)))
+    }
+
     /// Prints it in one line on standard error, and the line of the text that a fault is in. What
     /// that refuses is lost.
     pub fn print(&self, rt: &HostRuntime, sources: &Sources, number: u64, text: &str) {
@@ -117,7 +122,7 @@ impl fmt::Display for Report {
             return f.write_str(limit_words(*reached));
         }
         match self {
-            Report::NotUtf8 => f.write_str("its line isn't UTF-8"),
+            Report::NotUtf8 => f.write_str("its line isn't UTF-8; save the file as UTF-8"),
             Report::NoRow(fault) => write!(f, "{fault}"),
             Report::NoItem(fault) => write!(f, "{fault}"),
             Report::NoPage(why) => write!(f, "{why}"),

@@ -2,6 +2,7 @@
 ghost use Rattle.std.specs.Prelude.{◌≡◌};
 
 use crate::files::{Nowhere, SystemPages};
+use crate::gathered::Gathered;
 use crate::report::Report;
 use liquid_commands::{Stop, print_text};
 use liquid_core::{HostFilters, Object, Result as Answer};
@@ -20,7 +21,7 @@ pub enum Target<'r> {
     /// Nowhere: the names of the files are printed.
     Names(Merge<HostFilters>),
     /// All to standard output.
-    Output(Job<HostFilters>),
+    Output(PrintedMerge<'r>),
 }
 
 /// Drops what it holds. Written by hand, so that each early return drops the value by one call
@@ -38,6 +39,13 @@ impl Drop for Target<'_> {
 pub struct FileMerge<'r> {
     merge: Merge<HostFilters>,
     files: SystemPages<'r>,
+}
+
+/// What is made of each record, and standard output.
+#[derive(Drop)]
+pub struct PrintedMerge<'r> {
+    job: Job<HostFilters>,
+    output: Gathered<'r>,
 }
 
 impl FileMerge<'_> {
@@ -68,12 +76,17 @@ impl<'r> Target<'r> {
         Target::Files(FileMerge { merge, files })
     }
 
+    /// Standard output, and what is made of each record.
+    pub fn output(job: Job<HostFilters>, output: Gathered<'r>) -> Target<'r> {
+        Target::Output(PrintedMerge { job, output })
+    }
+
     /// What is made of each record.
     pub fn job(&self) -> &Job<HostFilters> {
         match self {
             Target::Files(file_merge) => file_merge.merge.job(),
             Target::Names(merge) => merge.job(),
-            Target::Output(job) => job,
+            Target::Output(printed) => &printed.job,
         }
     }
 
@@ -82,7 +95,7 @@ impl<'r> Target<'r> {
         match self {
             Target::Files(file_merge) => file_merge.merge.share(data),
             Target::Names(merge) => merge.share(data),
-            Target::Output(job) => job.shared = data,
+            Target::Output(printed) => printed.job.shared = data,
         }
     }
 
@@ -90,7 +103,15 @@ impl<'r> Target<'r> {
     pub fn finish(&mut self, alloc: Global) -> Result<(), Stop> {
         match self {
             Target::Files(file_merge) => file_merge.finish(alloc),
-            Target::Names(_) | Target::Output(_) => Ok(()),
+            Target::Names(_) => Ok(()),
+            Target::Output(printed) => printed.output.flush(),
+        }
+    }
+
+    /// Writes the pages that are held back, where a merge ends early.
+    pub fn end_early(&mut self) {
+        if let Target::Output(printed) = self {
+            let _ = printed.output.flush();
         }
     }
 
@@ -108,7 +129,7 @@ impl<'r> Target<'r> {
             Target::Names(merge) => {
                 print_name(rt, merged(rt.alloc(), merge, number, data, &mut Nowhere))
             }
-            Target::Output(job) => printed(rt, separator, made(rt.alloc(), job, data)),
+            Target::Output(printed) => printed.take(rt.alloc(), separator, data),
         }
     }
 }
@@ -163,19 +184,21 @@ fn print_name(rt: &HostRuntime, fate: Answer<Fate>) -> Result<RecordOutcome, Sto
     }
 }
 
-/// A record whose page is printed.
-fn printed(
-    rt: &HostRuntime,
-    separator: &str,
-    outcome: Answer<RecordResult<Made>>,
-) -> Result<RecordOutcome, Stop> {
-    match outcome {
-        Ok(Ok(Made { name: _, text })) => {
-            print_text(rt, text.as_str())?;
-            print_text(rt, separator)?;
-            Ok(Ok(()))
+impl PrintedMerge<'_> {
+    /// Takes one record, whose page is printed.
+    fn take(
+        &mut self,
+        alloc: Global,
+        separator: &str,
+        data: RecordData<'_>,
+    ) -> Result<RecordOutcome, Stop> {
+        match made(alloc, &mut self.job, data) {
+            Ok(Ok(Made { name: _, text })) => {
+                self.output.print(text.as_str(), separator)?;
+                Ok(Ok(()))
+            }
+            Ok(Err(why)) => Ok(Err(Report::NoPage(why))),
+            Err(fault) => Ok(Err(Report::Fault(fault))),
         }
-        Ok(Err(why)) => Ok(Err(Report::NoPage(why))),
-        Err(fault) => Ok(Err(Report::Fault(fault))),
     }
 }

@@ -1,8 +1,10 @@
 //! The tips that follow the faults of templates.
 use crate::filters::language_with;
+use crate::partial_tips::print_partial_tip;
 use liquid_check::FaultTips;
-use liquid_commands::{FilterSet, Tip, print_tip, source_tip};
-use liquid_core::{Error, Quoted};
+use liquid_commands::{FilterSet, Inputs, Sources, Tip, print_tip, source_tip};
+use liquid_core::{Error, Object, Quoted, Value};
+use liquid_json::data_from_json;
 use liquid_lib::parse_with_source;
 use std::alloc::Global;
 use std::fmt;
@@ -28,6 +30,36 @@ impl Tips {
         }
     }
 
+    /// Prints that a record's list may have the records, where its one member is a list and no tip
+    /// was printed before.
+    pub fn print_list(&mut self, rt: &HostRuntime, text: &str) {
+        if self.is_printed {
+            return;
+        }
+        if let Ok(record) = data_from_json(rt.alloc(), text) {
+            if let Some(name) = only_list(&record) {
+                self.is_printed = true;
+                let name = Quoted { text: name };
+                let _ = eprintln!(rt;
+                    "  tip: each item of `{name}` is a record where the list is alone in the file"
+                );
+            }
+        }
+    }
+
+    /// Prints the partial that is likely meant, where no tip was printed before.
+    pub fn print_partial(
+        &mut self,
+        rt: &HostRuntime,
+        inputs: &Inputs<'_>,
+        sources: &Sources,
+        fault: &Error,
+    ) {
+        if !self.is_printed {
+            self.is_printed = print_partial_tip(rt, inputs, sources, fault);
+        }
+    }
+
     /// Prints a tip, where there is one and none was printed before.
     pub fn print(&mut self, rt: &HostRuntime, tip: Option<Tip>) {
         if !self.is_printed {
@@ -35,6 +67,19 @@ impl Tips {
             print_tip(rt, tip);
         }
     }
+}
+
+/// The name of the one member that a record has, where that is a list.
+fn only_list(record: &Object) -> Option<&str> {
+    if record.len() != 1 {
+        return None;
+    }
+    for (name, value) in record {
+        if let Value::Array(_) = value {
+            return Some(name.as_str());
+        }
+    }
+    None
 }
 
 /// How many columns of a table are named at most.

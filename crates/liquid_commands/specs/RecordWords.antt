@@ -2,10 +2,11 @@
 --     records_format word path      as the word says, or without one as the path ends
 --     guessed_format front      as the text begins
 --     delimiter_of word, delimiter_of_path path      the byte between the cells of a table
+--     is_records_name path      whether a file is named as a table or as lines of JSON
 --     are_texts word      whether each cell is a text
 --     are_snake word      whether columns are named in snake case
 use Rattle.std.specs.Prelude.{ℕ, ◌==◌, Bool, false, not, ◌&&◌, ◌||◌, cond, nat_lt, List, [], ◌∷◌}
-use Rattle.std.specs.Prelude.{codes, bytes_eq, Option, Some, None}
+use Rattle.std.specs.Prelude.{codes, bytes_eq, is_some, Option, Some, None}
 use Rattle.std.specs.Char.{is_ascii_whitespace}
 use Rattle.liquid_commands.specs.Words.{CommandWord, has_ending}
 use Rattle.liquid_commands.specs.declared.record_words.RecordsFormat.{RecordsFormat}
@@ -26,6 +27,10 @@ is_table_path path = has_ending (codes ".csv") path || (has_ending (codes ".CSV"
 abbrev pub format_of_path : CommandWord → Option RecordsFormat
 format_of_path path = cond (is_table_path path) (Some Table)
     (cond (has_ending (codes ".jsonl") path || has_ending (codes ".ndjson") path) (Some Lines) None)
+
+-- whether it ends as that of records does
+abbrev pub is_records_name : CommandWord → Bool
+is_records_name path = is_some (format_of_path path)
 
 abbrev pub format_named : CommandWord → RecordsFormat
 format_named word = cond (bytes_eq word (codes "csv")) Table

@@ -7,8 +7,10 @@
 --     no_file_tip path      where no file of data is at a path
 --     checked_tip path      for a file that is checked as a template
 --     value_tip kind      for a fault of a value of the command line
---     record_tip kind path decimals first      for a fault of a record that is read as JSON
+--     record_tip kind path decimals first      for a fault of a record that is read as JSON, and
+--                                              is this first line
 use Rattle.std.specs.Prelude.{Bool, true, false, cond, not, ◌&&◌, ◌||◌, codes, Option, Some, None}
+use Rattle.std.specs.Prelude.{[], ◌∷◌, option_and_then}
 use Rattle.liquid_core.specs.declared.missing_value.Missing.{Missing}
 use Rattle.liquid_core.specs.declared.missing_value.Missing.TheVariants.{IsFault, IsNil}
 use Rattle.liquid_model.specs.declared.error.ErrorKind.{ErrorKind}
@@ -16,12 +18,18 @@ use Rattle.liquid_model.specs.declared.error.ErrorKind.TheVariants.{UnknownTag, 
 use Rattle.liquid_model.specs.declared.error.ErrorKind.TheVariants.{UnknownVariable, UnknownPartial}
 use Rattle.liquid_model.specs.declared.error.ErrorKind.TheVariants.{Float, InvalidInput}
 use Rattle.liquid_commands.specs.Words.{CommandWord, has_ending, is_template_name}
+use Rattle.liquid_commands.specs.RecordWords.{guessed_format, is_records_name}
 use Rattle.liquid_commands.specs.Words.{is_yaml, split_at_equals}
+use Rattle.liquid_commands.specs.declared.record_words.RecordsFormat.{RecordsFormat}
+use Rattle.liquid_commands.specs.declared.record_words.RecordsFormat.TheVariants as format
+use Rattle.liquid_commands.specs.declared.record_words.RecordsFormat.TheVariants.{Lines}
+use Rattle.liquid_commands.specs.declared.record_words.RecordsFormat.TheVariants.{List as Items}
 use Rattle.liquid_commands.specs.declared.option_tips.Tip.{Tip}
 use Rattle.liquid_commands.specs.declared.option_tips.Tip.TheVariants.{Decimals, Jekyll, Shopify}
 use Rattle.liquid_commands.specs.declared.option_tips.Tip.TheVariants.{MissingIsNil, Partials}
 use Rattle.liquid_commands.specs.declared.option_tips.Tip.TheVariants.{DecimalsAsTexts, PartOfYaml}
 use Rattle.liquid_commands.specs.declared.option_tips.Tip.TheVariants.{TextValue, Table}
+use Rattle.liquid_commands.specs.declared.option_tips.Tip.TheVariants.{List, OneLine, Records}
 use Rattle.liquid_commands.specs.declared.option_tips.Tip.TheVariants.{TemplateFirst, Define}
 use Rattle.liquid_commands.specs.declared.option_tips.Tip.TheVariants.{DataFile, Dates}
 
@@ -35,6 +43,10 @@ tip_text DecimalsAsTexts = codes "--decimals text reads such a number as a text"
 tip_text PartOfYaml = codes "a part of YAML is read; JSON and TOML are read whole"
 tip_text TextValue = codes "-D NAME=TEXT gives a text, without `:`"
 tip_text Table = codes "--records-format csv reads a table"
+tip_text List = codes "--records-format json reads a list"
+tip_text OneLine =
+    codes "a record is one line, with no comma after it; a JSON list may go over lines"
+tip_text Records = codes "bikleinu merge reads tables and JSON lines, as its records"
 tip_text TemplateFirst = codes "the template comes first, and its data or records after it"
 tip_text Define = codes "-D NAME=TEXT gives a value, and -D NAME:=JSON one of another kind"
 tip_text DataFile = codes "-d FILE gives data; each PATH is a template"
@@ -64,9 +76,10 @@ abbrev pub is_float_kind : ErrorKind → Bool
 is_float_kind Float = true
 is_float_kind kind = false
 
--- a template may stand in the place of data that is no JSON
+-- a template or records may stand in the place of data that is no JSON
 abbrev pub exchanged_tip : ErrorKind → CommandWord → Option Tip
-exchanged_tip InvalidInput path = cond (is_template_name path) (Some TemplateFirst) None
+exchanged_tip InvalidInput path = cond (is_template_name path) (Some TemplateFirst)
+    (cond (is_records_name path) (Some Records) None)
 exchanged_tip kind path = None
 
 -- a number that isn't whole may be a text, but in TOML; and not all of YAML is read
@@ -94,11 +107,24 @@ value_tip Float = Some DecimalsAsTexts
 value_tip InvalidInput = Some TextValue
 value_tip kind = None
 
-abbrev pub first_line_tip : CommandWord → Tip
-first_line_tip path = cond (is_template_name path) TemplateFirst Table
+-- whether a line ends as an object does
+abbrev pub ends_in_brace : CommandWord → Bool
+ends_in_brace line = has_ending (125 ∷ 10 ∷ []) line
+    || (has_ending (125 ∷ []) line || has_ending (125 ∷ 13 ∷ 10 ∷ []) line)
 
--- a number may be a text, and a first line that is no JSON that of a template or a table
-abbrev pub record_tip : ErrorKind → CommandWord → Bool → Bool → Option Tip
+-- by how the records are written that begin so
+abbrev pub format_tip : RecordsFormat → CommandWord → Option Tip
+format_tip Lines line = cond (ends_in_brace line) None (Some OneLine)
+format_tip Items line = Some List
+format_tip format.Table line = Some Table
+
+abbrev pub first_line_tip : CommandWord → CommandWord → Option Tip
+first_line_tip path line =
+    cond (is_template_name path) (Some TemplateFirst) (format_tip (guessed_format line) line)
+
+-- a number may be a text, and a first line that is no JSON that of a template, a table or a list,
+-- or not a whole record
+abbrev pub record_tip : ErrorKind → CommandWord → Bool → Option CommandWord → Option Tip
 record_tip Float path decimals first = cond decimals None (Some DecimalsAsTexts)
-record_tip InvalidInput path decimals first = cond first (Some (first_line_tip path)) None
+record_tip InvalidInput path decimals first = option_and_then (first_line_tip path) first
 record_tip kind path decimals first = None

@@ -51,7 +51,7 @@ pub use output::{end_line, is_line_open, print_text};
 pub use paths::{PathsCall, PathsFormat, paths_call};
 pub use record_words::{
     RecordsFormat, are_snake, are_texts, delimiter_of, delimiter_of_path, guessed_format,
-    records_format,
+    is_records_name, records_format,
 };
 pub use render::{RenderCall, render_call};
 pub use seen::input_for;

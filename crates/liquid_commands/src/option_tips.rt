@@ -1,9 +1,11 @@
 //! The options that are a way out of a fault.
-ghost use Rattle.std.specs.Prelude.{◌≡◌, Some};
+ghost use Rattle.std.specs.Prelude.{◌≡◌, Some, option_map};
 ghost use Rattle.liquid_commands.specs.Tips.{checked_tip, data_tip, exchanged_tip};
-ghost use Rattle.liquid_commands.specs.Tips.{first_line_tip, no_file_tip, page_tip};
+ghost use Rattle.liquid_commands.specs.Tips.{ends_in_brace, first_line_tip, no_file_tip};
+ghost use Rattle.liquid_commands.specs.Tips.{page_tip};
 ghost use Rattle.liquid_commands.specs.Tips.{record_tip, set_tip, source_tip, tip_text, value_tip};
 
+use crate::record_words::{RecordsFormat, guessed_format, is_records_name};
 use crate::words::{ends_in, is_template_name, is_toml, is_yaml, split_at_equals};
 use liquid_core::Missing;
 use liquid_model::ErrorKind;
@@ -30,6 +32,12 @@ pub enum Tip {
     TextValue,
     /// The records are a table.
     Table,
+    /// The records are a list of JSON.
+    List,
+    /// A record that is a line of JSON isn't whole in it.
+    OneLine,
+    /// The data is a table or lines of JSON, as records are.
+    Records,
     /// The template stands before the data.
     TemplateFirst,
     /// A value is given on the command line.
@@ -55,6 +63,11 @@ impl fmt::Display for Tip {
             Tip::PartOfYaml => "a part of YAML is read; JSON and TOML are read whole",
             Tip::TextValue => "-D NAME=TEXT gives a text, without `:`",
             Tip::Table => "--records-format csv reads a table",
+            Tip::List => "--records-format json reads a list",
+            Tip::OneLine => {
+                "a record is one line, with no comma after it; a JSON list may go over lines"
+            }
+            Tip::Records => "bikleinu merge reads tables and JSON lines, as its records",
             Tip::TemplateFirst => "the template comes first, and its data or records after it",
             Tip::Define => "-D NAME=TEXT gives a value, and -D NAME:=JSON one of another kind",
             Tip::DataFile => "-d FILE gives data; each PATH is a template",
@@ -118,12 +131,13 @@ pub fn data_tip(kind: ErrorKind, path: &str, decimals_as_texts: bool) -> Option<
     exchanged_tip(kind, path)
 }
 
-/// The tip where a template stands in the place of the data, by the name of its file.
+/// The tip where a template or records stand in the place of the data, by the name of the file.
 fn exchanged_tip(kind: ErrorKind, path: &str) -> Option<Tip>
     ensures { result ≡ exchanged_tip kind path.now }
 {
     match kind {
         ErrorKind::InvalidInput if is_template_name(path) => Some(Tip::TemplateFirst),
+        ErrorKind::InvalidInput if is_records_name(path) => Some(Tip::Records),
         _ => None,
     }
 }
@@ -163,29 +177,45 @@ pub fn value_tip(kind: ErrorKind) -> Option<Tip>
     }
 }
 
-/// The tip for a fault of this kind in a record that is a line of JSON in the file at a path: where
-/// the first line is none, the file may be a template or a table. It takes no memory.
+/// The tip for a fault of this kind in a record of JSON in the file at a path. Where the first of
+/// records that are a line each has the fault, and is this text, the file may be a template, a
+/// table or a list, or the record isn't whole in its line. It takes no memory.
 pub fn record_tip(
     kind: ErrorKind,
     path: &str,
     decimals_as_texts: bool,
-    is_first: bool,
+    first_line: Option<&str>,
 ) -> Option<Tip>
-    ensures { result ≡ record_tip kind path.now decimals_as_texts is_first }
+    ensures { result ≡ record_tip kind path.now decimals_as_texts
+        (option_map (λ line. line.now) first_line.entry) }
 {
-    match kind {
-        ErrorKind::Float if !decimals_as_texts => Some(Tip::DecimalsAsTexts),
-        ErrorKind::InvalidInput if is_first => Some(first_line_tip(path)),
+    match (kind, first_line) {
+        (ErrorKind::Float, _) if !decimals_as_texts => Some(Tip::DecimalsAsTexts),
+        (ErrorKind::InvalidInput, Some(line)) => first_line_tip(path, line),
         _ => None,
     }
 }
 
-fn first_line_tip(path: &str) -> Tip
-    ensures { result ≡ first_line_tip path.now }
+fn first_line_tip(path: &str, line: &str) -> Option<Tip>
+    ensures { result ≡ first_line_tip path.now line.now }
 {
     if is_template_name(path) {
-        Tip::TemplateFirst
-    } else {
-        Tip::Table
+        return Some(Tip::TemplateFirst);
     }
+    match guessed_format(line.as_bytes()) {
+        RecordsFormat::Lines => if ends_in_brace(line) {
+            None
+        } else {
+            Some(Tip::OneLine)
+        },
+        RecordsFormat::List => Some(Tip::List),
+        RecordsFormat::Table => Some(Tip::Table),
+    }
+}
+
+/// Whether a line ends as an object does.
+fn ends_in_brace(line: &str) -> bool
+    ensures { result ≡ ends_in_brace line.now }
+{
+    ends_in(line, "}\n") || ends_in(line, "}") || ends_in(line, "}\r\n")
 }

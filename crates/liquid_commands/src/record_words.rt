@@ -3,7 +3,8 @@ ghost use Rattle.std.specs.Prelude.{◌≡◌, option_map};
 ghost use Rattle.liquid_commands.specs.RecordWords.{are_snake, are_texts, delimiter_of};
 ghost use Rattle.liquid_commands.specs.RecordWords.{delimiter_of_path, format_of_path};
 ghost use Rattle.liquid_commands.specs.RecordWords.{delimiter_in, guessed_format};
-ghost use Rattle.liquid_commands.specs.RecordWords.{may_part_cells, records_format};
+ghost use Rattle.liquid_commands.specs.RecordWords.{is_records_name, may_part_cells};
+ghost use Rattle.liquid_commands.specs.RecordWords.{records_format};
 
 use crate::words::ends_in;
 
@@ -41,6 +42,14 @@ fn format_of_path(path: &str) -> Option<RecordsFormat>
     } else {
         None
     }
+}
+
+/// Whether a file is named as a table or as lines of JSON, by the end of its path. It takes no
+/// memory.
+pub fn is_records_name(path: &str) -> bool
+    ensures { result ≡ is_records_name path.now }
+{
+    format_of_path(path).is_some()
 }
 
 /// The byte between the cells of a table, where the end of its path says it: a tab in `.tsv`. It

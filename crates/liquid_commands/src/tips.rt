@@ -11,8 +11,8 @@ use clap::error::ErrorKind;
 use std::alloc::{AllocError, Global};
 
 /// What is said where a shell's completions are asked for.
-const COMPLETIONS: &str = "unrecognized subcommand 'completions'\n\n  tip: each package brings \
-                           those of bash, zsh and fish; their files are in packages/completions";
+const COMPLETIONS: &str = "completions are those of a shell\n\n  tip: write `bikleinu \
+                           completions bash`, `zsh` or `fish`";
 
 /// What is wrong where the first word of a call names a file, and no command: `render` is likely
 /// meant. None where it names none. `AllocError` where there is no room for it, and nowhere else.
@@ -20,7 +20,7 @@ pub fn command_fault(alloc: Global, words: &[String]) -> Result<Option<Error>, A
     let [_, first, ..] = words else {
         return Ok(None);
     };
-    if first.as_str() == "completions" {
+    if matches!(first.as_str(), "completions" | "completion") {
         return Ok(Some(no_command(alloc, COMPLETIONS)?));
     }
     if !is_template_path(first.as_str()) {

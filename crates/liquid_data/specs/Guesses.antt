@@ -16,7 +16,12 @@ abbrev pub first_cells : ℕ → List ℕ → ℕ
 first_cells delimiter text =
     cells_read (next_record (delimited delimiter) state.StartRecord [] [] (strip_bom text))
 
--- of a comma, a semicolon and a tab the first with which the row has more than one cell
+-- the first of two bytes, unless the row has more cells with the second
+abbrev pub parts_better : List ℕ → ℕ → ℕ → ℕ
+parts_better text first second =
+    cond (nat_lt (first_cells first text) (first_cells second text)) second first
+
+-- of a comma, a semicolon, a tab and a bar the first with which the row has the most cells
 abbrev pub guessed_delimiter : List ℕ → ℕ
-guessed_delimiter text = cond (nat_lt 1 (first_cells 44 text)) 44
-    (cond (nat_lt 1 (first_cells 59 text)) 59 (cond (nat_lt 1 (first_cells 9 text)) 9 44))
+guessed_delimiter text =
+    parts_better text (parts_better text (parts_better text 44 59) 9) 124

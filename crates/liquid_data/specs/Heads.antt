@@ -65,7 +65,7 @@ column_names form cells = names_alone (all_named form (Ok none_named) cells)
 
 abbrev pub head_fault_text : HeadFault → Text
 head_fault_text (NotUtf8 column) = codes "the name of column " ++ (decimal column
-    ++ codes " isn't UTF-8")
+    ++ codes " isn't UTF-8; save the table as UTF-8")
 head_fault_text (Unnamed column) = codes "column " ++ (decimal column
     ++ codes " has no name in the first row")
 head_fault_text (Again before column) = codes "columns " ++ (decimal before ++ (codes " and "

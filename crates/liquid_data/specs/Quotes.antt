@@ -2,6 +2,7 @@
 --     quotes_after delimiter quotes byte      the place after one more byte of the text
 --     after_all delimiter quotes bytes      the place after more of them
 --     open_quote quotes      the line of the quote that is open
+--     stray_after delimiter quotes byte      the line of the first text after a closing quote
 --     unclosed reader      that line, where the text ended
 --     bytes_left remaining reader      the bytes that are still to come, where these are known
 use Rattle.std.specs.Prelude.{ℕ, ◌+◌, ◌==◌, ◌||◌, ◌&&◌, not, cond, length, min, Bool, true, false}
@@ -13,7 +14,7 @@ use Rattle.liquid_data.specs.declared.quotes.QuoteReader.{QuoteReader}
 use Rattle.liquid_data.specs.declared.quotes.Quotes.{Quotes}
 
 abbrev pub table_start : Quotes
-table_start = record { place = Start; line = 1 }
+table_start = record { place = Start; line = 1; stray = None }
 
 -- outside of quotes a cell ends at the byte between cells and at a line end
 abbrev pub after_plain : ℕ → ℕ → CellPlace
@@ -36,10 +37,29 @@ cell_place_after d line (AfterQuote opened) b = cond (b == 34) (Quoted opened) (
 abbrev pub line_after : ℕ → ℕ → ℕ
 line_after line b = cond (b == 10) (min (line + 1) 18446744073709551615) line
 
+-- text after a closing quote: neither another quote nor what ends the cell
+abbrev pub is_stray : ℕ → CellPlace → ℕ → Bool
+is_stray d (AfterQuote opened) b =
+    not (b == 34) && (not (b == d) && (not (b == 10) && not (b == 13)))
+is_stray d place b = false
+
+abbrev pub line_if : Bool → ℕ → Option ℕ
+line_if true line = Some line
+line_if false line = None
+
+-- the line of the first such text
+abbrev pub first_stray : Option ℕ → Option ℕ → Option ℕ
+first_stray (Some line) next = Some line
+first_stray None next = next
+
+abbrev pub stray_after : ℕ → Quotes → ℕ → Option ℕ
+stray_after d q b = first_stray q.stray (line_if (is_stray d q.place b) q.line)
+
 abbrev pub quotes_after : ℕ → Quotes → ℕ → Quotes
 quotes_after d q b = record {
   place = cell_place_after d q.line q.place b;
   line = line_after q.line b;
+  stray = stray_after d q b;
 }
 
 abbrev pub after_all : ℕ → Quotes → List ℕ → Quotes

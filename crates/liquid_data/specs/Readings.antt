@@ -3,8 +3,11 @@
 --     row_reading dates row      of a row
 --     reading_of form source      of the line or the row that was read last
 --     column_list source      the names of the columns, where there are some
-use Rattle.std.specs.Prelude.{Bool, ◌||◌, cond, List, ℕ, [], map, Result, Ok, Err, string_bytes}
-use Rattle.std.specs.Prelude.{Option, Some, None, String}
+--     are_lines source, stray_in source      whether each record is a line; the line of the first
+--                                            text after a closing quote in a table
+use Rattle.liquid_data.specs.Tables.{stray_line}
+use Rattle.std.specs.Prelude.{Bool, true, false, ◌||◌, cond, List, ℕ, [], map, Result, Ok, Err}
+use Rattle.std.specs.Prelude.{Option, Some, None, String, string_bytes}
 use Rattle.std.specs.Str.{is_utf8}
 use Rattle.std.specs.declared.alloc.Global.{Global}
 use Rattle.csv.specs.Records.{fields_of}
@@ -74,6 +77,14 @@ abbrev pub text_read : {R : Type 0} → Source R → Text
 text_read (source.Lines lines) = line_text lines.line.items
 text_read (source.Rows rows) = []
 text_read (source.Objects objects) = line_text objects.object.items
+
+abbrev pub are_lines : {R : Type 0} → Source R → Bool
+are_lines (source.Lines lines) = true
+are_lines _ = false
+
+abbrev pub stray_in : {R : Type 0} → Source R → Option ℕ
+stray_in (source.Rows rows) = stray_line rows
+stray_in _ = None
 
 abbrev pub column_list : {R : Type 0} → Source R → List (String Global)
 column_list (source.Lines lines) = []

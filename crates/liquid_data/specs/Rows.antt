@@ -66,7 +66,8 @@ cells_text found wanted =
 
 abbrev pub byte_text : ℕ → ℕ → Text
 byte_text column byte = codes "the cell of column " ++ (decimal column
-    ++ (codes " isn't UTF-8 from its byte " ++ (decimal byte ++ codes " on")))
+    ++ (codes " isn't UTF-8 from its byte " ++ (decimal byte
+    ++ codes " on; save the table as UTF-8")))
 
 abbrev pub quote_text : ℕ → Text
 quote_text line = codes "the quote that opens in line " ++ (decimal line

@@ -2,13 +2,15 @@
 --     ReadsRows reader      each further read gives one row of it, of any length, as it stands
 --                           there
 --     reader_of rows      the reader that gives the rows
+--     stray_line rows      the line of the first text after a closing quote, of what was read
 --     IsHeadIn form text naming      the first row of a text, where it has one, names these
 --                                    columns, or has this fault
 --     IsHead text naming      that, with commas between cells
 --     IfFaulted result P      what holds of the fault that the first row has
-use Rattle.std.specs.Prelude.{◌≡◌, true, ⊤, ℕ, List, [], Result, Ok, Err, IfSome}
+use Rattle.std.specs.Prelude.{◌≡◌, true, ⊤, ℕ, List, [], Option, Result, Ok, Err, IfSome}
 use Rattle.csv.specs.Machine.{next_record}
-use Rattle.csv.specs.Reading.{Ready, is_flexible, reader_config, reader_trim, strip_bom}
+use Rattle.csv.specs.Reading.{Ready, is_flexible, reader_config, reader_source, reader_trim}
+use Rattle.csv.specs.Reading.{strip_bom}
 use Rattle.csv.specs.declared.parser.State.TheVariants as state
 use Rattle.csv.specs.declared.reader.Reader.{Reader}
 use Rattle.csv.specs.declared.reader.Trim.TheVariants as trim
@@ -27,6 +29,9 @@ ReadsRows reader = Ready reader × (reader_trim reader ≡ trim.None) × (is_fle
 
 abbrev pub reader_of : {R : Type 0} → Rows R → Reader (QuoteReader R)
 reader_of rows = rows.reader
+
+abbrev pub stray_line : {R : Type 0} → Rows R → Option ℕ
+stray_line rows = (reader_source (reader_of rows)).quotes.stray
 
 -- the rows are parted into cells, and the cells are read, as the form says
 abbrev pub AreInForm : {R : Type 0} → TableForm → Rows R → Type 0

@@ -7,7 +7,7 @@ ghost use Rattle.liquid_data.specs.TableForms.{plain_form};
 ghost use Rattle.liquid_data.specs.Quotes.{bytes_left, unclosed};
 ghost use Rattle.liquid_data.specs.Rows.{row_record, row_view};
 ghost use Rattle.liquid_data.specs.Tables.{AreInForm, IfFaulted, IsHead, IsHeadIn};
-ghost use Rattle.liquid_data.specs.Tables.{ReadsRows, reader_of};
+ghost use Rattle.liquid_data.specs.Tables.{ReadsRows, reader_of, stray_line};
 ghost use Rattle.liquid_data.specs.declared.csv_rows.HeadStop.TheVariants.{Memory};
 
 use crate::form::{CellForm, TableForm};
@@ -138,6 +138,14 @@ impl<R: Read + Drop> Rows<R> {
         ensures { result.now ≡ self.now.names.items }
     {
         self.names.as_slice()
+    }
+
+    /// The line of the first text that stands after the closing quote of a cell, among the bytes
+    /// that were read: such a cell has it too, and the quotes in it.
+    pub fn stray(&self) -> Option<u64>
+        ensures { result ≡ stray_line self.now }
+    {
+        self.reader.get_ref().stray()
     }
 
     /// The data of the row that was read last, or why it is no record.

@@ -1,27 +1,30 @@
 //! The byte that parts the cells of a table, as its first row has it.
 ghost use Rattle.std.specs.Prelude.{◌≡◌, IfOk};
-ghost use Rattle.liquid_data.specs.Guesses.{first_cells, guessed_delimiter};
+ghost use Rattle.liquid_data.specs.Guesses.{first_cells, guessed_delimiter, parts_better};
 
 use csv::{ByteRecord, ErrorKind, ReaderBuilder};
 use std::alloc::Global;
 use std::io;
 
-/// The byte between the cells of a table that begins so: of a comma, a semicolon and a tab the
-/// first that parts its first row into more than one cell, and a comma where none does. An `Err`
-/// only where memory runs out.
+/// The byte between the cells of a table that begins so: of a comma, a semicolon, a tab and a `|`
+/// the first that parts its first row into the most cells. An `Err` only where memory runs out.
 pub fn guessed_delimiter(alloc: Global, front: &[u8]) -> io::Result<u8>
     ensures { IfOk result (λ delimiter. delimiter ≡ guessed_delimiter front.now) }
 {
-    if first_cells(alloc, front, b',')? > 1 {
-        return Ok(b',');
+    let found = parts_better(alloc, front, b',', b';')?;
+    let found = parts_better(alloc, front, found, b'\t')?;
+    parts_better(alloc, front, found, b'|')
+}
+
+/// The first of two bytes, unless the second parts the first row into more cells.
+fn parts_better(alloc: Global, front: &[u8], first: u8, second: u8) -> io::Result<u8>
+    ensures { IfOk result (λ better. better ≡ parts_better front.now first second) }
+{
+    if first_cells(alloc, front, first)? < first_cells(alloc, front, second)? {
+        Ok(second)
+    } else {
+        Ok(first)
     }
-    if first_cells(alloc, front, b';')? > 1 {
-        return Ok(b';');
-    }
-    if first_cells(alloc, front, b'\t')? > 1 {
-        return Ok(b'\t');
-    }
-    Ok(b',')
 }
 
 /// How many cells the first row of a text has with this byte between them; none where there is no

@@ -31,7 +31,12 @@ impl fmt::Display for HeadFault {
 
     fn fmt<W: fmt::Write>(&self, f: &mut fmt::Formatter<W>) -> fmt::Result {
         match self {
-            HeadFault::NotUtf8(column) => write!(f, "the name of column {column} isn't UTF-8"),
+            HeadFault::NotUtf8(column) => {
+                write!(
+                    f,
+                    "the name of column {column} isn't UTF-8; save the table as UTF-8"
+                )
+            }
             HeadFault::Unnamed(column) => write!(f, "column {column} has no name in the first row"),
             HeadFault::Again(before, column) => {
                 write!(

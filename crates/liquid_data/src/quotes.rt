@@ -31,6 +31,8 @@ pub(crate) enum CellPlace {
 pub(crate) struct Quotes {
     place: CellPlace,
     line: u64,
+    /// The line of the first text that stands after a closing quote.
+    stray: Option<u64>,
 }
 
 impl Quotes {
@@ -41,6 +43,7 @@ impl Quotes {
         Quotes {
             place: CellPlace::Start,
             line: 1,
+            stray: None,
         }
     }
 
@@ -61,6 +64,20 @@ impl Quotes {
         Quotes {
             place: self.place_after(delimiter, byte),
             line: self.line_after(byte),
+            stray: self.stray_after(delimiter, byte),
+        }
+    }
+
+    fn stray_after(self, delimiter: u8, byte: u8) -> Option<u64>
+        ensures { result ≡ spec.stray_after delimiter self byte }
+    {
+        match self.stray {
+            Some(line) => Some(line),
+            None => if is_stray(delimiter, self.place, byte) {
+                Some(self.line)
+            } else {
+                None
+            },
         }
     }
 
@@ -100,6 +117,18 @@ impl Quotes {
     }
 }
 
+/// Whether a byte is text after the quote that closes its cell.
+fn is_stray(delimiter: u8, place: CellPlace, byte: u8) -> bool
+    ensures { result ≡ spec.is_stray delimiter place byte }
+{
+    match place {
+        CellPlace::AfterQuote(_) => {
+            byte != b'"' && byte != delimiter && byte != b'\n' && byte != b'\r'
+        }
+        _ => false,
+    }
+}
+
 /// Where the next byte stands after one outside of quotes.
 fn past(delimiter: u8, byte: u8) -> CellPlace
     ensures { result ≡ spec.after_plain delimiter byte }
@@ -132,6 +161,13 @@ impl<R: Read> QuoteReader<R> {
             quotes: Quotes::start(),
             is_over: false,
         }
+    }
+
+    /// The line of the first text after a closing quote, among the bytes that were read.
+    pub fn stray(&self) -> Option<u64>
+        ensures { result ≡ self.now.quotes.stray }
+    {
+        self.quotes.stray
     }
 
     /// The line of the quote that is open where the text ended.

@@ -45,7 +45,7 @@ fn write_byte<W: fmt::Write>(f: &mut fmt::Formatter<W>, column: usize, byte: usi
 {
     write!(
         f,
-        "the cell of column {column} isn't UTF-8 from its byte {byte} on"
+        "the cell of column {column} isn't UTF-8 from its byte {byte} on; save the table as UTF-8"
     )
 }
 

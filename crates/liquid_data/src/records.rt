@@ -4,7 +4,8 @@ ghost use Rattle.liquid_model.specs.Answer.{IsValueOrMemory};
 ghost use Rattle.liquid_data.specs.Counted.{record_number_after};
 ghost use Rattle.liquid_data.specs.Found.{AreLinesOf, AreObjectsOf, AreRowsIn};
 ghost use Rattle.liquid_data.specs.Found.{AreRowsOf, ReadsOn};
-ghost use Rattle.liquid_data.specs.Readings.{column_list, line_reading, line_text, reading_of};
+ghost use Rattle.liquid_data.specs.Readings.{are_lines, column_list, line_reading, line_text};
+ghost use Rattle.liquid_data.specs.Readings.{reading_of, stray_in};
 ghost use Rattle.liquid_data.specs.Readings.{reading_view, text_read};
 ghost use Rattle.liquid_data.specs.Tables.{IfFaulted, IsHead, IsHeadIn};
 
@@ -147,6 +148,24 @@ impl<R: Read + Drop> Records<R> {
             Source::Rows(rows) => rows.names(),
             Source::Lines(_) | Source::Objects(_) => &[],
         }
+    }
+
+    /// The line of the first text that stands after the closing quote of a cell, among the bytes
+    /// that were read, where the records are rows; else none.
+    pub fn stray(&self) -> Option<u64>
+        ensures { result ≡ stray_in self.now.source }
+    {
+        match &self.source {
+            Source::Rows(rows) => rows.stray(),
+            Source::Lines(_) | Source::Objects(_) => None,
+        }
+    }
+
+    /// Whether each record is a line of JSON.
+    pub fn are_lines(&self) -> bool
+        ensures { result ≡ are_lines self.now.source }
+    {
+        matches!(&self.source, Source::Lines(_))
     }
 
     /// Its text, where it is a line or an object of UTF-8; else the empty text.

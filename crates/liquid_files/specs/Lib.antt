@@ -4,6 +4,7 @@ pub mod Entries
 pub mod Faults
 pub mod FileNames
 pub mod Files
+pub mod Foreign
 pub mod Full
 pub mod Lines
 pub mod Names

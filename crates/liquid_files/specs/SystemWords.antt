@@ -15,7 +15,8 @@ use Rattle.std.specs.declared.io.ErrorKind.TheVariants.{InvalidFilename, Invalid
 use Rattle.std.specs.declared.io.ErrorKind.TheVariants.{ExecutableFileBusy, OutOfMemory}
 use Rattle.liquid_files.specs.declared.unreadable.Reason.{Reason}
 use Rattle.liquid_files.specs.declared.unreadable.Reason.TheVariants.{Missing, Folder}
-use Rattle.liquid_files.specs.declared.unreadable.Reason.TheVariants.{NoRight, Other}
+use Rattle.liquid_files.specs.declared.unreadable.Reason.TheVariants.{NoRight, Other, Foreign}
+use Rattle.liquid_files.specs.Foreign.{foreign_words}
 
 abbrev pub system_words : ErrorKind → Text
 system_words NotFound = codes "No such file or directory"
@@ -44,5 +45,6 @@ abbrev pub reason_words : Reason → Option Text
 reason_words Missing = Some (codes "No such file or directory")
 reason_words Folder = Some (codes "Is a directory")
 reason_words NoRight = Some (codes "Permission denied")
+reason_words (Foreign foreign) = Some (foreign_words foreign)
 reason_words (Other kind) = Some (system_words kind)
 reason_words _ = None

@@ -2,6 +2,7 @@
 ghost use Rattle.std.specs.Prelude.{◌≡◌, option_map};
 ghost use Rattle.liquid_files.specs.SystemWords.{reason_words, system_words, unwritten_words};
 
+use crate::foreign::foreign_words;
 use crate::unreadable::Reason;
 use std::io;
 
@@ -52,6 +53,7 @@ pub fn reason_words(reason: Reason) -> Option<&'static str>
         Reason::Folder => Some("Is a directory"),
         Reason::NoRight => Some("Permission denied"),
         Reason::NotUtf8 { line: _, column: _ } => None,
+        Reason::Foreign(foreign) => Some(foreign_words(foreign)),
         Reason::Other(kind) => Some(system_words(kind)),
     }
 }

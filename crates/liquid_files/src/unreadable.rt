@@ -2,6 +2,7 @@
 ghost use Rattle.std.specs.Prelude.{◌≡◌};
 ghost use Rattle.liquid_files.specs.Reasons.{reason_of};
 
+use crate::foreign::{Foreign, foreign_of, foreign_words};
 use std::string::FromUtf8Error;
 use std::{fmt, io};
 
@@ -13,13 +14,18 @@ pub enum Reason {
     NoRight,
     /// A byte that is no part of UTF-8, at this line and column, in characters and from 1.
     NotUtf8 { line: usize, column: usize },
+    /// It is no text.
+    Foreign(Foreign),
     Other(io::ErrorKind),
 }
 
 impl Reason {
-    /// The place of the first byte that is no part of UTF-8. It takes no memory.
+    /// What the bytes are, or the place of the first that is no part of UTF-8. It takes no memory.
     pub fn of_bytes(refused: &FromUtf8Error) -> Reason {
         let whole = refused.as_bytes();
+        if let Some(foreign) = foreign_of(whole) {
+            return Reason::Foreign(foreign);
+        }
         let front = whole
             .get(..refused.utf8_error().valid_up_to())
             .unwrap_or(whole);
@@ -52,8 +58,12 @@ impl fmt::Display for Reason {
             Reason::Folder => f.write_str("it is a folder, and no file"),
             Reason::NoRight => f.write_str("you have no right to read it"),
             Reason::NotUtf8 { line, column } => {
-                write!(f, "the file isn't UTF-8: line {line}, column {column}")
+                write!(
+                    f,
+                    "the file isn't UTF-8: line {line}, column {column}; save it as UTF-8"
+                )
             }
+            Reason::Foreign(foreign) => f.write_str(foreign_words(*foreign)),
             Reason::Other(kind) => write!(f, "{kind}"),
         }
     }

@@ -17,6 +17,7 @@ use crate::grammar::Wants;
 use crate::place::{no_json, with_place};
 use crate::planned::data_from_planned;
 use crate::tokens::{MAX_DEPTH, data_from_tokens};
+use json::Scratch;
 use liquid_model::{Error, ErrorKind, Object, Result, Uses, Value};
 use serde_json::{Map, Number};
 use std::alloc::{AllocError, Global};
@@ -26,7 +27,14 @@ use std::collections::BTreeMap;
 pub fn data_from_json(alloc: Global, text: &str) -> Result<Object>
     ensures { Answers (λ m. pairs_view m.entries) result (data_of text.now) }
 {
-    if let Some(data) = data_from_tokens(alloc, text)? {
+    data_by(alloc, text, &mut Scratch::new(alloc))
+}
+
+/// The same with this memory for reading.
+pub(crate) fn data_by(alloc: Global, text: &str, scratch: &mut Scratch) -> Result<Object>
+    ensures { Answers (λ m. pairs_view m.entries) result (data_of text.now) }
+{
+    if let Some(data) = data_from_tokens(alloc, text, scratch)? {
         return Ok(data);
     }
     data_from_tree(alloc, text)
@@ -62,7 +70,7 @@ fn data_if_plain(alloc: Global, text: &str, uses: &Uses) -> Result<Option<Object
         return Ok(None);
     }
     let plain = plain_uses(alloc, uses, MAX_DEPTH)?;
-    let data = data_from_planned(alloc, text, &plain)?;
+    let data = data_from_planned(alloc, text, &plain, &mut Scratch::new(alloc))?;
     Ok(data)
 }
 

@@ -10,6 +10,7 @@ use crate::copies::{any_by_place, plain_uses};
 use crate::data::data_from_json;
 use crate::planned::data_from_planned;
 use crate::tokens::MAX_DEPTH;
+use json::Scratch;
 use liquid_model::{ErrorKind, ItemUse, Object, Result, Use, Uses};
 use std::alloc::Global;
 use std::collections::BTreeMap;
@@ -77,6 +78,6 @@ fn members_if_plain(alloc: Global, text: &str, members: &Uses) -> Result<Option<
         return Ok(None);
     }
     let plain = plain_uses(alloc, members, MAX_DEPTH)?;
-    let data = data_from_planned(alloc, text, &plain)?;
+    let data = data_from_planned(alloc, text, &plain, &mut Scratch::new(alloc))?;
     Ok(data)
 }

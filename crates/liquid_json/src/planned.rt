@@ -81,18 +81,19 @@ fn is_everything(asked: &Use) -> bool {
 }
 
 /// The data of a text as far as these uses ask for it, or none where the text isn't plain: it is no
-/// JSON or no object, or has a number that isn't whole.
+/// JSON or no object, or has a number that isn't whole. The scratch is the memory that reading
+/// needs.
 pub fn data_from_planned(
     alloc: Global,
     text: &str,
     uses: &Uses,
+    scratch: &mut Scratch,
 ) -> Result<Option<Object>, AllocError>
     requires plain { IsTrue (plain_fields (members_view uses.now.entries)) }
     ensures { IfOk result (λ o. IfSome o (λ m.
         IsReadData (uses_view uses.now) (data_of text.now) (pairs_view m.entries))) }
 {
-    let mut scratch = Scratch::new(alloc);
-    let mut reader = Reader::new(text, &mut scratch)?;
+    let mut reader = Reader::new(text, scratch)?;
     let items = None;
     let value = match read_parts(alloc, &mut reader, MAX_DEPTH, &items, uses) {
         Ok(value) => value,

@@ -71,12 +71,15 @@ impl From<Invalid> for NoData {
 }
 
 /// The data of a text, or none where it isn't plain: no JSON, no object, or with a number that
-/// isn't whole.
-pub fn data_from_tokens(alloc: Global, text: &str) -> Result<Option<Object>, AllocError>
+/// isn't whole. The scratch is the memory that reading needs.
+pub fn data_from_tokens(
+    alloc: Global,
+    text: &str,
+    scratch: &mut Scratch,
+) -> Result<Option<Object>, AllocError>
     ensures { IfOk result (λ o. IfSome o (λ m. data_of text.now ≡ Ok (pairs_view m.entries))) }
 {
-    let mut scratch = Scratch::new(alloc);
-    let mut reader = Reader::new(text, &mut scratch)?;
+    let mut reader = Reader::new(text, scratch)?;
     let value = match read(alloc, &mut reader, MAX_DEPTH, Numbers::Integers) {
         Ok(value) => value,
         Err(NoData::Memory) => return Err(AllocError),
