@@ -224,12 +224,12 @@ filter: write `where: 'name', value`
 remove_last: `remove_first` removes the first one, and `remove` all
 replace_last: `replace_first` replaces the first one, and `replace` all
 raw: it ends an output where outputs are escaped; elsewhere leave `| raw` out
-safe: nothing is escaped by itself, so leave `| safe` out
-safeHTML: nothing is escaped by itself, so leave `| safeHTML` out
-safeURL: nothing is escaped by itself, so leave `| safeURL` out
-safeJS: nothing is escaped by itself, so leave `| safeJS` out
-safeCSS: nothing is escaped by itself, so leave `| safeCSS` out
-html_safe: nothing is escaped by itself, so leave `| html_safe` out
+safe: leave `| safe` out, or where outputs are escaped write `| raw`
+safeHTML: leave `| safeHTML` out, or where outputs are escaped write `| raw`
+safeURL: leave `| safeURL` out, or where outputs are escaped write `| raw`
+safeJS: leave `| safeJS` out, or where outputs are escaped write `| raw`
+safeCSS: leave `| safeCSS` out, or where outputs are escaped write `| raw`
+html_safe: leave `| html_safe` out, or where outputs are escaped write `| raw`
 unescape: nothing is escaped by itself; let the data bring the plain text
 format: `append` and `prepend` join texts, and `date: '%d %b %Y'` shows a date
 printf: `append` and `prepend` join texts
@@ -311,7 +311,7 @@ is_empty: compare with `''`, or `.size` with 0, in an `{% if %}`
 base64: let the data bring the encoded text
 to_f: numbers are whole here; count in a smaller unit, as cents
 float: numbers are whole here; count in a smaller unit, as cents
-floatformat: numbers are whole here; `round: 2` rounds a text, as `'1.234'`
+floatformat: numbers are whole here; let the data bring the text with its places
 currency: let the data bring the price as a text
 intcomma: let the data bring the formatted number
 pluralize: write `{% if a == 1 %}item{% else %}items{% endif %}`

@@ -17,7 +17,7 @@ pub static OUTPUT: &str = "\
 ^¦!--¦a comment is written `{% comment %}text{% endcomment %}`
 ^¦! ¦a comment is written `{% comment %}text{% endcomment %}`
 ^¦!¦`!` isn't known; `{% unless a %}` asks for the opposite, and a comment is a `{% comment %}`
-^¦&¦nothing is escaped by itself: write `{{ a }}`
+^¦&¦write `{{ a }}`, or where outputs are escaped `{{ a | raw }}`
 ^¦=¦`{{= a }}` is written `{{ a }}`
 ^¦../¦`../` isn't known; a name of an outer body is seen everywhere
 ^¦@index¦`@index` is written `forloop.index0`
