@@ -1,5 +1,5 @@
-//! Liquid templates on the command line: `bikleinu render ..`, `merge ..`, `check ..` and
-//! `paths ..`.
+//! Liquid templates on the command line: `bikleinu render ..`, `merge ..`, `check ..`, `paths ..`
+//! and `site ..`.
 #![tactic(auto)]
 
 mod extent;
@@ -17,6 +17,7 @@ mod records;
 mod render;
 mod report;
 mod silent;
+mod site;
 mod target;
 mod tips;
 mod watch;
@@ -25,12 +26,14 @@ use crate::filters::language_for;
 use crate::merge::merge;
 use crate::paths::paths;
 use crate::render::render;
+use crate::site::site;
 use crate::tips::SetTips;
 use clap::ArgMatches;
 use clap::error::ErrorKind;
 use liquid_check::check;
 use liquid_commands::{
     Stop, check_call, command_fault, merge_call, option_fault, paths_call, program, render_call,
+    site_call,
 };
 use std::alloc::{AllocError, Global};
 use std::process::ExitCode;
@@ -76,6 +79,7 @@ fn run_command(rt: &HostRuntime, matches: &ArgMatches<'_>) -> Result<(), Stop> {
         Some(("merge", given)) => merge(rt, &merge_call(rt.alloc(), given)?),
         Some(("check", given)) => checked(rt, given),
         Some(("paths", given)) => paths(rt, &paths_call(rt.alloc(), given)?),
+        Some(("site", given)) => site(rt, &site_call(rt.alloc(), given)?),
         _ => Err(Stop::Usage("there is no such command")),
     }
 }

@@ -19,14 +19,16 @@ use Rattle.liquid_model.specs.declared.error.ErrorKind.TheVariants.{Memory}
 use Rattle.liquid_commands.specs.declared.stop.Stop.{Stop}
 use Rattle.liquid_commands.specs.declared.stop.Stop.TheVariants.{Refused, Usage, Lacking}
 use Rattle.liquid_commands.specs.declared.stop.Stop.TheVariants.{Fault, NoFolder, Unreadable}
-use Rattle.liquid_commands.specs.declared.stop.Stop.TheVariants.{Output, Unwritten}
+use Rattle.liquid_commands.specs.declared.stop.Stop.TheVariants.{Output, Unconverted, Unwritten}
 
--- 2 where the command line is wrong, that of a signal where nobody reads a pipe, and else 1
+-- 2 where the command line is wrong, that of a signal where nobody reads a pipe, 3 where
+-- conversions are lacking, and else 1
 abbrev pub status_of : Stop → ℕ
 status_of Refused = 2
 status_of (Usage message) = 2
 status_of (Lacking option word gap) = 2
 status_of (Output BrokenPipe) = 141
+status_of (Unconverted count) = 3
 status_of _ = 1
 
 abbrev pub RanOutOfMemory : Stop → Type 0

@@ -1,5 +1,5 @@
 //! The words and options that a command takes.
-use crate::options;
+use crate::{options, site_options};
 use clap::{Arg, Command};
 use std::alloc::{AllocError, Global};
 
@@ -45,6 +45,15 @@ pub(crate) enum Argument {
     Decimals,
     Dates,
     Now,
+    Source,
+    OutFolder,
+    Config,
+    Layouts,
+    Includes,
+    SiteData,
+    Conversions,
+    Drafts,
+    Changes,
 }
 
 /// What each command's help ends with.
@@ -75,7 +84,9 @@ fn with_argument<'a>(
         Argument::PageTemplate | Argument::Records => {
             command.arg(argument.required_unless_present("text")?)
         }
-        Argument::Template | Argument::Paths => command.arg(argument.required(true)),
+        Argument::Template | Argument::Paths | Argument::Source | Argument::OutFolder => {
+            command.arg(argument.required(true))
+        }
         _ => command.arg(argument),
     }
 }
@@ -119,5 +130,14 @@ fn described<'a>(alloc: Global, which: Argument) -> Arg<'a> {
         Argument::Decimals => options::decimals(alloc),
         Argument::Dates => options::dates(alloc),
         Argument::Now => options::now(alloc),
+        Argument::Source => site_options::source(alloc),
+        Argument::OutFolder => site_options::out(alloc),
+        Argument::Config => site_options::config(alloc),
+        Argument::Layouts => site_options::layouts(alloc),
+        Argument::Includes => site_options::includes(alloc),
+        Argument::SiteData => site_options::data(alloc),
+        Argument::Conversions => site_options::conversions(alloc),
+        Argument::Drafts => site_options::drafts(alloc),
+        Argument::Changes => site_options::changes(alloc),
     }
 }

@@ -3,6 +3,7 @@ use crate::check::check_command;
 use crate::merge::merge_command;
 use crate::paths::paths_command;
 use crate::render::render_command;
+use crate::site::site_command;
 use clap::Command;
 use std::alloc::{AllocError, Global};
 
@@ -16,6 +17,7 @@ enum CommandName {
     Merge,
     Check,
     Paths,
+    Site,
 }
 
 /// The program with its commands. `AllocError` where there is no room for it, and nowhere else.
@@ -26,6 +28,7 @@ pub fn program<'a>(alloc: Global) -> Result<Command<'a>, AllocError> {
         CommandName::Merge,
         CommandName::Check,
         CommandName::Paths,
+        CommandName::Site,
     ] {
         program = with_command(alloc, program, *name)?;
     }
@@ -57,5 +60,6 @@ fn command_named<'a>(alloc: Global, name: CommandName) -> Result<Command<'a>, Al
         CommandName::Merge => merge_command(alloc),
         CommandName::Check => check_command(alloc),
         CommandName::Paths => paths_command(alloc),
+        CommandName::Site => site_command(alloc),
     }
 }

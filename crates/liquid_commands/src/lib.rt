@@ -24,6 +24,8 @@ mod record_words;
 mod render;
 mod seen;
 mod selection;
+mod site;
+mod site_options;
 mod sizes;
 mod sources;
 mod stop;
@@ -56,6 +58,7 @@ pub use record_words::{
 pub use render::{RenderCall, render_call};
 pub use seen::input_for;
 pub use selection::{Pattern, Selection};
+pub use site::{SiteCall, SiteFolders, site_call};
 pub use sizes::{Unit, size_in_bytes};
 pub use sources::{Source, Sources};
 pub use stop::Stop;

@@ -379,11 +379,11 @@ const PATHS_FORMATS: &[&str] = &["text", "json-schema"];
 /// What a number that isn't whole may be.
 const DECIMALS: &[&str] = &["fault", "text"];
 
-fn word<'a>(alloc: Global, name: &'static str, help: &'static str) -> Arg<'a> {
+pub(crate) fn word<'a>(alloc: Global, name: &'static str, help: &'static str) -> Arg<'a> {
     Arg::new(alloc, name).help(help)
 }
 
-fn option<'a>(
+pub(crate) fn option<'a>(
     alloc: Global,
     name: &'static str,
     value: &'static str,
@@ -401,7 +401,7 @@ fn number<'a>(alloc: Global, name: &'static str, help: &'static str) -> Arg<'a> 
 }
 
 /// An option without a value.
-fn flag<'a>(alloc: Global, name: &'static str, help: &'static str) -> Arg<'a> {
+pub(crate) fn flag<'a>(alloc: Global, name: &'static str, help: &'static str) -> Arg<'a> {
     Arg::new(alloc, name)
         .long(name)
         .action(ArgAction::SetTrue)

@@ -31,6 +31,8 @@ pub enum Stop {
     Unwritten(String, io::ErrorKind),
     /// Standard output can't be written.
     Output(io::ErrorKind),
+    /// So many texts have no conversion yet, and the folder of conversions has them.
+    Unconverted(u64),
 }
 
 impl Stop {
@@ -75,6 +77,7 @@ impl Stop {
         match self {
             Stop::Refused | Stop::Usage(_) | Stop::Lacking(_, _, _) => 2,
             Stop::Output(io::ErrorKind::BrokenPipe) => 141,
+            Stop::Unconverted(_) => 3,
             _ => 1,
         }
     }
@@ -136,8 +139,16 @@ impl fmt::Display for Stop {
             Stop::NoFolder(path) => write_no_folder(f, path),
             Stop::Unwritten(path, kind) => write_unwritten(f, path, *kind),
             Stop::Output(kind) => write!(f, "standard output: {}", system_words(*kind)),
+            Stop::Unconverted(count) => write_unconverted(f, *count),
         }
     }
+}
+
+fn write_unconverted<W: fmt::Write>(f: &mut fmt::Formatter<W>, count: u64) -> fmt::Result {
+    write!(
+        f,
+        "texts without a conversion: {count}; write HASH.html beside each HASH.md, and call again"
+    )
 }
 
 fn write_lacking<W: fmt::Write>(
