@@ -2,7 +2,8 @@
 ghost use Rattle.std.specs.Prelude.{◌≡◌, length, map, Some, option_map, true, IsOk, IfSome};
 ghost use Rattle.liquid_model.specs.Answer.{IsValueOrMemory};
 ghost use Rattle.liquid_model.specs.Cow.{cow_view};
-ghost use Rattle.liquid_model.specs.Data.{truth, number, array, object, text_of};
+ghost use Rattle.liquid_model.specs.Data.{truth, number, text, array, object};
+ghost use Rattle.liquid_model.specs.Data.{text_of};
 ghost use Rattle.liquid_model.specs.Digest.{pairs_len};
 ghost use Rattle.liquid_model.specs.Find.{find, step, item_from, item_named, item_at, item_back};
 ghost use Rattle.liquid_model.specs.Find.{or_size, scalar_step, value_at, counted};
@@ -49,6 +50,20 @@ impl Value {
         ensures no_memory { IsOk result }
     {
         Ok(found_along(self, path))
+    }
+
+    /// What one step by this text finds, as [find](Value::find) does. It takes no memory.
+    pub fn member<'a>(&'a self, name: &str) -> Option<Found<'a>>
+        ensures { option_map found_view result ≡ step (view self.now) (text name.now) }
+    {
+        match self {
+            Value::Nil => None,
+            Value::Bool(b) => size_named(name, truth_text(*b).len()),
+            Value::Integer(n) => size_named(name, number_length(*n)),
+            Value::Text(text) => size_named(name, text.len()),
+            Value::Array(items) => item_by(items, name),
+            Value::Object(pairs) => pair_named(pairs, name),
+        }
     }
 
     /// One step on, where it is the key of a map, or leads to an item of a list. `None` doesn't
@@ -157,11 +172,18 @@ fn items_stepped<'a>(items: &'a Vec<Value>, part: &Value) -> Option<Found<'a>>
     match part {
         Value::Integer(n) => item_from(items, *n),
         Value::Bool(b) => item_named(items, truth_text(*b)),
-        Value::Text(name) => match whole_of(name.as_str()) {
-            Some(n) => item_from(items, n),
-            None => item_named(items, name.as_str()),
-        },
+        Value::Text(name) => item_by(items, name.as_str()),
         _ => None,
+    }
+}
+
+fn item_by<'a>(items: &'a Vec<Value>, name: &str) -> Option<Found<'a>>
+    ensures { option_map found_view result ≡ step (array (items_view items.now.items))
+        (text name.now) }
+{
+    match whole_of(name) {
+        Some(n) => item_from(items, n),
+        None => item_named(items, name),
     }
 }
 

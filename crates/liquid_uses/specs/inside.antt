@@ -1,3 +1,4 @@
+pub mod AlikeParts
 pub mod Chains
 pub mod OwnGrants
 pub mod Placing
