@@ -101,6 +101,11 @@ YAML_LINES = (
     ("title: !!str Tea", "this line of YAML has a type, which isn't read"),
     ('title: "Tea', "this line of YAML has a quote that ends before the line or not at all"),
     ("title: 'It's Tea'", "this line of YAML has a quote that ends before the line or not at all"),
+    ('title: "Tea\\x41"', "this line of YAML has an escape that isn't known"),
+    ("title: 4.5", "this line of YAML has a number that isn't whole, or a clock: write quotes around it"),
+    ("title: Tea: black", "this line of YAML has a `: ` in its value: write quotes around the value"),
+    ("title: [Tea,", "this line of YAML has a list or map that no sign closes on it: write all of it on one line"),
+    ("title: [Tea,, x]", "this line of YAML has a list or map that isn't read: write it as `[a, b]` or `{a: 1, b: c}`"),
     ("title = Tea", "this line is of TOML: in YAML a member is `key: value`"),
     ("// title", "a comment of YAML begins with `#`"),
 )

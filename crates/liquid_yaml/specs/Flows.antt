@@ -107,9 +107,10 @@ closed_flow may_note sign bs = closed_by may_note sign (take (flow_len true bs) 
 abbrev pub is_flow_plain : ℕ → Bool
 is_flow_plain b = not (opens_flow b) && (not (closes_flow b) && not (b == comma))
 
+-- a colon begins no plain text there
 abbrev pub flow_scalar : ℕ → List ℕ → Option Datum
-flow_scalar b bs = cond (is_quote_sign b) (quoted_scalar false b bs)
-    (cond (list_all is_flow_plain (b ∷ bs)) (plain_at false (b ∷ bs)) None)
+flow_scalar b bs = cond (is_quote_sign b) (quoted_scalar false b bs) (cond (b == colon) None
+    (cond (list_all is_flow_plain (b ∷ bs)) (plain_at false (b ∷ bs)) None))
 
 abbrev pub flow_scalar_at : Text → Option Datum
 flow_scalar_at [] = None

@@ -7,8 +7,8 @@ use Rattle.std.specs.List.{list_all}
 use Rattle.liquid_model.specs.Data.{Datum, nil, truth, number, text}
 use Rattle.liquid_model.specs.Texts.{Text}
 use Rattle.liquid_model.specs.Whole.{whole_text}
-use Rattle.liquid_model.specs.Bytes.{dash, dot, double_quote, is_digit, plus_sign, single_quote}
-use Rattle.liquid_model.specs.Bytes.{space}
+use Rattle.liquid_model.specs.Bytes.{colon, dash, dot, double_quote, is_digit, plus_sign}
+use Rattle.liquid_model.specs.Bytes.{single_quote, space}
 use Rattle.liquid_model.specs.Front.{run_len}
 use Rattle.liquid_yaml.specs.Bytes.{end_trimmed, first_part, in_plain, is_ended, is_rest}
 use Rattle.liquid_yaml.specs.Quotings.{quoting_len, quoted_text}
@@ -27,15 +27,16 @@ quoted_scalar may_note q bs = cond (closes_quote may_note q (drop (quoting_len q
 
 -- ---- plain texts
 
--- one of the signs with which YAML begins something else: ! " # % & ' * , : > ? @ [ ] ` { | }
+-- one of the signs with which YAML begins something else: ! " # % & ' * , > ? @ [ ] ` { | }
 abbrev pub is_indicator : ℕ → Bool
 is_indicator b = (nat_le 33 b && nat_le b 44 && not (b == 36 || (b == 40 || (b == 41 || b == 43))))
-    || ((b == 58) || ((nat_le 62 b && nat_le b 64) || ((b == 91) || ((b == 93) || ((b == 96)
-    || (nat_le 123 b && nat_le b 125))))))
+    || ((nat_le 62 b && nat_le b 64) || ((b == 91) || ((b == 93) || ((b == 96)
+    || (nat_le 123 b && nat_le b 125)))))
 
--- a text begins: a `-` begins one where no space follows it
+-- a text begins: a `-` or a `:` begins one where no space follows it
 abbrev pub opens_plain : ℕ → List ℕ → Bool
-opens_plain b bs = not (b == space) && (not (is_indicator b) && not (b == dash && is_ended bs))
+opens_plain b bs = not (b == space) && (not (is_indicator b)
+    && not ((b == dash || b == colon) && is_ended bs))
 
 abbrev pub begins_plain : Text → Bool
 begins_plain [] = false

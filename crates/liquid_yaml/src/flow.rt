@@ -128,6 +128,7 @@ fn flow_scalar(alloc: Global, text: &str) -> Result<Option<Value>>
 {
     match text.as_bytes() {
         [quote @ (b'"' | b'\''), ..] => quoted(alloc, false, *quote, &text[1..]),
+        [b':', ..] => Ok(None),
         _ if is_flow_plain(text) => plain(alloc, false, text),
         _ => Ok(None),
     }

@@ -54,7 +54,6 @@ fn is_indicator(byte: u8) -> bool
     ensures { result ≡ spec.is_indicator byte }
 {
     (byte >= 33 && byte <= 44 && !(byte == b'$' || byte == b'(' || byte == b')' || byte == b'+'))
-        || byte == b':'
         || (byte >= b'>' && byte <= b'@')
         || byte == b'['
         || byte == b']'
@@ -65,7 +64,7 @@ fn is_indicator(byte: u8) -> bool
 fn opens_plain(byte: u8, after: &[u8]) -> bool
     ensures { result ≡ spec.opens_plain byte after.now }
 {
-    byte != b' ' && !is_indicator(byte) && !(byte == b'-' && is_ended(after))
+    byte != b' ' && !is_indicator(byte) && !((byte == b'-' || byte == b':') && is_ended(after))
 }
 
 fn begins_plain(bytes: &[u8]) -> bool
