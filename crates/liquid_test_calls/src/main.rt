@@ -28,6 +28,8 @@
 //! - `Data::NAME`: `data_for` of the text `source`, with uses that `src/asked.rt` explains.
 //! - `Check::NAME`: `findings` of the text `source`, each as its kind, line, column, start, length
 //!   and whether it follows; how many they are and the `nodes` of what is left; or `else_items`.
+//! - `Sources::read`: what the files of the list `on` are read as, as `src/site_sources.rt`
+//!   explains.
 //! - `Error::NAME`: a fault with the message `source`, as it is printed.
 //! - `State`: calls of the state, one after another, as `src/states.rt` tells. `Site`: changes of a
 //!   site, as `src/sites.rt` tells. `LimitedSite`: the same of a site within the limits `on`.
@@ -57,6 +59,7 @@ mod faults;
 mod filters;
 mod loops;
 mod site_example;
+mod site_sources;
 mod sites;
 mod states;
 mod templates;
@@ -71,6 +74,7 @@ use crate::faults::{fault_call, no_call};
 use crate::filters::{accepts_call, each_is_called, filter_made, no_filter_made};
 use crate::loops::loop_call;
 use crate::site_example::shop;
+use crate::site_sources::sources_call;
 use crate::sites::{limited_site_made, site_made};
 use crate::states::made_in_turn;
 use crate::templates::{group_call, template_call};
@@ -133,7 +137,7 @@ fn row_made<R: Print>(
             call_made(reporter, line, &row);
             Ok(())
         }
-        "Check" => {
+        "Check" | "Sources" => {
             check_made(reporter, language, line, &row);
             Ok(())
         }
@@ -162,7 +166,7 @@ fn called(alloc: Global, row: &WorkedRow) -> Result<Value> {
     }
 }
 
-/// Makes a call of the row's source, which needn't be a template.
+/// Makes a call of the row's source, which needn't be a template, or of the files of a site.
 fn check_made<R: Print>(
     reporter: &Reporter<'_, R>,
     language: &Language,
@@ -170,7 +174,10 @@ fn check_made<R: Print>(
     row: &WorkedRow,
 ) {
     reporter.begin();
-    let answer = check_call(reporter.alloc, row, language);
+    let answer = match row.kind() {
+        "Check" => check_call(reporter.alloc, row, language),
+        _ => sources_call(reporter.alloc, row, language),
+    };
     call_ended(reporter, line, row, answer);
 }
 
