@@ -114,7 +114,7 @@ no_elsif (tree.capture t b) more other = refl
 no_elsif (tree.ifchanged b) more other = refl
 no_elsif (tree.filtered filters b) more other = refl
 no_elsif (tree.include x bs) more other = refl
-no_elsif (tree.jekyll_include t bs) more other = refl
+no_elsif (tree.jekyll_include c bs) more other = refl
 no_elsif (tree.render x o bs) more other = refl
 
 -- an `if` that other nodes follow is no `elsif`
@@ -138,7 +138,7 @@ followed (tree.capture t b) m more = refl
 followed (tree.ifchanged b) m more = refl
 followed (tree.filtered filters b) m more = refl
 followed (tree.include x bs) m more = refl
-followed (tree.jekyll_include t bs) m more = refl
+followed (tree.jekyll_include c bs) m more = refl
 followed (tree.render x o bs) m more = refl
 
 -- ---- the walk along the `elsif`s

@@ -32,7 +32,7 @@ use Rattle.liquid_evaluation.specs.Evaluation.{answers_with}
 use Rattle.liquid_engine.specs.declared.context.RunContext.{RunContext}
 use Rattle.liquid_engine.specs.inside.Engine.{nodes_meant, setting_of}
 use Rattle.liquid_engine.specs.StateKept.{LayersKept}
-use Rattle.liquid_engine.specs.inside.Partials.{bound_as, depth_left, entry_at, entry_of, include_entry, item_entry, jekyll_entry, left_with, named_entry, render_environment, partial_of, render_entry, render_partial}
+use Rattle.liquid_engine.specs.inside.Partials.{spelled_chain, bound_as, depth_left, entry_at, entry_of, include_entry, item_entry, jekyll_entry, left_with, named_entry, render_environment, partial_of, render_entry, render_partial}
 use Rattle.liquid_engine.specs.Performs.{Configuration, Meets, MeetsAt, Performs, unit}
 use Rattle.liquid_engine.specs.Sinks.{Sink}
 use Rattle.liquid_engine.proofs.Apart.{apart_in, left_met}
@@ -312,17 +312,18 @@ module _ (setting : Setting) (depth : ℕ) (name : Text) (bindings : tree.Bindin
   abbrev jekyll_included : Map Datum × (tree.Nodes × ℕ) → Run Nothing
   jekyll_included s = with_scope s.0 (nodes_meant setting s.1.1 s.1.0)
 
-  jekyll_is : (e : Environment) → node_meaning setting (deeper_meaning setting depth) (tree.jekyll_include name bindings) e ≡ runs.◌>>=◌ (evaluate (jekyll_entry setting.partials depth name bindings)) jekyll_included e
-  jekyll_is e = (λ i. jekyll_rule setting (deeper_meaning setting depth) name bindings i e) ∙ looked_is include_scope over_scope setting scope_ends bindings (partial_of setting.partials name) depth e
+  jekyll_is : (e : Environment) → node_meaning setting (deeper_meaning setting depth) (tree.jekyll_include (spelled_chain name) bindings) e ≡ runs.◌>>=◌ (evaluate (jekyll_entry setting.partials depth name bindings)) jekyll_included e
+  unfolding chain_value value_of evaluate runs.◌>>=◌
+  jekyll_is e = (λ i. jekyll_rule setting (deeper_meaning setting depth) (spelled_chain name) bindings i e) ∙ looked_is include_scope over_scope setting scope_ends bindings (partial_of setting.partials name) depth e
 
-  pub jekyll_refused : (e : Error) (p : Configuration) → Faulted e.kind (jekyll_entry setting.partials depth name bindings p.environment) → Performs (Err e) (node_meaning setting (deeper_meaning setting depth) (tree.jekyll_include name bindings)) p p
-  jekyll_refused e p h = refused_by unit (node_meaning setting (deeper_meaning setting depth) (tree.jekyll_include name bindings)) (jekyll_entry setting.partials depth name bindings) jekyll_included p (jekyll_is p.environment) e h
+  pub jekyll_refused : (e : Error) (p : Configuration) → Faulted e.kind (jekyll_entry setting.partials depth name bindings p.environment) → Performs (Err e) (node_meaning setting (deeper_meaning setting depth) (tree.jekyll_include (spelled_chain name) bindings)) p p
+  jekyll_refused e p h = refused_by unit (node_meaning setting (deeper_meaning setting depth) (tree.jekyll_include (spelled_chain name) bindings)) (jekyll_entry setting.partials depth name bindings) jekyll_included p (jekyll_is p.environment) e h
 
   pub jekyll_runs : (inner : Setting) (r : Result (Unit {0}) Error) (scope : Map Datum) (partial : tree.Nodes) (left : ℕ) (p q : Configuration) → inner ≡ setting
       → jekyll_entry setting.partials depth name bindings p.environment ≡ Ok (scope, (partial, left)) → Performs r (with_scope scope (nodes_meant inner left partial)) p q
-      → Performs r (node_meaning setting (deeper_meaning setting depth) (tree.jekyll_include name bindings)) p q
+      → Performs r (node_meaning setting (deeper_meaning setting depth) (tree.jekyll_include (spelled_chain name) bindings)) p q
   jekyll_runs inner r scope partial left p q same is h =
-      given_by unit (node_meaning setting (deeper_meaning setting depth) (tree.jekyll_include name bindings)) (jekyll_entry setting.partials depth name bindings) jekyll_included p (jekyll_is p.environment) r (scope, (partial, left)) q is
+      given_by unit (node_meaning setting (deeper_meaning setting depth) (tree.jekyll_include (spelled_chain name) bindings)) (jekyll_entry setting.partials depth name bindings) jekyll_included p (jekyll_is p.environment) r (scope, (partial, left)) q is
       (subst (λ z. Performs r (with_scope scope (nodes_meant z left partial)) p q) same h)
 
   -- a `render .. for` at one of its items, which has these names over the pairs

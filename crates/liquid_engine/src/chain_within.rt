@@ -1,9 +1,10 @@
 //! Chains, of which each filter's answer takes its bytes of a limit.
-ghost use Rattle.std.specs.Prelude.{◌≡◌, OnOk, map};
+ghost use Rattle.std.specs.Prelude.{◌≡◌, OnOk, map, string_bytes};
 ghost use Rattle.liquid_model.specs.Cow.{cow_view};
 ghost use Rattle.liquid_core.specs.States.{environment_of};
 ghost use Rattle.liquid_evaluation.specs.ChainView.{chain_filter_view, chain_view};
 ghost use Rattle.liquid_evaluation.specs.Evaluation.{answers_with, chain_value, through};
+ghost use Rattle.liquid_meaning.specs.Meaning.{chain_text};
 ghost use Rattle.liquid_meaning.specs.Runs.{evaluate};
 ghost use Rattle.liquid_engine.specs.Limits.{TakesBytes};
 ghost use Rattle.liquid_engine.specs.Performs.{Meets, configuration_of};
@@ -36,6 +37,24 @@ pub(crate) fn chain_within<'a, W: CountedWrite, H: NamedFilters>(
 {
     let entry = chain.evaluate_entry(alloc, state)?;
     filters_within(alloc, &chain.filters, entry, host, out, state)
+}
+
+/// The text of a chain's value, as by [chain_within].
+pub(crate) fn chain_text<W: CountedWrite, H: NamedFilters>(
+    alloc: Global,
+    chain: &FilterChain,
+    host: &H,
+    out: &mut Output<'_, W>,
+    state: &State<'_>,
+) -> Result<String>
+    ensures value { Meets string_bytes result
+        (evaluate (chain_text (answers_with (H.named host.now)) (chain_view chain.now)))
+        (configuration_of W.contents W.failure_count out.old state.now)
+        (configuration_of W.contents W.failure_count out.new state.now) }
+    ensures same_writer { out.new.writer.ghost_name ≡ out.old.writer.ghost_name }
+{
+    let value = chain_within(alloc, chain, host, out, state)?;
+    value.as_value().text(alloc)
 }
 
 /// What a value becomes through filters in order, of which each one's answer takes its bytes, as in

@@ -9,10 +9,12 @@ ghost use Rattle.liquid_core.specs.States.{environment_of, layers_of, loops_of};
 ghost use Rattle.liquid_syntax.specs.Flats.{Maker, IsForestAt, IsNodeRange, NodeAt, IsNode};
 ghost use Rattle.liquid_syntax.specs.Flats.{bindings_view, nodes_of};
 ghost use Rattle.liquid_syntax.specs.Forest.{Forest};
+ghost use Rattle.liquid_evaluation.specs.ChainView.{chain_view};
 ghost use Rattle.liquid_evaluation.specs.Names.{node_names, nodes_names};
 ghost use Rattle.liquid_evaluation.specs.Tree as tree;
 ghost use Rattle.liquid_engine.specs.inside.Choices.{NodeComesTo};
 ghost use Rattle.liquid_engine.specs.inside.Engine.{setting_of, node_in, nodes_in};
+ghost use Rattle.liquid_engine.specs.inside.Partials.{spelled_chain};
 ghost use Rattle.liquid_engine.specs.StateKept.{Keeps, IsRenderNode, AreRenderNodes};
 ghost use Rattle.liquid_engine.specs.Performs.{Performs, configuration_of};
 ghost use Rattle.liquid_engine.specs.Silent.{AreSilent, IsDoneOrStopped, IsSilent};
@@ -22,6 +24,7 @@ mod buffers;
 mod loops;
 mod renders;
 
+use crate::chain_within::chain_text;
 use crate::choice::{case_range, chosen_range, unless_range};
 use crate::context::RunContext;
 use crate::counted::CountedWrite;
@@ -36,7 +39,7 @@ use crate::output_and_assign::{run_assign, run_output, run_raw, run_text};
 use crate::partial::{enter_include, enter_jekyll_include};
 use buffers::{run_capture, run_filtered, run_ifchanged};
 use liquid_core::{Expression, Interrupt, NamedFilters, Result, State};
-use liquid_syntax::{Binding, Node};
+use liquid_syntax::{Binding, FilterChain, Node};
 use loops::{run_for, run_tablerow};
 use renders::{run_render, run_render_each};
 use std::alloc::Global;
@@ -162,14 +165,9 @@ fn run_node<'d, W: CountedWrite, H: NamedFilters>(
             alloc, context, nodes, at, filters, *end, out, state,
         ),
         Node::Include(name, bindings) => { run_include(alloc, context, name, bindings, out, state) }
-        Node::JekyllInclude(name, bindings) => run_jekyll_include(
-            alloc,
-            context,
-            name.as_str(),
-            bindings,
-            out,
-            state,
-        ),
+        Node::JekyllInclude(chain, bindings) => {
+            run_computed_include(alloc, context, chain, bindings, out, state)
+        }
         Node::Render(name, bindings) => run_render(alloc, context, name, &*bindings, out, &*state),
         Node::RenderEach(name, each, bindings) => {
             run_render_each(alloc, context, name, each, &*bindings, out, &*state)
@@ -245,6 +243,32 @@ fn run_include<'d, W: CountedWrite, H: NamedFilters>(
     in_partial(alloc, called.as_str(), answer)
 }
 
+/// Runs the partial whose name is the text of a chain's value, as by [run_jekyll_include].
+#[cycle(run)]
+#[inline(never)]
+fn run_computed_include<'d, W: CountedWrite, H: NamedFilters>(
+    alloc: Global,
+    context: &RunContext<'d, H>,
+    chain: &FilterChain,
+    bindings: &[Binding],
+    out: &mut Output<'_, W>,
+    state: &mut State<'d>,
+) -> Result<()>
+    ensures performs { Performs result
+        (node_in H.named context.now
+        (tree.jekyll_include (chain_view chain.now) (bindings_view bindings.now)))
+        (configuration_of W.contents W.failure_count out.old state.old)
+        (configuration_of W.contents W.failure_count out.new state.new) }
+    ensures same_writer { out.new.writer.ghost_name ≡ out.old.writer.ghost_name }
+    ensures kept { Keeps (node_names
+        (tree.jekyll_include (chain_view chain.now) (bindings_view bindings.now)))
+        (setting_of H.named context.now) state.old state.new }
+    ensures loops { loops_of state.new ≡ loops_of state.old }
+{
+    let name = chain_text(alloc, chain, context.host, out, state)?;
+    run_jekyll_include(alloc, context, name.as_str(), bindings, out, state)
+}
+
 /// Runs a partial over the caller's names, with the pairs in one object as a scope.
 #[cycle(run)]
 #[inline(never)]
@@ -258,11 +282,12 @@ fn run_jekyll_include<'d, W: CountedWrite, H: NamedFilters>(
 ) -> Result<()>
     ensures performs { Performs result
         (node_in H.named context.now
-        (tree.jekyll_include name.now (bindings_view bindings.now)))
+        (tree.jekyll_include (spelled_chain name.now) (bindings_view bindings.now)))
         (configuration_of W.contents W.failure_count out.old state.old)
         (configuration_of W.contents W.failure_count out.new state.new) }
     ensures same_writer { out.new.writer.ghost_name ≡ out.old.writer.ghost_name }
-    ensures kept { Keeps (node_names (tree.jekyll_include name.now (bindings_view bindings.now)))
+    ensures kept { Keeps (node_names
+        (tree.jekyll_include (spelled_chain name.now) (bindings_view bindings.now)))
         (setting_of H.named context.now) state.old state.new }
     ensures loops { loops_of state.new ≡ loops_of state.old }
 {

@@ -99,7 +99,9 @@ fn turns_at(nodes: &[Node], at: usize, to: usize) -> u64
         Node::Unless(condition, _) => one_and(comparisons_of(condition)),
         Node::Case(_, arms, _) => one_and(values_of(arms)),
         Node::Include(_, bindings) => one_and(bindings.len() as u64),
-        Node::JekyllInclude(_, bindings) => one_and(bindings.len() as u64),
+        Node::JekyllInclude(chain, bindings) => {
+            one_and(added(chain.filters.len() as u64, bindings.len() as u64))
+        }
         Node::Render(_, bindings) => one_and(bindings.len() as u64),
     }
 }

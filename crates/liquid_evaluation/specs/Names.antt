@@ -1,7 +1,7 @@
 -- The names that a template mentions: those that a run can look up, bind or set.
 --     nodes_names      of a list of nodes;   run_names      of a template and of every partial
 --     mentioned names      the test for one of them
--- Texts are no names: the name of a `cycle` (its group) and that of a jekyll `include` give none.
+-- Texts are no names: the name of a `cycle` (its group) gives none.
 use Rattle.std.specs.Prelude.{List, [], ◌∷◌, ◌++◌, Option, Some, None, codes}
 use Rattle.std.specs.List.{list_any}
 use Rattle.liquid_model.specs.Texts.{Text, same_text}
@@ -106,7 +106,8 @@ unfoldable mutual
   node_names (filtered filters body) = filters_names filters ++ nodes_names body
   node_names (include x bindings) =
       expression_names x ++ (target_names bindings ++ bound_names bindings)
-  node_names (jekyll_include name bindings) = include_name bindings ++ bound_names bindings
+  node_names (jekyll_include chain bindings) = chain_names chain ++
+      (include_name bindings ++ bound_names bindings)
   node_names (render x None bindings) = expression_names x ++
       (target_names bindings ++ bound_names bindings)
   node_names (render x (Some each) bindings) =

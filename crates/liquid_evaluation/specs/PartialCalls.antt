@@ -14,7 +14,8 @@ use Rattle.liquid_model.specs.Data.{Datum, nil, truth, number, text, array, obje
 use Rattle.liquid_model.specs.Maps.{listed}
 use Rattle.liquid_core.specs.Environment.{Names}
 use Rattle.liquid_core.specs.Expression.{Expression, literal, variable}
-use Rattle.liquid_evaluation.specs.Tree.{Node, plain, raw, comment, output, assign, increment}
+use Rattle.liquid_evaluation.specs.Tree.{Chain, FilterCall, Node, plain, raw, comment, output}
+use Rattle.liquid_evaluation.specs.Tree.{assign, increment}
 use Rattle.liquid_evaluation.specs.Tree.{decrement, break_loop, continue_loop, cycle, if_true}
 use Rattle.liquid_evaluation.specs.Tree.{unless, case_of, for_each, tablerow, capture, ifchanged}
 use Rattle.liquid_evaluation.specs.Tree.{filtered, include, jekyll_include, render, Nodes}
@@ -39,6 +40,14 @@ abbrev pub call_of_expression : (Text → PartialCall) → Expression → Partia
 call_of_expression by_name (literal d) = call_of_literal by_name d
 call_of_expression by_name (variable name steps) = of_any_name
 
+-- a chain without filters is its entry; what filters make only the run knows
+abbrev pub call_of_filters : Expression → List FilterCall → PartialCall
+call_of_filters x [] = call_of_expression of_name x
+call_of_filters x (call ∷ calls) = of_any_name
+
+abbrev pub call_of_chain : Chain → PartialCall
+call_of_chain chain = call_of_filters chain.entry chain.filters
+
 unfoldable mutual
   pub node_calls : Node → List PartialCall
   node_calls (plain content) = []
@@ -61,7 +70,7 @@ unfoldable mutual
   node_calls (ifchanged body) = nodes_calls body
   node_calls (filtered filters body) = nodes_calls body
   node_calls (include x bindings) = call_of_expression of_name x ∷ []
-  node_calls (jekyll_include name bindings) = of_name name ∷ []
+  node_calls (jekyll_include chain bindings) = call_of_chain chain ∷ []
   node_calls (render x each bindings) = call_of_expression of_name_or_liquid x ∷ []
 
   pub nodes_calls : Nodes → List PartialCall

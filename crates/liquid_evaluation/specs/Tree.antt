@@ -77,8 +77,8 @@ mutual
     filtered : List FilterCall → Nodes → Node
     -- the partial's name, and the pairs
     include : Expression → Bindings → Node
-    -- the partial's name is a text, and no variable
-    jekyll_include : Text → Bindings → Node
+    -- the partial's name is the text of the chain's value
+    jekyll_include : Chain → Bindings → Node
     -- the partial's name, the source and the variable of `for`, and the pairs, of which
     -- `with .. as ..` is the first
     render : Expression → Option (Source × Text) → Bindings → Node

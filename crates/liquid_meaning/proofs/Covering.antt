@@ -186,7 +186,8 @@ module _ (N : Names) where
           both (grants_filters W filters) _ (covers_filters filters (left N (filters_names filters) _ h)) (covers_nodes body (right N (filters_names filters) _ h))
       covers_node (include x bindings) h =
           both (grants W x everything) _ (covers_expression x everything (left N (expression_names x) _ h)) (covers_bindings _ bindings (right N (target_names bindings) _ (right N (expression_names x) _ h)))
-      covers_node (jekyll_include name bindings) h = covers_bindings _ bindings (right N (include_name bindings) _ h)
+      covers_node (jekyll_include chain bindings) h = both (grants_chain needs W everything chain) _ (covers_chain needs chain everything (left N (chain_names chain) _ h))
+          (covers_bindings _ bindings (right N (include_name bindings) _ (right N (chain_names chain) _ h)))
       covers_node (render x None bindings) h =
           both (grants W x everything) _ (covers_expression x everything (left N (expression_names x) _ h)) (covers_bindings _ bindings (right N (target_names bindings) _ (right N (expression_names x) _ h)))
       covers_node (render x (Some over) bindings) h =

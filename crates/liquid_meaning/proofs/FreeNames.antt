@@ -15,14 +15,19 @@ use Rattle.liquid_core.specs.Expression.{Expression, literal, variable}
 use Rattle.liquid_core.specs.Expressions.{required, value_of}
 use Rattle.liquid_core.specs.Environment.{Names, Environment, bind_each}
 use Rattle.liquid_core.specs.Loops.{loop_scope}
+use Rattle.liquid_evaluation.specs.Tree.{Chain, FilterCall}
 use Rattle.liquid_evaluation.specs.Tree.{Bindings, Node, plain, raw, comment, output, assign, increment, decrement, break_loop, continue_loop, cycle, if_true, unless, case_of, for_each, tablerow, capture, ifchanged, filtered, include, jekyll_include, render, Nodes, no_nodes, node, Whens, no_whens, when}
+use Rattle.liquid_evaluation.specs.Evaluation.{FilterAnswers, chain_value}
 use Rattle.liquid_evaluation.specs.Evaluation.{bound_values}
+use Rattle.liquid_evaluation.specs.Names.{chain_names}
 use Rattle.liquid_evaluation.specs.Names.{expression_names, all_names, optional_names, filters_names, condition_names, source_names, window_names, bound_names, target_names, include_name, mentioned}
 use Rattle.liquid_meaning.specs.Runs.{Nothing, Run, read_environment, evaluate, change, ◌>>=◌, with_scope}
 use Rattle.liquid_meaning.specs.Effects.{counted_to, counter_number, is_last_text}
 use Rattle.liquid_meaning.specs.Loops.{columns_of, cell_start, cell_end, loop, rows}
+use Rattle.liquid_meaning.specs.Meaning.{texted, chain_text}
 use Rattle.liquid_meaning.specs.Meaning.{Setting, write_item, cycle_meaning, has_equal, within_i64, named, partial_name_text, found_partial, pairs_scope, include_scope, render_apart, node_meaning, nodes_meaning, whens_meaning, deeper_meaning, meaning}
 use Rattle.liquid_meaning.specs.ProjectedRuns.{over_data}
+use Rattle.liquid_meaning.specs.FreeNames.{name_through, spelled_out}
 use Rattle.liquid_meaning.specs.FreeNames.{PartialsRead, literal_name, unbound, binds, node_reads, nodes_reads, whens_read, CoversPartials, over, FreeNamesAlone, FreeUsesAlone, FreeDataAlone}
 use Rattle.liquid_model.proofs.Alike.{alike_same}
 use Rattle.liquid_meaning.proofs.AlikeMaps.{alike_empty}
@@ -206,6 +211,17 @@ name_known (literal (array ds)) e name is k known = absurd cc
 name_known (literal (object ps)) e name is k known = absurd cc
 name_known (variable name steps) e found is k known = absurd cc
 
+text_known : (answers : FilterAnswers) (x : Expression) (calls : List FilterCall) (e : Environment) (name : Text) → chain_text answers (record { entry = x; filters = calls }) e ≡ Ok name → (k : Text) → name_through x calls ≡ Some k → name ≡ k
+unfolding chain_value value_of
+text_known answers (literal (text s)) [] e name is k known = sym (ap (of_ok s) is) ∙ ap (of_some s) known
+text_known answers (literal nil) [] e name is k known = absurd cc
+text_known answers (literal (truth b)) [] e name is k known = absurd cc
+text_known answers (literal (number z)) [] e name is k known = absurd cc
+text_known answers (literal (array ds)) [] e name is k known = absurd cc
+text_known answers (literal (object ps)) [] e name is k known = absurd cc
+text_known answers (variable v steps) [] e found is k known = absurd cc
+text_known answers x (call ∷ calls) e name is k known = absurd cc
+
 module _ (other : Map Datum) (R : PartialsRead) (setting : Setting) (closed : CoversPartials R setting.partials) (deeper : Nodes → Run Nothing)
     (deeper_free : (nodes : Nodes) → Free other (nodes_reads R nodes) (none other) (deeper nodes)) where
   rendered_apart : {N : Names} (name : Text) (bindings : Bindings) (scope : Map Datum) → ((e : Environment) → Sees other N e → All (Found other e) (bound_names bindings)) → Free other N (none other) (render_apart setting deeper name bindings scope)
@@ -214,6 +230,16 @@ module _ (other : Map Datum) (R : PartialsRead) (setting : Setting) (closed : Co
   -- a partial that is included reads what is said of its name
   included_reads : (x : Expression) (e : Environment) (name : Text) → partial_name_text x e ≡ Ok name → (nodes : Nodes) → listed setting.partials name ≡ Some nodes → (q : Text) → T (nodes_reads R nodes q) → T (R (literal_name x) q)
   included_reads x e name is nodes found q h = at (literal_name x) (name_known x e name is)
+    where
+      both : T (R (Some name) q) × T (R None q)
+      both = closed name nodes found q h
+
+      at : (o : Option Text) → ((k : Text) → o ≡ Some k → name ≡ k) → T (R o q)
+      at None known = both.1
+      at (Some k) known = subst (λ n. T (R (Some n) q)) (known k refl) both.0
+
+  computed_reads : (chain : Chain) (e : Environment) (name : Text) → chain_text setting.answers chain e ≡ Ok name → (nodes : Nodes) → listed setting.partials name ≡ Some nodes → (q : Text) → T (nodes_reads R nodes q) → T (R (spelled_out chain) q)
+  computed_reads chain e name is nodes found q h = at (spelled_out chain) (text_known setting.answers chain.entry chain.filters e name is)
     where
       both : T (R (Some name) q) × T (R None q)
       both = closed name nodes found q h
@@ -285,12 +311,16 @@ module _ (other : Map Datum) (R : PartialsRead) (setting : Setting) (closed : Co
         (λ e ps is. named_pairs bindings e ps is) (λ ps is.
         free_included (target_names bindings) (R (literal_name x)) (pairs_scope ps) (listed setting.partials name)
         (λ q h. pairs_hold ps empty q (subst (λ ns. T (mentioned ns q)) (sym is) h)) reads (λ q h. or_right (mentioned names q) _ h)))
-    node_free (jekyll_include name bindings) =
+    node_free (jekyll_include chain bindings) =
+        let names = chain_names chain ++ bound_names bindings in
+        free_given other (λ name. (nodes : Nodes) → listed setting.partials name ≡ Some nodes → (q : Text) → T (nodes_reads R nodes q) → T (R (spelled_out chain) q)) _ _
+        (λ e sees. ap texted (chain_same other e setting.answers chain (left (Found other e) (chain_names chain) _ (all_of_mentioned (Found other e) names (λ q h. sees.found q (or_left (mentioned names q) _ h))))))
+        (λ e name is. computed_reads chain e name is) (λ name reads.
         free_given other (λ ps. pair_names ps ≡ target_names bindings) _ _
-        (λ e sees. bound_same other e bindings (all_of_mentioned (Found other e) (bound_names bindings) (λ q h. sees.found q (or_left (mentioned (bound_names bindings) q) _ h))))
+        (λ e sees. bound_same other e bindings (right (Found other e) (chain_names chain) _ (all_of_mentioned (Found other e) names (λ q h. sees.found q (or_left (mentioned names q) _ h)))))
         (λ e ps is. named_pairs bindings e ps is) (λ ps is.
-        free_included (include_name bindings) (R (Some name)) (include_scope ps) (listed setting.partials name)
-        (included_holds bindings ps is) (λ nodes found q h. (closed name nodes found q h).0) (λ q h. or_right (mentioned (bound_names bindings) q) _ h))
+        free_included (include_name bindings) (R (spelled_out chain)) (include_scope ps) (listed setting.partials name)
+        (included_holds bindings ps is) reads (λ q h. or_right (mentioned names q) _ h)))
     node_free (render x None bindings) =
         let names = expression_names x ++ bound_names bindings in
         free_bind other (free_evaluate other _ (λ e sees. ap named (required_same other e x (left (Found other e) (expression_names x) _ (all_of_mentioned (Found other e) names sees.found))))) (λ name.

@@ -26,6 +26,7 @@ use Rattle.liquid_evaluation.proofs.Forgiveness.{refused_is}
 use Rattle.liquid_meaning.specs.Runs.{Nothing, Outcome, Run, done, read_environment, evaluate, fault, change, write, after_text, go_on, ◌>>=◌, with_scope, ended_with, buffered, apart}
 use Rattle.liquid_meaning.specs.Effects.{take_interrupt, if_none, unless_interrupted}
 use Rattle.liquid_meaning.specs.Loops.{until_break, for_all, if_empty, needs_columns, loop, rows}
+use Rattle.liquid_meaning.specs.Meaning.{texted, chain_text}
 use Rattle.liquid_meaning.specs.Meaning.{Setting, write_item, cycle_meaning, has_equal, within_i64, named, partial_name_text, found_partial, render_apart, node_meaning, nodes_meaning, whens_meaning, deeper_meaning, meaning}
 use Rattle.liquid_meaning.specs.Lenient.{strictly, leniently, IsBeginningOf, made_lenient, EndsForgiven, KnowAll, LenientExtends, NoneUnknown}
 
@@ -257,6 +258,17 @@ module _ (P : Type 0) where
   known_named (Ok d) i p h = (found_cond (scalar d) (found_ok (text_of d)) (found_err PartialName (λ h. cc))).known p h
   known_named (Err kind) i p h = i p (ap Err (ap kind_in h))
 
+  known_texted : (y : Result Datum ErrorKind) → (P → y ≡ Err UnknownVariable → ⊥) → P → texted y ≡ Err UnknownVariable → ⊥
+  known_texted (Ok d) i p h = absurd cc
+  known_texted (Err kind) i p h = i p (ap Err (ap kind_in h))
+
+  found_texted : (x y : Result Datum ErrorKind) → Found x y → Found (texted x) (texted y)
+  found_texted x y i = record { same = at i.same; known = known_texted y i.known }
+    where
+      at : (x ≡ y) ⊎ EndsForgiven x → (texted x ≡ texted y) ⊎ EndsForgiven (texted x)
+      at (inl h) = inl (ap texted h)
+      at (inr h) = inr (forgiven_by texted (λ kind. refl) x h)
+
   found_named : (x y : Result Datum ErrorKind) → Found x y → Found (named x) (named y)
   found_named x y i = record { same = at i.same; known = known_named y i.known }
     where
@@ -485,6 +497,9 @@ module _ (P : Type 0) where
     goes_chain : (chain : Chain) → Goes (evaluate (chain_value setting.answers chain))
     goes_chain chain = goes_evaluate _ (found_chain setting.answers know chain)
 
+    goes_chain_text : (chain : Chain) → Goes (evaluate (chain_text setting.answers chain))
+    goes_chain_text chain = goes_evaluate _ (λ e. found_texted (chain_value setting.answers chain (strictly e)) (chain_value setting.answers chain (leniently e)) (found_chain setting.answers know chain e))
+
     mutual
       unfolding node_meaning
 
@@ -510,7 +525,7 @@ module _ (P : Type 0) where
       node_goes (ifchanged body) = goes_bind (goes_buffered (nodes_go body)) (λ t. goes_bind (goes_read _ (λ e. refl)) (λ last. goes_bind (goes_cond _ (goes_done tt) (goes_write t)) (λ a. goes_change _ (λ e. refl) (λ e. refl) (λ e. refl))))
       node_goes (filtered filters body) = goes_bind (goes_buffered (nodes_go body)) (λ t. goes_bind (goes_evaluate _ (found_calls setting.answers know filters (text t))) (λ d. goes_write _))
       node_goes (include x bindings) = goes_bind (goes_name x) (λ name. goes_bind (goes_pairs bindings) (λ pairs. goes_bind (goes_found _) (λ partial. goes_with_scope _ (deeper_goes partial))))
-      node_goes (jekyll_include name bindings) = goes_bind (goes_pairs bindings) (λ pairs. goes_bind (goes_found _) (λ partial. goes_with_scope _ (deeper_goes partial)))
+      node_goes (jekyll_include chain bindings) = goes_bind (goes_chain_text chain) (λ name. goes_bind (goes_pairs bindings) (λ pairs. goes_bind (goes_found _) (λ partial. goes_with_scope _ (deeper_goes partial))))
       node_goes (render x None bindings) = goes_bind (goes_name x) (λ name. goes_bind (goes_render_apart name bindings _) (λ left. goes_done tt))
       node_goes (render x (Some each) bindings) = goes_bind (goes_name x) (λ name. goes_bind (goes_source each.0) (λ items. goes_until_break _ (λ k d. goes_render_apart name bindings _) 0 items))
 

@@ -17,6 +17,7 @@ use Rattle.liquid_evaluation.specs.Evaluation.{bound_values}
 use Rattle.liquid_meaning.specs.Runs.{Nothing, Run, read_environment, evaluate, change, ◌>>=◌}
 use Rattle.liquid_meaning.specs.Effects.{assigned_to, counted_to, interrupted_by, counter_number, take_interrupt, if_none, unless_interrupted}
 use Rattle.liquid_meaning.specs.Loops.{if_empty, columns_of, needs_columns, loop, rows}
+use Rattle.liquid_meaning.specs.Meaning.{texted}
 use Rattle.liquid_meaning.specs.Meaning.{Setting, write_item, cycle_meaning, has_equal, within_i64, named, partial_name_text, found_partial, render_apart, node_meaning, nodes_meaning, whens_meaning}
 use Rattle.liquid_evaluation.specs.Names.{expression_names, all_names, optional_names, filters_names, condition_names, source_names, window_names, bound_names, target_names, include_name, node_names, nodes_names, whens_names}
 use Rattle.liquid_meaning.specs.Isolation.{KeepsOthers}
@@ -171,8 +172,9 @@ module _ (N : Names) (setting : Setting) (deeper : Nodes → Run Nothing)
     node_isolated (include x bindings) h = isolated_bind (isolated_name N x (left N (expression_names x) _ h))
         (λ name. isolated_bind (isolated_pairs N bindings (right N (target_names bindings) _ (right N (expression_names x) _ h)))
         (λ pairs. isolated_found N _ _ (λ nodes is. isolated_with_scope _ (deeper_isolated nodes (partials_within name nodes is)))))
-    node_isolated (jekyll_include name bindings) h = isolated_bind (isolated_pairs N bindings (right N (include_name bindings) _ h))
-        (λ pairs. isolated_found N _ _ (λ nodes is. isolated_with_scope _ (deeper_isolated nodes (partials_within name nodes is))))
+    node_isolated (jekyll_include chain bindings) h = isolated_bind (isolated_evaluate _ (λ e f a. ap texted (chain_same N e f a setting.answers chain (left N (chain_names chain) _ h))))
+        (λ name. isolated_bind (isolated_pairs N bindings (right N (include_name bindings) _ (right N (chain_names chain) _ h)))
+        (λ pairs. isolated_found N _ _ (λ nodes is. isolated_with_scope _ (deeper_isolated nodes (partials_within name nodes is)))))
     node_isolated (render x None bindings) h = isolated_bind (isolated_name N x (left N (expression_names x) _ h))
         (λ name. isolated_bind (isolated_render_apart name bindings _ (right N (target_names bindings) _ (right N (expression_names x) _ h))) (λ left. isolated_done tt))
     node_isolated (render x (Some each) bindings) h =

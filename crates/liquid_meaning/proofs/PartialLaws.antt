@@ -11,12 +11,16 @@ use Rattle.liquid_core.specs.Expression.{Expression, literal, variable}
 use Rattle.liquid_core.specs.Expressions.{required, value_of}
 use Rattle.liquid_core.specs.Loops.{loop_scope, forloop_object}
 use Rattle.liquid_core.specs.declared.interrupt.Interrupt.{Interrupt}
+use Rattle.liquid_evaluation.specs.Tree.{Chain, FilterCall}
 use Rattle.liquid_evaluation.specs.Tree.{Bindings, Node, plain, raw, comment, output, assign, increment, decrement, break_loop, continue_loop, cycle, if_true, unless, case_of, for_each, tablerow, capture, ifchanged, filtered, include, jekyll_include, render, Nodes, no_nodes, node, Whens, no_whens, when}
+use Rattle.liquid_evaluation.specs.Evaluation.{chain_value}
 use Rattle.liquid_evaluation.specs.Evaluation.{FilterAnswers, through, truth_of, source_items, amount, selected_items, bound_values}
+use Rattle.liquid_evaluation.specs.PartialCalls.{call_of_chain, call_of_filters}
 use Rattle.liquid_evaluation.specs.PartialCalls.{PartialCall, of_any_name, of_name, of_name_or_liquid, call_of_expression, node_calls, nodes_calls, whens_calls, looks_up, IsClosed}
 use Rattle.liquid_meaning.specs.Runs.{Nothing, Run, done, evaluate, read_environment, change, write, go_on, after_text, ◌>>=◌, with_scope, buffered, apart}
 use Rattle.liquid_meaning.specs.Effects.{assigned_to, changed_to, is_last_text, variable_or_nil, unless_interrupted}
 use Rattle.liquid_meaning.specs.Loops.{until_break, if_empty, loop, columns_of, rows}
+use Rattle.liquid_meaning.specs.Meaning.{chain_text}
 use Rattle.liquid_meaning.specs.Meaning.{Setting, has_equal, partial_name_text, found_partial, pairs_scope, include_scope, render_apart, node_meaning, nodes_meaning, whens_meaning, deeper_meaning, meaning}
 use Rattle.liquid_meaning.specs.PartialLaws.{AgreeUnder, PartialsInReach}
 use Rattle.liquid_meaning.proofs.Within.{text_ties_itself, or_left, or_right}
@@ -95,6 +99,23 @@ module _ (N : Names) (ps qs : List (Text × Nodes)) (answers : FilterAnswers) (a
   named_same Good by_name good always k l h (literal (object fs)) inside = then_same _ (λ name. h name (always (everywhere inside) name))
   named_same Good by_name good always k l h (variable v steps) inside = then_same _ (λ name. h name (always (everywhere inside) name))
 
+  -- whatever the name of a jekyll `include` is, what follows is the same
+  texted_through : {B : Type 0} (x : Expression) (calls : List FilterCall) (k l : Text → Run B) → ((name : Text) → Included name → k name ≡ l name) → Inside (call_of_filters x calls ∷ [])
+      → (evaluate (chain_text answers (record { entry = x; filters = calls })) >>= k) ≡ (evaluate (chain_text answers (record { entry = x; filters = calls })) >>= l)
+  unfolding chain_value
+  texted_through (literal (text t)) [] k l h inside = literal_same t k l (h t (included t inside))
+  texted_through (literal nil) [] k l h inside = then_same _ (λ name. h name (everywhere inside name))
+  texted_through (literal (truth b)) [] k l h inside = then_same _ (λ name. h name (everywhere inside name))
+  texted_through (literal (number n)) [] k l h inside = then_same _ (λ name. h name (everywhere inside name))
+  texted_through (literal (array ds)) [] k l h inside = then_same _ (λ name. h name (everywhere inside name))
+  texted_through (literal (object fs)) [] k l h inside = then_same _ (λ name. h name (everywhere inside name))
+  texted_through (variable v steps) [] k l h inside = then_same _ (λ name. h name (everywhere inside name))
+  texted_through x (call ∷ calls) k l h inside = then_same _ (λ name. h name (everywhere inside name))
+
+  texted_same : {B : Type 0} (chain : Chain) (k l : Text → Run B) → ((name : Text) → Included name → k name ≡ l name) → Inside (call_of_chain chain ∷ [])
+      → (evaluate (chain_text answers chain) >>= k) ≡ (evaluate (chain_text answers chain) >>= l)
+  texted_same chain k l h inside = texted_through chain.entry chain.filters k l h inside
+
   -- ---- partials
 
   module _ (D E : Nodes → Run Nothing) (deeper_same : (name : Text) (partial : Nodes) → T (N name) → listed ps name ≡ Some partial → D partial ≡ E partial) where
@@ -150,7 +171,7 @@ module _ (N : Names) (ps qs : List (Text × Nodes)) (answers : FilterAnswers) (a
       node_same (ifchanged body) h = λ i. buffered (nodes_same body h i) >>= (λ t. read_environment (λ e. e.registers.changed) >>= (λ last. cond (is_last_text last t) (done tt) (write t) >>= (λ a. change (changed_to t))))
       node_same (filtered filters body) h = λ i. buffered (nodes_same body h i) >>= (λ t. evaluate (through answers filters (text t)) >>= (λ d. write (text_of d)))
       node_same (include x bindings) h = named_same Included of_name included (λ all name. all name) _ _ (λ name good. then_same _ (λ pairs. partial_same name (λ m. with_scope (pairs_scope pairs) m) good)) x h
-      node_same (jekyll_include name bindings) h = then_same _ (λ pairs. partial_same name (λ m. with_scope (include_scope pairs) m) (included name h))
+      node_same (jekyll_include chain bindings) h = texted_same chain _ _ (λ name good. then_same _ (λ pairs. partial_same name (λ m. with_scope (include_scope pairs) m) good)) h
       node_same (render x None bindings) h = named_same Rendered of_name_or_liquid rendered (λ all name. (all name, λ none. all (name ++ codes ".liquid"))) _ _
           (λ name good. λ i. apart_same name bindings empty good i >>= (λ left. done tt)) x h
       node_same (render x (Some each) bindings) h = named_same Rendered of_name_or_liquid rendered (λ all name. (all name, λ none. all (name ++ codes ".liquid"))) _ _

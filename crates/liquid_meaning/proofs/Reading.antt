@@ -21,6 +21,7 @@ use Rattle.liquid_evaluation.specs.declared.comparison.ComparisonOperator.TheVar
 use Rattle.liquid_meaning.specs.Runs.{Nothing, Run, done, read_environment, evaluate, change, write, ◌>>=◌}
 use Rattle.liquid_meaning.specs.Effects.{assigned_to, counted_to, interrupted_by, counter_number, variable_or_nil, take_interrupt, if_none, unless_interrupted, is_last_text}
 use Rattle.liquid_meaning.specs.Loops.{if_empty, columns_of, needs_columns, cell_start, cell_end, loop, rows}
+use Rattle.liquid_meaning.specs.Meaning.{texted}
 use Rattle.liquid_meaning.specs.Meaning.{Setting, write_item, cycle_meaning, has_equal, within_i64, named, partial_name_text, found_partial, pairs_scope, include_scope, render_apart, node_meaning, nodes_meaning, whens_meaning, deeper_meaning, meaning}
 use Rattle.liquid_model.specs.Uses.{Use, nothing, everything, parts, there, shape_of, Pairwise, Alike, asks_whether, present}
 use Rattle.liquid_meaning.specs.Reading.{Uses, Needs, grants, grants_all, grants_optional, use_beside, grants_compared, grants_values, grants_condition, seen_limit, grants_source, grants_window, grants_bindings, grants_filters, use_before, grants_chain, bound_use, all_of, is_flat, grants_node, grants_nodes, grants_whens, grants_partials}
@@ -282,8 +283,9 @@ module _ (needs : Needs) (U : Uses) (setting : Setting) (respects : Respects set
     node_tied (include x bindings) h = tied_then (tied_name U x (both_left (grants U x everything) _ h))
         (λ name. tied_bind (tied_pairs U bindings (both_right (grants U x everything) _ h))
         (λ ps qs b. tied_found U (listed setting.partials name) _ _ (λ nodes is. tied_with_scope (pairs_scope ps) (pairs_scope qs) (alike_bound U ps qs empty empty b (alike_empty U)) (deeper_tied nodes (partials_granted name nodes is)))))
-    node_tied (jekyll_include name bindings) h = tied_bind (tied_all_pairs U bindings h)
-        (λ ps qs b. tied_found U (listed setting.partials name) _ _ (λ nodes is. tied_with_scope (include_scope ps) (include_scope qs) (included ps qs (equal_pairs U ps qs b)) (deeper_tied nodes (partials_granted name nodes is))))
+    node_tied (jekyll_include chain bindings) h = tied_then (tied_value _ _ (λ e f a. ap texted (chain_same e f a chain (both_left (grants_chain needs U everything chain) _ h))))
+        (λ name. tied_bind (tied_all_pairs U bindings (both_right (grants_chain needs U everything chain) _ h))
+        (λ ps qs b. tied_found U (listed setting.partials name) _ _ (λ nodes is. tied_with_scope (include_scope ps) (include_scope qs) (included ps qs (equal_pairs U ps qs b)) (deeper_tied nodes (partials_granted name nodes is)))))
     node_tied (render x None bindings) h = tied_then (tied_name U x (both_left (grants U x everything) _ h))
         (λ name. tied_then (tied_render_apart name bindings empty empty (alike_empty U) (both_right (grants U x everything) _ h)) (λ left. tied_done Same tt tt refl))
     node_tied (render x (Some over) bindings) h =

@@ -18,6 +18,7 @@ use Rattle.liquid_evaluation.specs.Evaluation.{chain_value, through, truth_of, s
 use Rattle.liquid_meaning.specs.Runs.{Nothing, Run, done, read_environment, evaluate, change, write, go_on, ◌>>=◌, with_scope, buffered, apart}
 use Rattle.liquid_meaning.specs.Effects.{assigned_to, counted_to, interrupted_by, changed_to, counter_number, is_break, is_last_text, variable_or_nil}
 use Rattle.liquid_meaning.specs.Loops.{columns_of, for_all, if_empty, loop, rows, until_break}
+use Rattle.liquid_meaning.specs.Meaning.{chain_text}
 use Rattle.liquid_meaning.specs.Meaning.{Setting, within_i64, cycle_meaning, has_equal, partial_name_text, found_partial, include_scope, pairs_scope, render_apart, node_meaning, nodes_meaning, whens_meaning}
 
 module _ (setting : Setting) (deeper : Nodes → Run Nothing) where
@@ -68,10 +69,10 @@ module _ (setting : Setting) (deeper : Nodes → Run Nothing) where
   unfolding node_meaning
   include_rule x bindings = refl
 
-  pub jekyll_rule : (name : Text) (bindings : Bindings) → node_meaning setting deeper (jekyll_include name bindings)
-      ≡ (evaluate (bound_values bindings) >>= (λ pairs. evaluate (λ e. found_partial (listed setting.partials name)) >>= (λ partial. with_scope (include_scope pairs) (deeper partial))))
+  pub jekyll_rule : (chain : Chain) (bindings : Bindings) → node_meaning setting deeper (jekyll_include chain bindings)
+      ≡ (evaluate (chain_text setting.answers chain) >>= (λ name. evaluate (bound_values bindings) >>= (λ pairs. evaluate (λ e. found_partial (listed setting.partials name)) >>= (λ partial. with_scope (include_scope pairs) (deeper partial)))))
   unfolding node_meaning
-  jekyll_rule name bindings = refl
+  jekyll_rule chain bindings = refl
 
   pub render_rule : (x : Expression) (bindings : Bindings) → node_meaning setting deeper (render x None bindings)
       ≡ (evaluate (partial_name_text x) >>= (λ name. (evaluate (bound_values bindings) >>= (λ pairs. evaluate (λ e. found_partial (listed setting.partials name else listed setting.partials (name ++ codes ".liquid"))) >>= (λ partial. apart (pairs_scope pairs) (deeper partial)))) >>= (λ left. done tt)))

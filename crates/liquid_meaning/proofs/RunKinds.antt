@@ -21,6 +21,7 @@ use Rattle.liquid_evaluation.specs.Evaluation.{FilterAnswers, answers_in, entry_
 use Rattle.liquid_meaning.specs.Runs.{Nothing, Run, done, read_environment, evaluate, fault, change, write, go_on, ◌>>=◌, with_scope, ended_with, buffered, apart}
 use Rattle.liquid_meaning.specs.Effects.{take_interrupt, if_none, unless_interrupted}
 use Rattle.liquid_meaning.specs.Loops.{until_break, for_all, if_empty, needs_columns, loop, rows}
+use Rattle.liquid_meaning.specs.Meaning.{texted, chain_text}
 use Rattle.liquid_meaning.specs.Meaning.{Setting, write_item, cycle_meaning, has_equal, within_i64, named, partial_name_text, found_partial, render_apart, node_meaning, nodes_meaning, whens_meaning, deeper_meaning, meaning}
 use Rattle.std.specs.Option.{ok_or}
 use Rattle.std.proofs.Common.{arith}
@@ -210,6 +211,10 @@ module _ (limit : ℕ) (least : (kind : ErrorKind) → T (is_run_kind kind) → 
   ended_bound [] e = ended_ok []
   ended_bound (b ∷ bs) e = ended_then (ended_required b.1 e) (λ d. ended_then (ended_bound bs e) (λ ds. ended_ok _))
 
+  ended_texted : (x : Result Datum ErrorKind) → Ended x → Ended (texted x)
+  ended_texted (Ok d) i = ended_ok _
+  ended_texted (Err kind) i = ended_at kind (i.ended kind refl)
+
   ended_named : (x : Result Datum ErrorKind) → Ended x → Ended (named x)
   ended_named (Ok d) i = ended_cond _ (ended_ok _) (ended_err _ tt)
   ended_named (Err kind) i = ended_at kind (i.ended kind refl)
@@ -348,6 +353,9 @@ module _ (limit : ℕ) (least : (kind : ErrorKind) → T (is_run_kind kind) → 
     ends_chain : (chain : Chain) → Ends (evaluate (chain_value setting.answers chain))
     ends_chain chain = ends_evaluate (ended_chain setting.answers answers_end chain)
 
+    ends_chain_text : (chain : Chain) → Ends (evaluate (chain_text setting.answers chain))
+    ends_chain_text chain = ends_evaluate (λ e. ended_texted (chain_value setting.answers chain e) (ended_chain setting.answers answers_end chain e))
+
     mutual
       unfolding node_meaning
 
@@ -373,7 +381,7 @@ module _ (limit : ℕ) (least : (kind : ErrorKind) → T (is_run_kind kind) → 
       node_ends (ifchanged body) = ends_bind (ends_buffered (nodes_end body)) (λ t. ends_bind (ends_read _) (λ last. ends_bind (ends_cond _ (ends_done tt) (ends_write t)) (λ a. ends_change _)))
       node_ends (filtered filters body) = ends_bind (ends_buffered (nodes_end body)) (λ t. ends_bind (ends_evaluate (ended_through setting.answers answers_end filters (text t))) (λ d. ends_write _))
       node_ends (include x bindings) = ends_bind (ends_name x) (λ name. ends_bind (ends_pairs bindings) (λ pairs. ends_bind (ends_found _) (λ partial. ends_with_scope _ (deeper_ends partial))))
-      node_ends (jekyll_include name bindings) = ends_bind (ends_pairs bindings) (λ pairs. ends_bind (ends_found _) (λ partial. ends_with_scope _ (deeper_ends partial)))
+      node_ends (jekyll_include chain bindings) = ends_bind (ends_chain_text chain) (λ name. ends_bind (ends_pairs bindings) (λ pairs. ends_bind (ends_found _) (λ partial. ends_with_scope _ (deeper_ends partial))))
       node_ends (render x None bindings) = ends_bind (ends_name x) (λ name. ends_bind (ends_render_apart name bindings _) (λ left. ends_done tt))
       node_ends (render x (Some each) bindings) = ends_bind (ends_name x) (λ name. ends_bind (ends_source each.0) (λ items. ends_until_break _ (λ k d. ends_render_apart name bindings _) 0 items))
 

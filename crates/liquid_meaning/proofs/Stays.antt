@@ -168,7 +168,7 @@ module _ {name : Text} (setting : Setting) (deeper : Nodes → Run Nothing) (dee
     node_stays (ifchanged body) = stays_bind (stays_buffered (nodes_stay body)) (λ t. stays_bind (stays_read _) (λ last. stays_bind (stays_cond _ (stays_done tt) (stays_write t)) (λ a. stays_change _ (λ e. refl))))
     node_stays (filtered filters body) = stays_bind (stays_buffered (nodes_stay body)) (λ t. stays_bind (stays_evaluate _) (λ d. stays_write _))
     node_stays (include x bindings) = stays_bind (stays_evaluate _) (λ partial. stays_bind (stays_evaluate _) (λ pairs. stays_bind (stays_evaluate _) (λ nodes. stays_with_scope _ (deeper_stays nodes))))
-    node_stays (jekyll_include partial bindings) = stays_bind (stays_evaluate _) (λ pairs. stays_bind (stays_evaluate _) (λ nodes. stays_with_scope _ (deeper_stays nodes)))
+    node_stays (jekyll_include chain bindings) = stays_bind (stays_evaluate _) (λ partial. stays_bind (stays_evaluate _) (λ pairs. stays_bind (stays_evaluate _) (λ nodes. stays_with_scope _ (deeper_stays nodes))))
     node_stays (render x None bindings) = stays_bind (stays_evaluate _) (λ partial. stays_bind (stays_render_apart partial bindings _) (λ left. stays_done tt))
     node_stays (render x (Some each) bindings) = stays_bind (stays_evaluate _) (λ partial. stays_bind (stays_evaluate _) (λ items. stays_until_break _ (λ k d. stays_render_apart partial bindings _) 0 items))
 

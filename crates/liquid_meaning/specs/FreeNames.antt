@@ -19,6 +19,7 @@ use Rattle.liquid_core.specs.declared.missing_value.Missing.{Missing}
 use Rattle.liquid_evaluation.specs.Names.{expression_names, all_names, optional_names, chain_names}
 use Rattle.liquid_evaluation.specs.Names.{condition_names, source_names, window_names, bound_names}
 use Rattle.liquid_evaluation.specs.Names.{filters_names, target_names, include_name, mentioned}
+use Rattle.liquid_evaluation.specs.Tree.{Chain, FilterCall}
 use Rattle.liquid_evaluation.specs.Tree.{Node, plain, raw, comment, output, assign, increment}
 use Rattle.liquid_evaluation.specs.Tree.{decrement, break_loop, continue_loop, cycle, if_true}
 use Rattle.liquid_evaluation.specs.Tree.{unless, case_of, for_each, tablerow, capture, ifchanged}
@@ -38,6 +39,14 @@ PartialsRead = Option Text → Names
 abbrev pub literal_name : Expression → Option Text
 literal_name (literal (text s)) = Some s
 literal_name _ = None
+
+abbrev pub name_through : Expression → List FilterCall → Option Text
+name_through x [] = literal_name x
+name_through x (call ∷ calls) = None
+
+-- the text that a chain is without a filter, where it is one
+abbrev pub spelled_out : Chain → Option Text
+spelled_out chain = name_through chain.entry chain.filters
 
 -- those of N that none of these names binds
 abbrev pub unbound : List Text → Names → Names
@@ -85,8 +94,9 @@ module _ (R : PartialsRead) where
         mentioned (filters_names filters) q || nodes_reads body q
     node_reads (include x bindings) q = mentioned (expression_names x ++ bound_names bindings) q ||
         unbound (target_names bindings) (R (literal_name x)) q
-    node_reads (jekyll_include name bindings) q = mentioned (bound_names bindings) q ||
-        unbound (include_name bindings) (R (Some name)) q
+    node_reads (jekyll_include chain bindings) q =
+        mentioned (chain_names chain ++ bound_names bindings) q ||
+        unbound (include_name bindings) (R (spelled_out chain)) q
     -- a partial that is rendered sees nothing of the data
     node_reads (render x None bindings) q = mentioned (expression_names x ++ bound_names bindings) q
     node_reads (render x (Some each) bindings) q =

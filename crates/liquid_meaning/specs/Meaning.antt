@@ -25,7 +25,7 @@ use Rattle.liquid_model.specs.Maps.{Map, empty, insert, merged, listed}
 use Rattle.liquid_core.specs.Environment.{bind_each, Environment}
 use Rattle.liquid_core.specs.declared.interrupt.Interrupt.{Interrupt}
 use Rattle.liquid_core.specs.declared.interrupt.Interrupt.TheVariants.{Break, Continue}
-use Rattle.liquid_evaluation.specs.Tree.{Bindings, Node, plain, raw, comment, output, assign}
+use Rattle.liquid_evaluation.specs.Tree.{Bindings, Chain, Node, plain, raw, comment, output, assign}
 use Rattle.liquid_evaluation.specs.Tree.{increment, decrement, break_loop, continue_loop, cycle}
 use Rattle.liquid_evaluation.specs.Tree.{if_true, unless, case_of, for_each, tablerow, capture}
 use Rattle.liquid_evaluation.specs.Tree.{ifchanged, filtered, include, jekyll_include, render}
@@ -82,6 +82,14 @@ named (Err kind) = Err kind
 
 abbrev pub partial_name_text : Expression → Environment → Result Text ErrorKind
 partial_name_text x e = named (required x e)
+
+-- the name of a jekyll `include` is the text of any value
+abbrev pub texted : Result Datum ErrorKind → Result Text ErrorKind
+texted (Ok d) = Ok (text_of d)
+texted (Err kind) = Err kind
+
+abbrev pub chain_text : FilterAnswers → Chain → Environment → Result Text ErrorKind
+chain_text answers chain e = texted (chain_value answers chain e)
 
 abbrev pub found_partial : Option Nodes → Result Nodes ErrorKind
 found_partial partial = ok_or partial UnknownPartial
@@ -177,7 +185,9 @@ module _ (setting : Setting) (deeper : Nodes → Run Nothing) where
       pairs ← evaluate (bound_values bindings)
       partial ← evaluate (λ e. found_partial (listed setting.partials name))
       with_scope (pairs_scope pairs) (deeper partial)
-    node_meaning (jekyll_include name bindings) = do
+    -- the same, with the pairs in one object
+    node_meaning (jekyll_include chain bindings) = do
+      name ← evaluate (chain_text setting.answers chain)
       pairs ← evaluate (bound_values bindings)
       partial ← evaluate (λ e. found_partial (listed setting.partials name))
       with_scope (include_scope pairs) (deeper partial)

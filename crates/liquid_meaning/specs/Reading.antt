@@ -215,7 +215,8 @@ module _ (needs : Needs) where
     grants_node U (filtered filters body) = grants_filters U filters && grants_nodes U body
     grants_node U (include x bindings) = grants U x everything &&
         grants_bindings U (bound_use U) bindings
-    grants_node U (jekyll_include name bindings) = grants_bindings U all_of bindings
+    grants_node U (jekyll_include chain bindings) = grants_chain needs U everything chain &&
+        grants_bindings U all_of bindings
     grants_node U (render x None bindings) = grants U x everything &&
         grants_bindings U (bound_use U) bindings
     grants_node U (render x (Some each) bindings) = grants U x everything &&

@@ -78,7 +78,7 @@ pub record WorkedNames : Type 0 where
       (codes "forloop" ∷ codes "i" ∷ codes "k" ∷ codes "m" ∷ codes "n" ∷ codes "s" ∷
       codes "tablerow" ∷ codes "w" ∷ codes "z" ∷ [])
   -- of jekyll: {% include e.txt a=b %}
-  pub of_include : NamesAre [] (jekyll_include (codes "e.txt") ((codes "a", name "b") ∷ []) ∷ [])
+  pub of_include : NamesAre [] (jekyll_include (without_filters (text_literal "e.txt")) ((codes "a", name "b") ∷ []) ∷ [])
       (codes "b" ∷ codes "include" ∷ [])
   -- {{ a | filter: b }}
   pub of_output : (filter : Filter) → NamesAre [] (output (filtered_by filter) ∷ [])
@@ -129,4 +129,4 @@ pub record WorkedNames : Type 0 where
       ((codes "b", name "c") ∷ []) ∷ []) (codes "a" ∷ codes "b" ∷ codes "c" ∷ codes "d" ∷
       codes "forloop" ∷ codes "x" ∷ [])
   -- of jekyll, without pairs: {% include e.txt %}
-  pub of_no_pairs : NamesAre [] (jekyll_include (codes "e.txt") [] ∷ []) []
+  pub of_no_pairs : NamesAre [] (jekyll_include (without_filters (text_literal "e.txt")) [] ∷ []) []

@@ -124,12 +124,12 @@ pub record WorkedPartials : Type 0 where
   -- e.txt %}
   pub include_object : Writes
       (page_with "e.txt" shows_include
-      (jekyll_include (codes "e.txt") ((codes "a", text_literal "x") ∷ (codes "b", integer 1) ∷ [])
+      (jekyll_include (without_filters (text_literal "e.txt")) ((codes "a", text_literal "x") ∷ (codes "b", integer 1) ∷ [])
       ∷
       [])) "x1"
   pub later_key_wins : Writes
-      (page_with "e.txt" shows_include (jekyll_include (codes "e.txt") ((codes "a", integer 1) ∷
+      (page_with "e.txt" shows_include (jekyll_include (without_filters (text_literal "e.txt")) ((codes "a", integer 1) ∷
       (codes "a", integer 2) ∷ (codes "b", integer 3) ∷ []) ∷ [])) "23"
   pub no_include_object : WritesThen
-      (page_with "e.txt" shows_include (jekyll_include (codes "e.txt") [] ∷ [])) ""
+      (page_with "e.txt" shows_include (jekyll_include (without_filters (text_literal "e.txt")) [] ∷ [])) ""
       UnknownVariable

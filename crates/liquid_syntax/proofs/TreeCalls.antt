@@ -106,7 +106,7 @@ module _ (f : PartialCall → Bool) where
   makes (IfChanged end) = one_makes true both in_node in_nodes sum true tree.ifchanged end (λ b. refl)
   makes (Filtered filters end) = one_makes true both in_node in_nodes sum true (tree.filtered (map chain_filter_view filters.items)) end (λ b. refl)
   makes (Include partial pairs) = without_bodies (tree.include (expression_view partial) (bindings_view pairs.items))
-  makes (JekyllInclude partial pairs) = without_bodies (tree.jekyll_include (string_bytes partial) (bindings_view pairs.items))
+  makes (JekyllInclude partial pairs) = without_bodies (tree.jekyll_include (chain_view partial) (bindings_view pairs.items))
   makes (Render partial pairs) = without_bodies (tree.render (expression_view partial) None (bindings_view pairs.items))
   makes (RenderEach partial each pairs) = without_bodies (tree.render (expression_view partial) (Some (each_view each)) (bindings_view pairs.items))
 

@@ -128,7 +128,7 @@ module _ (N : Names) where
       let calls = map chain_filter_view filters.items in
       one_makes false either in_node in_nodes sum (list_any N (filters_names calls)) (tree.filtered calls) end (one (filters_names calls))
   makes (Include partial pairs) = without_bodies (tree.include (expression_view partial) (bindings_view pairs.items))
-  makes (JekyllInclude partial pairs) = without_bodies (tree.jekyll_include (string_bytes partial) (bindings_view pairs.items))
+  makes (JekyllInclude partial pairs) = without_bodies (tree.jekyll_include (chain_view partial) (bindings_view pairs.items))
   makes (Render partial pairs) = without_bodies (tree.render (expression_view partial) None (bindings_view pairs.items))
   makes (RenderEach partial each pairs) = without_bodies (tree.render (expression_view partial) (Some (each_view each)) (bindings_view pairs.items))
 

@@ -126,7 +126,7 @@ flat_of (Filtered filters end) =
 flat_of (Include name bindings) =
     leaf (tree.include (expression_view name) (bindings_view bindings.items))
 flat_of (JekyllInclude name bindings) =
-    leaf (tree.jekyll_include (string_bytes name) (bindings_view bindings.items))
+    leaf (tree.jekyll_include (chain_view name) (bindings_view bindings.items))
 flat_of (Render name bindings) =
     leaf (tree.render (expression_view name) None (bindings_view bindings.items))
 flat_of (RenderEach name each bindings) =

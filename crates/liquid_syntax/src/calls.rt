@@ -1,13 +1,15 @@
 //! What a place that runs a partial looks up.
 ghost use Rattle.std.specs.Prelude.{◌≡◌};
 ghost use Rattle.liquid_core.specs.ExpressionView.{expression_view};
-ghost use Rattle.liquid_evaluation.specs.PartialCalls.{call_of_expression, of_name};
+ghost use Rattle.liquid_evaluation.specs.ChainView.{chain_view};
+ghost use Rattle.liquid_evaluation.specs.PartialCalls.{call_of_chain, call_of_expression, of_name};
 ghost use Rattle.liquid_evaluation.specs.PartialCalls.{of_name_or_liquid};
 ghost use Rattle.liquid_syntax.specs.CallView.{partial_call_view, calls_view};
 ghost use Rattle.liquid_syntax.specs.inside.Calls.{own_calls};
 
 use crate::node::Node;
 use liquid_core::{Expression, Value};
+use liquid_evaluation::FilterChain;
 
 /// What a place that runs a partial looks up.
 #[derive(Clone, Copy, Debug, PartialEq, Eq)]
@@ -27,7 +29,7 @@ pub fn partial_call(node: &Node) -> Option<PartialCall<'_>>
 {
     match node {
         Node::Include(name, _) => Some(included(name)),
-        Node::JekyllInclude(name, _) => Some(PartialCall::Name(name.as_str())),
+        Node::JekyllInclude(chain, _) => Some(computed(chain)),
         Node::Render(name, _) => Some(rendered(name)),
         Node::RenderEach(name, _, _) => Some(rendered(name)),
         _ => None,
@@ -41,6 +43,17 @@ fn included(name: &Expression) -> PartialCall<'_>
     match name {
         Expression::Literal(Value::Text(text)) => PartialCall::Name(text.as_str()),
         _ => PartialCall::AnyName,
+    }
+}
+
+/// What a jekyll `include` looks up.
+fn computed(chain: &FilterChain) -> PartialCall<'_>
+    ensures { partial_call_view result ≡ call_of_chain (chain_view chain.now) }
+{
+    if chain.filters.is_empty() {
+        included(&chain.entry)
+    } else {
+        PartialCall::AnyName
     }
 }
 

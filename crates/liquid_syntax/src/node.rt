@@ -97,8 +97,8 @@ pub enum Node {
     Filtered(Vec<ChainFilter>, usize),
     /// `{% include name pairs %}`, with the name's value.
     Include(Expression, Vec<Binding>),
-    /// Jekyll's `{% include name pairs %}`, with the name itself.
-    JekyllInclude(String, Vec<Binding>),
+    /// Jekyll's `{% include name pairs %}`, with the chain whose text is the name.
+    JekyllInclude(FilterChain, Vec<Binding>),
     /// `{% render name pairs %}`, that runs once. `with v as w` is the first pair.
     Render(Expression, Vec<Binding>),
     /// `{% render name for source as variable, pairs %}`, that runs once for each item.

@@ -55,7 +55,9 @@ fn visit_node<V: NameVisitor>(node: &Node, visitor: &mut V) -> bool
         Node::Include(name, pairs) => {
             visit_expression(name, visitor) || visit_pairs(pairs, visitor)
         }
-        Node::JekyllInclude(_, pairs) => visit_jekyll_pairs(pairs, visitor),
+        Node::JekyllInclude(chain, pairs) => {
+            visit_chain(chain, visitor) || visit_jekyll_pairs(pairs, visitor)
+        }
         Node::Render(name, pairs) => {
             visit_expression(name, visitor) || visit_pairs(pairs, visitor)
         }

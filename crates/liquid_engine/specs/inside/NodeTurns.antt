@@ -33,7 +33,7 @@ node_turns (unless c b d) = 1 + comparisons c
 node_turns (case_of target whens d) = 1 + when_values whens
 node_turns (filtered filters b) = 1 + length filters
 node_turns (include name pairs) = 1 + length pairs
-node_turns (jekyll_include name pairs) = 1 + length pairs
+node_turns (jekyll_include chain pairs) = 1 + (length chain.filters + length pairs)
 node_turns (render name None pairs) = 1 + length pairs
 node_turns _ = 1
 

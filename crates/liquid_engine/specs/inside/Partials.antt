@@ -3,11 +3,12 @@
 --                                      partial, and how many nested ones there may still be in it
 --     include_entry, jekyll_entry, render_entry, item_entry      what the partial of a tag is
 --       entered with, or the first fault
-use Rattle.std.specs.Prelude.{◌≡◌, ◌≤◌, ◌++◌, ℕ, ◌==◌, ◌-◌, List, length, cond, Option, Result, Ok}
+use Rattle.std.specs.Prelude.{◌≡◌, ◌≤◌, ◌++◌, ℕ, ◌==◌, ◌-◌, List, [], length, cond, Option}
+use Rattle.std.specs.Prelude.{Result, Ok}
 use Rattle.std.specs.Prelude.{Err, codes, string_bytes}
 use Rattle.liquid_model.specs.Answer.{Faulted}
 use Rattle.liquid_model.specs.Texts.{Text, ◌else◌}
-use Rattle.liquid_model.specs.Data.{Datum, Pairs, nil, no_pairs}
+use Rattle.liquid_model.specs.Data.{Datum, Pairs, nil, no_pairs, text}
 use Rattle.liquid_model.specs.Fallible.{◌>>=◌}
 use Rattle.liquid_model.specs.Lists.{put_each}
 use Rattle.liquid_model.specs.Maps.{Map, listed, merged}
@@ -16,13 +17,13 @@ use Rattle.liquid_model.specs.declared.error.ErrorKind.{ErrorKind}
 use Rattle.liquid_model.specs.declared.error.ErrorKind.TheVariants.{TooDeep}
 use Rattle.liquid_core.specs.Environment.{Environment, own_environment}
 use Rattle.liquid_core.specs.declared.missing_value.Missing.{Missing}
-use Rattle.liquid_core.specs.Expression.{Expression}
+use Rattle.liquid_core.specs.Expression.{Expression, literal}
 use Rattle.liquid_core.specs.LoopFrames.{item_of}
 use Rattle.liquid_core.specs.Loops.{loop_scope, forloop_object}
 use Rattle.liquid_core.specs.States.{Layers, with_scope_pushed}
 use Rattle.liquid_core.specs.declared.interrupt.Interrupt.{Interrupt}
 use Rattle.liquid_evaluation.specs.Evaluation.{bound_values}
-use Rattle.liquid_evaluation.specs.Tree.{Bindings, Nodes}
+use Rattle.liquid_evaluation.specs.Tree.{Bindings, Chain, Nodes}
 use Rattle.liquid_syntax.specs.Templates.{template_nodes, most_of}
 use Rattle.liquid_syntax.specs.declared.template.Template.{Template}
 use Rattle.liquid_engine.specs.declared.context.RunContext.{RunContext}
@@ -55,6 +56,10 @@ partial_of partials name = found_partial (listed partials name)
 abbrev pub render_partial : List (Text × Nodes) → Text → Result Nodes ErrorKind
 render_partial partials name =
     found_partial (listed partials name else listed partials (name ++ codes ".liquid"))
+
+-- a chain of a text that no filter changes
+abbrev pub spelled_chain : Text → Chain
+spelled_chain t = record { entry = literal (text t); filters = [] }
 
 -- ---- what a partial is entered with
 

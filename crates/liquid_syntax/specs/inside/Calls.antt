@@ -1,10 +1,11 @@
 -- What the nodes of a list look up among partials.
 --     own_calls      of a node itself, and not of its bodies;   list_calls      of the nodes of a
 --                    list
-use Rattle.std.specs.Prelude.{List, [], ◌∷◌, ◌++◌, string_bytes}
+use Rattle.std.specs.Prelude.{List, [], ◌∷◌, ◌++◌}
 use Rattle.liquid_core.specs.ExpressionView.{expression_view}
+use Rattle.liquid_evaluation.specs.ChainView.{chain_view}
 use Rattle.liquid_evaluation.specs.PartialCalls.{PartialCall, of_name, of_name_or_liquid}
-use Rattle.liquid_evaluation.specs.PartialCalls.{call_of_expression}
+use Rattle.liquid_evaluation.specs.PartialCalls.{call_of_chain, call_of_expression}
 use Rattle.liquid_syntax.specs.declared.node.Node.{Node}
 use Rattle.liquid_syntax.specs.declared.node.Node.TheVariants.{Text as Plain, Output, Assign, Raw}
 use Rattle.liquid_syntax.specs.declared.node.Node.TheVariants.{Comment, If, Unless, Capture, Case}
@@ -34,7 +35,7 @@ own_calls (Cycle group values) = []
 own_calls (IfChanged end) = []
 own_calls (Filtered filters end) = []
 own_calls (Include name pairs) = call_of_expression of_name (expression_view name) ∷ []
-own_calls (JekyllInclude name pairs) = of_name (string_bytes name) ∷ []
+own_calls (JekyllInclude chain pairs) = call_of_chain (chain_view chain) ∷ []
 own_calls (Render name pairs) =
     call_of_expression of_name_or_liquid (expression_view name) ∷ []
 own_calls (RenderEach name each pairs) =

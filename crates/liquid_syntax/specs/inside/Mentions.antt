@@ -84,7 +84,8 @@ own_names (IfChanged end) = []
 own_names (Filtered filters end) = filters_names (map chain_filter_view filters.items)
 own_names (Include name pairs) = expression_names (expression_view name) ++
     pairs_names (bindings_view pairs.items)
-own_names (JekyllInclude name pairs) = jekyll_names (bindings_view pairs.items)
+own_names (JekyllInclude chain pairs) = chain_names (chain_view chain) ++
+    jekyll_names (bindings_view pairs.items)
 own_names (Render name pairs) = expression_names (expression_view name) ++
     pairs_names (bindings_view pairs.items)
 own_names (RenderEach name each pairs) = expression_names (expression_view name) ++

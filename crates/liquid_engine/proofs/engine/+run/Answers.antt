@@ -408,27 +408,24 @@ run_node-returns-in-Include-clause-kept g t c =
     leaf_keeps (setting_of g.H.NamedFilters.named c.args.context.now) c.args.nodes.now c.args.at c.args.to c.index-nodes-at.result _ (tree.include (expression_view c.in-Include.name) (bindings_view c.in-Include.bindings.items)) c.args.state.now c.run_include.new.state c.requires c.index-nodes-at.is c.in-Include.is refl
     (subst (λ x. Keeps (node_names (tree.include (expression_view c.in-Include.name) (bindings_view x))) (setting_of g.H.NamedFilters.named c.args.context.now) c.args.state.now c.run_include.new.state) c.deref-in-Include.ensures.value c.run_include.ensures.kept)
 
-pub run_node-run_jekyll_include-requires : goal.run_node-run_jekyll_include-requires
-run_node-run_jekyll_include-requires g t c κs within =
+pub run_node-run_computed_include-requires : goal.run_node-run_computed_include-requires
+run_node-run_computed_include-requires g t c κs within =
     let before = node_before c.args.nodes.now c.args.at c.args.to c.requires in
     (let lt : reserve c.args.context.now.depth c.args.context.now.partials.now + 2 < t = omega arith in lt, within)
 
 pub run_node-returns-in-JekyllInclude-clause-performs : goal.run_node-returns-in-JekyllInclude-clause-performs
 run_node-returns-in-JekyllInclude-clause-performs g t c =
     let place = configuration_of g.W.CountedWrite.contents g.W.CountedWrite.failure_count in
-    let after = place c.run_jekyll_include.new.out c.run_jekyll_include.new.state in
-    leaf_performs (setting_of g.H.NamedFilters.named c.args.context.now) c.args.context.now.depth c.args.nodes.now c.args.at c.args.to c.index-nodes-at.result _ (tree.jekyll_include (string_bytes c.in-JekyllInclude.name) (bindings_view c.in-JekyllInclude.bindings.items)) c.run_jekyll_include.result (place c.args.out.now c.args.state.now) after c.requires c.index-nodes-at.is c.in-JekyllInclude.is refl
-    (subst (λ x. Performs c.run_jekyll_include.result (node_meant (setting_of g.H.NamedFilters.named c.args.context.now) c.args.context.now.depth (tree.jekyll_include x (bindings_view c.in-JekyllInclude.bindings.items))) (place c.args.out.now c.args.state.now) after) c.as_str-in-JekyllInclude.ensures.value
-    (subst (λ x. Performs c.run_jekyll_include.result (node_meant (setting_of g.H.NamedFilters.named c.args.context.now) c.args.context.now.depth (tree.jekyll_include c.as_str-in-JekyllInclude.result.now (bindings_view x))) (place c.args.out.now c.args.state.now) after) c.deref-in-JekyllInclude.ensures.value c.run_jekyll_include.ensures.performs))
+    leaf_performs (setting_of g.H.NamedFilters.named c.args.context.now) c.args.context.now.depth c.args.nodes.now c.args.at c.args.to c.index-nodes-at.result _ (tree.jekyll_include (chain_view c.in-JekyllInclude.chain) (bindings_view c.in-JekyllInclude.bindings.items)) c.run_computed_include.result (place c.args.out.now c.args.state.now) (place c.run_computed_include.new.out c.run_computed_include.new.state) c.requires c.index-nodes-at.is c.in-JekyllInclude.is refl
+    (subst (λ x. Performs c.run_computed_include.result (node_meant (setting_of g.H.NamedFilters.named c.args.context.now) c.args.context.now.depth (tree.jekyll_include (chain_view c.in-JekyllInclude.chain) (bindings_view x))) (place c.args.out.now c.args.state.now) (place c.run_computed_include.new.out c.run_computed_include.new.state)) c.deref-in-JekyllInclude.ensures.value c.run_computed_include.ensures.performs)
 
 pub run_node-returns-in-JekyllInclude-clause-kept : goal.run_node-returns-in-JekyllInclude-clause-kept
 run_node-returns-in-JekyllInclude-clause-kept g t c =
-    leaf_keeps (setting_of g.H.NamedFilters.named c.args.context.now) c.args.nodes.now c.args.at c.args.to c.index-nodes-at.result _ (tree.jekyll_include (string_bytes c.in-JekyllInclude.name) (bindings_view c.in-JekyllInclude.bindings.items)) c.args.state.now c.run_jekyll_include.new.state c.requires c.index-nodes-at.is c.in-JekyllInclude.is refl
-    (subst (λ x. Keeps (node_names (tree.jekyll_include x (bindings_view c.in-JekyllInclude.bindings.items))) (setting_of g.H.NamedFilters.named c.args.context.now) c.args.state.now c.run_jekyll_include.new.state) c.as_str-in-JekyllInclude.ensures.value
-    (subst (λ x. Keeps (node_names (tree.jekyll_include c.as_str-in-JekyllInclude.result.now (bindings_view x))) (setting_of g.H.NamedFilters.named c.args.context.now) c.args.state.now c.run_jekyll_include.new.state) c.deref-in-JekyllInclude.ensures.value c.run_jekyll_include.ensures.kept))
+    leaf_keeps (setting_of g.H.NamedFilters.named c.args.context.now) c.args.nodes.now c.args.at c.args.to c.index-nodes-at.result _ (tree.jekyll_include (chain_view c.in-JekyllInclude.chain) (bindings_view c.in-JekyllInclude.bindings.items)) c.args.state.now c.run_computed_include.new.state c.requires c.index-nodes-at.is c.in-JekyllInclude.is refl
+    (subst (λ x. Keeps (node_names (tree.jekyll_include (chain_view c.in-JekyllInclude.chain) (bindings_view x))) (setting_of g.H.NamedFilters.named c.args.context.now) c.args.state.now c.run_computed_include.new.state) c.deref-in-JekyllInclude.ensures.value c.run_computed_include.ensures.kept)
 
 pub run_node-returns-in-JekyllInclude-clause-alone : goal.run_node-returns-in-JekyllInclude-clause-alone
-run_node-returns-in-JekyllInclude-clause-alone g t c = leaf_other c.args.nodes.now c.args.at c.args.to c.index-nodes-at.result _ (tree.jekyll_include (string_bytes c.in-JekyllInclude.name) (bindings_view c.in-JekyllInclude.bindings.items)) c.args.state.now c.run_jekyll_include.new.state c.requires c.index-nodes-at.is c.in-JekyllInclude.is refl (λ no. absurd no)
+run_node-returns-in-JekyllInclude-clause-alone g t c = leaf_other c.args.nodes.now c.args.at c.args.to c.index-nodes-at.result _ (tree.jekyll_include (chain_view c.in-JekyllInclude.chain) (bindings_view c.in-JekyllInclude.bindings.items)) c.args.state.now c.run_computed_include.new.state c.requires c.index-nodes-at.is c.in-JekyllInclude.is refl (λ no. absurd no)
 
 pub run_node-run_render-requires : goal.run_node-run_render-requires
 run_node-run_render-requires g t c κs within =
@@ -580,7 +577,7 @@ run_jekyll_include-returns-in_err-inner-clause-performs g t c =
     let depth = c.args.context.now.depth in
     let bs = bindings_view c.args.bindings.now in
     let p = err_from_is_err_and c.from_residual.result c.from_residual.ensures.1 in
-    rw (p.1, p.2) (subst (λ l. Performs (Err c.in_err-inner.field-0.0) (node_meaning setting (deeper_meaning setting depth) (tree.jekyll_include c.args.name.now bs)) (place c.args.out.now c.args.state.now) (record { sink = sink c.args.out.now; environment = merged_layers l })) (sym c.in_err-inner.ensures.entered.1)
+    rw (p.1, p.2) (subst (λ l. Performs (Err c.in_err-inner.field-0.0) (node_meaning setting (deeper_meaning setting depth) (tree.jekyll_include (spelled_chain c.args.name.now) bs)) (place c.args.out.now c.args.state.now) (record { sink = sink c.args.out.now; environment = merged_layers l })) (sym c.in_err-inner.ensures.entered.1)
     (jekyll_refused setting depth c.args.name.now bs c.in_err-inner.field-0.0 (place c.args.out.now c.args.state.now) c.in_err-inner.ensures.entered.0))
 
 pub run_jekyll_include-returns-in_err-inner-clause-kept : goal.run_jekyll_include-returns-in_err-inner-clause-kept
@@ -1517,7 +1514,7 @@ pub run_node-returns-in-Include-clause-silent : goal.run_node-returns-in-Include
 run_node-returns-in-Include-clause-silent g t c n next there silent = absurd (leaf_loud c.args.nodes.now c.args.at c.args.to c.index-nodes-at.result _ (tree.include (expression_view c.in-Include.name) (bindings_view c.in-Include.bindings.items)) c.requires c.index-nodes-at.is c.in-Include.is refl (λ no. absurd no) n next there silent)
 
 pub run_node-returns-in-JekyllInclude-clause-silent : goal.run_node-returns-in-JekyllInclude-clause-silent
-run_node-returns-in-JekyllInclude-clause-silent g t c n next there silent = absurd (leaf_loud c.args.nodes.now c.args.at c.args.to c.index-nodes-at.result _ (tree.jekyll_include (string_bytes c.in-JekyllInclude.name) (bindings_view c.in-JekyllInclude.bindings.items)) c.requires c.index-nodes-at.is c.in-JekyllInclude.is refl (λ no. absurd no) n next there silent)
+run_node-returns-in-JekyllInclude-clause-silent g t c n next there silent = absurd (leaf_loud c.args.nodes.now c.args.at c.args.to c.index-nodes-at.result _ (tree.jekyll_include (chain_view c.in-JekyllInclude.chain) (bindings_view c.in-JekyllInclude.bindings.items)) c.requires c.index-nodes-at.is c.in-JekyllInclude.is refl (λ no. absurd no) n next there silent)
 
 pub run_node-returns-in-Increment-clause-silent : goal.run_node-returns-in-Increment-clause-silent
 run_node-returns-in-Increment-clause-silent g t c n next there silent = absurd (leaf_loud c.args.nodes.now c.args.at c.args.to c.index-nodes-at.result _ (tree.increment (string_bytes c.in-Increment.name)) c.requires c.index-nodes-at.is c.in-Increment.is refl (λ no. absurd no) n next there silent)
