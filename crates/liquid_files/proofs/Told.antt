@@ -95,7 +95,7 @@ part_filled (Some a) None part held is s = s
 part_filled (Some a) (Some b) part held is s =
     (differ_kept part a.now b.now is (held a.now, s.0), since_so (DifferAt part a.now) (λ f. without_parts f ≡ without_parts a.now) a b (λ f d. differ_kept part a.now f is d) s.1)
 
-own_file : (files : Files) (path : Text) (file : File) → with_file files path file path ≡ file
+pub own_file : (files : Files) (path : Text) (file : File) → with_file files path file path ≡ file
 unfolding with_file
 own_file files path file = ap (λ b. cond b file (files path)) ((bytes_eq-Decides path path).1 refl)
 

@@ -16,3 +16,4 @@ pub mod Standings
 pub mod Stories
 pub mod SystemWords
 pub mod Words
+pub mod Written

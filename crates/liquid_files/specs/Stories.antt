@@ -52,3 +52,8 @@ IsRenamed from to old new =
 abbrev pub IsTakenAway : Text → Story → Story → Type 0
 IsTakenAway path old new = (new.now ≡ with_file old.now path gone)
     × Since (λ files. files ≡ old.now) old new
+
+-- these bytes stand after those that the file at a path holds
+abbrev pub IsAppended : Text → Text → Story → Story → Type 0
+IsAppended path more old new = OnlyChanges path old new
+    × ((text : Text) → old.now path ≡ holds text → new.now path ≡ holds (text ++ more))

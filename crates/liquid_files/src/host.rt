@@ -1,4 +1,6 @@
 //! The files of the system that the program runs on.
+ghost use Rattle.std.specs.Io.{WritesAtMost};
+
 use crate::disk::DiskFault;
 use crate::parts::PART_SUFFIX;
 use crate::system::{Content, FileId, FileSystem, Occupant, Standing};
@@ -106,6 +108,15 @@ impl FileSystem for SystemFiles<'_> {
         match content {
             Content::Text(text) => file.write_all(text.as_bytes()),
             Content::Copy(path) => copy_file(self.rt, path, file),
+        }
+    }
+
+    fn append(&mut self, _path: &str, bytes: &[u8]) -> io::Result<usize>
+        ensures bound { WritesAtMost result bytes.now }
+    {
+        match &mut self.made {
+            Some(file) => file.write(bytes),
+            None => Err(io::Error::from(io::ErrorKind::NotFound)),
         }
     }
 

@@ -33,18 +33,18 @@ pub struct Bounds {
 
 /// How many names are tried for a part before the folder is given up: somebody else would have to
 /// have taken all of them.
-const PART_TRIES: u32 = 100;
+pub(crate) const PART_TRIES: u32 = 100;
 
 /// The files that pages go into, over those of a system. Each page takes its place whole; what the
 /// call reads is never written, nor is what is no file of its own.
 #[derive(Drop)]
 pub struct PageFiles<S> {
     pub(crate) system: S,
-    alloc: Global,
+    pub(crate) alloc: Global,
     pub(crate) bounds: Bounds,
     /// The number of the process, and how many parts it made.
-    process: u32,
-    parts: u64,
+    pub(crate) process: u32,
+    pub(crate) parts: u64,
     /// The files that the call reads.
     pub(crate) sources: BTreeSet<FileId>,
     pages: WrittenPages,
@@ -207,7 +207,7 @@ impl<S: FileSystem> PageFiles<S> {
     }
 
     /// The file that a page takes the place of, and its mode; none where there is no file.
-    fn replaced(&self, path: &str) -> Result<Option<(FileId, u32)>, DiskFault>
+    pub(crate) fn replaced(&self, path: &str) -> Result<Option<(FileId, u32)>, DiskFault>
         ensures source { OnOk result (IfSome (S.stands self.now.system)
             (λ s. IsNoSource ⟦<FileId as Ord>⟧.cmp self.now.sources (s path.now))) }
         ensures own { OnOk result (IfSome (S.stands self.now.system)
@@ -252,7 +252,7 @@ impl<S: FileSystem> PageFiles<S> {
 
     /// Makes the folder of a page ready for it, once: it is there, within bounds, and without the
     /// parts of runs that ended before their time.
-    fn make_folder_ready(&mut self, path: &str) -> Result<(), DiskFault>
+    pub(crate) fn make_folder_ready(&mut self, path: &str) -> Result<(), DiskFault>
         ensures kept { Between IsKept (S.story self.old.system) (S.story self.new.system) }
         ensures bounds { self.new.bounds ≡ self.old.bounds }
     {

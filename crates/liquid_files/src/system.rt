@@ -1,10 +1,11 @@
 //! What a system does with its files.
-ghost use Rattle.std.specs.Prelude.{◌≡◌, None, Option, IfOk, IfSome, OnErr, OnOk};
+ghost use Rattle.std.specs.Prelude.{◌≡◌, None, Option, IfOk, IfSome, OnErr, OnOk, take};
+ghost use Rattle.std.specs.Io.{WritesAtMost};
 ghost use Rattle.liquid_model.specs.Texts.{Text};
 ghost use Rattle.liquid_files.specs.Contents.{filled_with};
 ghost use Rattle.liquid_files.specs.Files.{IsFound};
 ghost use Rattle.liquid_files.specs.Stories.{Between, IsFilled, IsMade, IsRenamed, IsTakenAway};
-ghost use Rattle.liquid_files.specs.Stories.{OnlyChanges, Story};
+ghost use Rattle.liquid_files.specs.Stories.{IsAppended, OnlyChanges, Story};
 ghost use Rattle.liquid_files.specs.declared.system.FileId.{FileId};
 ghost use Rattle.liquid_files.specs.declared.system.Standing.{Standing};
 
@@ -84,6 +85,14 @@ pub trait FileSystem {
             (story self.old) (story self.new)) }
         ensures unfilled { OnErr result (Between (OnlyChanges path.now) (story self.old)
             (story self.new)) };
+
+    /// Writes bytes at the end of the file that was made last, which is at this path: so many of
+    /// the first ones as the system takes at once.
+    fn append(&mut self, path: &str, bytes: &[u8]) -> io::Result<usize>
+        ensures bound { WritesAtMost result bytes.now }
+        ensures appended { IfOk result (λ n. Between (IsAppended path.now (take n bytes.now))
+            (story self.old) (story self.new)) }
+        ensures same { OnErr result (story self.new ≡ story self.old) };
 
     /// Makes sure that what was written into the file that was made last is on the disk, and closes
     /// the file.
