@@ -146,4 +146,12 @@ impl Disk for Nowhere {
     fn write(&mut self, _path: &str, _text: &str) -> Result<(), DiskFault> {
         Ok(())
     }
+
+    fn copy(&mut self, _from: &str, _path: &str) -> Result<(), DiskFault> {
+        Ok(())
+    }
+
+    fn remove(&mut self, _path: &str) -> Result<(), DiskFault> {
+        Ok(())
+    }
 }

@@ -1,4 +1,4 @@
-//! Pages on standard output, written as they are rendered.
+//! Pages that are written as they are rendered.
 ghost use Rattle.std.specs.Prelude.{◌≡◌};
 ghost use Rattle.std.specs.Io.{WritesAtMost};
 ghost use Rattle.std.specs.Io.KnownBytes.{WriteAppends};
@@ -15,55 +15,76 @@ use std::alloc::{AllocError, Global};
 use std::io::Write;
 use std::{io, mem};
 
-/// How a page on standard output ended.
+/// How a page that was written ended.
 #[derive(Drop)]
 pub struct PageEnd {
     /// The limit that ended it, where one did.
     pub limit: Option<LimitReached>,
     /// The fault that ended it, where one did.
     pub fault: Option<Error>,
+    /// Why its writer took no more, where it did so.
+    pub refused: Option<io::ErrorKind>,
     /// Whether its last line has no end.
     pub is_line_open: bool,
 }
 
-/// Writes the page to standard output as it is rendered, as far as it comes. The data is taken out
-/// of the parts.
-pub fn print_page(
-    rt: &HostRuntime,
+/// Writes the page to a writer as it is rendered, as far as it comes, and gives the writer back. The
+/// data is taken out of the parts.
+pub fn write_page<W: Write + Drop>(
+    alloc: Global,
     call: &RenderCall<'_>,
     parts: &mut PageParts,
-) -> Result<PageEnd, Stop> {
+    writer: W,
+) -> (W, Result<PageEnd, Stop>) {
     let noted = Noted {
-        writer: io::writer(rt),
+        writer,
         refused: None,
         is_line_open: false,
     };
-    let Ok(buffered) = Buffered::new(rt.alloc(), noted) else {
-        return Err(Stop::from(AllocError));
+    let buffered = match Buffered::new(alloc, noted) {
+        Ok(buffered) => buffered,
+        Err(noted) => {
+            let Noted { writer, .. } = noted;
+            return (writer, Err(Stop::from(AllocError)));
+        }
     };
     let limits = Limits {
         bytes: call.max_bytes,
         turns: call.max_turns,
     };
-    let mut writer = Limited::new(Counted::new(buffered), limits);
-    let answer = written(rt.alloc(), call, parts, &mut writer)?;
-    let limit = writer.ended_by();
-    let mut buffered = writer.into_inner().into_inner();
-    let flushed = buffered.flush_buffer();
+    let mut limited = Limited::new(Counted::new(buffered), limits);
+    let answer = written(alloc, call, parts, &mut limited);
+    let limit = limited.ended_by();
+    let mut buffered = limited.into_inner().into_inner();
+    let _ = buffered.flush_buffer();
     let Noted {
-        writer: _,
+        writer,
         refused,
         is_line_open,
     } = buffered.into_inner();
-    if let (Err(_), Some(kind)) = (flushed, refused) {
-        return Err(Stop::Output(kind));
+    let end = match end_of(answer, limit, refused) {
+        Ok(fault) => Ok(PageEnd {
+            limit,
+            fault,
+            refused,
+            is_line_open,
+        }),
+        Err(stop) => Err(stop),
+    };
+    (writer, end)
+}
+
+/// The fault that a page ended by, unless its writer or a limit did.
+fn end_of(
+    answer: Answer<Answer<()>>,
+    limit: Option<LimitReached>,
+    refused: Option<io::ErrorKind>,
+) -> Result<Option<Error>, Stop> {
+    let answer = answer?;
+    if refused.is_some() {
+        return Ok(None);
     }
-    let fault = fault_of(answer, limit.is_some())?;
-    Ok(PageEnd {
-        limit,
-        fault,
-        is_line_open,
-    })
+    fault_of(answer, limit.is_some())
 }
 
 /// The fault that a page ended by, unless a limit did. Refused memory ends the call.
@@ -156,7 +177,11 @@ impl<W: Write> Write for Noted<W> {
     {
         let answer = self.writer.write(bytes);
         match &answer {
-            Ok(0) => {}
+            Ok(0) => {
+                if !bytes.is_empty() {
+                    self.refused = Some(io::ErrorKind::WriteZero);
+                }
+            }
             Ok(count) => self.is_line_open = is_line_open(&bytes[..*count]),
             Err(refused) => self.refused = Some(refused.kind()),
         }

@@ -3,3 +3,4 @@ pub mod LastSign
 pub mod Numbered
 pub mod ShownNames
 pub mod Told
+pub mod Written

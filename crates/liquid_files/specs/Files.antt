@@ -27,11 +27,15 @@ IsFound file (Err Memory) = ⊤
 IsFound file (Err (Refused kind)) = file ≡ unreadable
 IsFound file (Err (Protected why)) = ⊥
 
--- what writing a text at a path leaves: the text at that path and all other files, or, if it is
+-- what setting the file at a path leaves: that file there and all other files, or, if it is
 -- refused, all files as they were
+abbrev pub IsSet : Text → File → Files → Result (Unit {0}) DiskFault → Option Files → Type 0
+IsSet path file old (Ok u) new = new ≡ Some (with_file old path file)
+IsSet path file old (Err e) new = new ≡ Some old
+
+-- what writing a text at a path leaves
 abbrev pub IsPut : Text → Text → Files → Result (Unit {0}) DiskFault → Option Files → Type 0
-IsPut path text old (Ok u) new = new ≡ Some (with_file old path (holds text))
-IsPut path text old (Err e) new = new ≡ Some old
+IsPut path text old result new = IsSet path (holds text) old result new
 
 -- whether a file holds this text
 abbrev pub is_held : File → Text → Bool

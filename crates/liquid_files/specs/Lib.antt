@@ -1,4 +1,5 @@
 pub mod Buffering
+pub mod Contents
 pub mod Entries
 pub mod Faults
 pub mod FileNames
@@ -16,3 +17,4 @@ pub mod Standings
 pub mod Stories
 pub mod SystemWords
 pub mod Words
+pub mod Written

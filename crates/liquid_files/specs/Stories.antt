@@ -37,9 +37,9 @@ abbrev pub IsMade : Text → Story → Story → Type 0
 IsMade path old new = (old.now path ≡ gone) × (new.now ≡ with_file old.now path (holds []))
     × Since (DifferAt path old.now) old new
 
--- the text is in the file at a path
-abbrev pub IsFilled : Text → Text → Story → Story → Type 0
-IsFilled path text old new = (new.now ≡ with_file old.now path (holds text))
+-- the file at a path is what this says of the files before
+abbrev pub IsFilled : Text → (Files → File) → Story → Story → Type 0
+IsFilled path held old new = (new.now ≡ with_file old.now path (held old.now))
     × Since (DifferAt path old.now) old new
 
 -- what stood at one path is at the other, from one moment to the next
@@ -47,3 +47,13 @@ abbrev pub IsRenamed : Text → Text → Story → Story → Type 0
 IsRenamed from to old new =
     (new.now ≡ with_file (with_file old.now to (old.now from)) from gone)
     × Since (λ files. files ≡ old.now) old new
+
+-- nothing is at a path any more, from one moment to the next
+abbrev pub IsTakenAway : Text → Story → Story → Type 0
+IsTakenAway path old new = (new.now ≡ with_file old.now path gone)
+    × Since (λ files. files ≡ old.now) old new
+
+-- these bytes stand after those that the file at a path holds
+abbrev pub IsAppended : Text → Text → Story → Story → Type 0
+IsAppended path more old new = OnlyChanges path old new
+    × ((text : Text) → old.now path ≡ holds text → new.now path ≡ holds (text ++ more))

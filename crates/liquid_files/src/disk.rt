@@ -1,6 +1,6 @@
 //! Where the texts of files are.
 ghost use Rattle.std.specs.Prelude.{◌≡◌, None, Option, IfSome};
-ghost use Rattle.liquid_files.specs.Files.{Files, IsFound, IsPut};
+ghost use Rattle.liquid_files.specs.Files.{Files, IsFound, IsPut, IsSet, gone};
 ghost use Rattle.liquid_files.specs.declared.disk.DiskFault.TheVariants.{Memory};
 
 use crate::system::Occupant;
@@ -73,5 +73,17 @@ pub trait Disk {
     /// none does if it is refused.
     fn write(&mut self, path: &str, text: &str) -> std::result::Result<(), DiskFault>
         ensures { IfSome (files self.old) (λ f. IsPut path.now text.now f result
+            (files self.new)) };
+
+    /// Puts what the file at one path holds, any bytes, into the file at another, in place of what
+    /// that held. No other file changes; and none does if it is refused.
+    fn copy(&mut self, from: &str, path: &str) -> std::result::Result<(), DiskFault>
+        ensures { IfSome (files self.old) (λ f. IsSet path.now (f from.now) f result
+            (files self.new)) };
+
+    /// Takes away the file at a path. No other file changes; and none does if it is refused, as
+    /// where there is no file.
+    fn remove(&mut self, path: &str) -> std::result::Result<(), DiskFault>
+        ensures { IfSome (files self.old) (λ f. IsSet path.now gone f result
             (files self.new)) };
 }

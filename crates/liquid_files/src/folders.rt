@@ -106,12 +106,12 @@ fn remove_parts<S: FileSystem>(system: &mut S, parts: &[String])
 }
 
 /// Takes away a file, if it is a part.
-#[tactic(auto, using(crate::proofs::Told::part_changed))]
+#[tactic(auto, using(crate::proofs::Told::part_taken_away))]
 fn remove_part<S: FileSystem>(system: &mut S, path: &str)
     ensures { Between IsKept (S.story system.old) (S.story system.new) }
 {
     if is_part_path(path) {
-        system.remove(path);
+        let _ = system.remove(path);
     }
 }
 

@@ -1,7 +1,9 @@
 //! The files of the system that the program runs on.
+ghost use Rattle.std.specs.Io.{WritesAtMost};
+
 use crate::disk::DiskFault;
 use crate::parts::PART_SUFFIX;
-use crate::system::{FileId, FileSystem, Occupant, Standing};
+use crate::system::{Content, FileId, FileSystem, Occupant, Standing};
 use std::alloc::Global;
 use std::fs::{DirEntry, File, Metadata, OpenOptions, Permissions};
 use std::io::Write;
@@ -99,9 +101,21 @@ impl FileSystem for SystemFiles<'_> {
         Ok(())
     }
 
-    fn fill(&mut self, _path: &str, text: &str) -> io::Result<()> {
+    fn fill(&mut self, _path: &str, content: Content<'_>) -> io::Result<()> {
+        let Some(file) = &mut self.made else {
+            return Err(io::Error::from(io::ErrorKind::NotFound));
+        };
+        match content {
+            Content::Text(text) => file.write_all(text.as_bytes()),
+            Content::Copy(path) => copy_file(self.rt, path, file),
+        }
+    }
+
+    fn append(&mut self, _path: &str, bytes: &[u8]) -> io::Result<usize>
+        ensures bound { WritesAtMost result bytes.now }
+    {
         match &mut self.made {
-            Some(file) => file.write_all(text.as_bytes()),
+            Some(file) => file.write(bytes),
             None => Err(io::Error::from(io::ErrorKind::NotFound)),
         }
     }
@@ -120,8 +134,8 @@ impl FileSystem for SystemFiles<'_> {
         fs::rename(self.rt, from, to)
     }
 
-    fn remove(&mut self, path: &str) {
-        let _ = fs::remove_file(self.rt, path);
+    fn remove(&mut self, path: &str) -> io::Result<()> {
+        fs::remove_file(self.rt, path)
     }
 
     fn make_folder(&mut self, folder: &str) -> io::Result<()> {
@@ -178,6 +192,16 @@ fn id_of(found: &Metadata) -> FileId {
         device: found.dev(),
         number: found.ino(),
     }
+}
+
+/// Writes the bytes of a regular file into another one, some at a time.
+fn copy_file(rt: &HostRuntime, path: &str, into: &mut File) -> io::Result<()> {
+    if !fs::metadata(rt, path)?.is_file() {
+        return Err(io::Error::from(io::ErrorKind::InvalidInput));
+    }
+    let mut file = File::open(rt, path)?;
+    io::copy(&mut file, into)?;
+    Ok(())
 }
 
 /// The text of a regular file.

@@ -1,20 +1,21 @@
 //! The files that pages go into, each whole.
 ghost use Rattle.std.specs.Prelude.{◌≡◌, ◌++◌, ◌≤◌, IfOk, IfSome, OnErr, OnOk, false, true};
-ghost use Rattle.std.specs.Prelude.{option_map, string_bytes};
+ghost use Rattle.std.specs.Prelude.{string_bytes};
 ghost use Rattle.std.specs.BTreeSet.{contains};
-ghost use Rattle.liquid_files.specs.Files.{IsPut};
+ghost use Rattle.liquid_files.specs.Contents.{filled_with, is_of_pages};
+ghost use Rattle.liquid_files.specs.Files.{gone, holds};
 ghost use Rattle.liquid_files.specs.Names.{hidden_names};
-ghost use Rattle.liquid_files.specs.Parts.{IsKept, TakesPlace, files_below, is_part_path};
+ghost use Rattle.liquid_files.specs.Parts.{IsKept, TakesPlace, is_part_path};
 ghost use Rattle.liquid_files.specs.Standings.{IsNoSource, is_own};
 ghost use Rattle.liquid_files.specs.Stories.{Between};
 ghost use Rattle.liquid_files.specs.declared.system.FileId.{FileId};
 
-use crate::disk::{Disk, DiskFault, Protected};
+use crate::disk::{DiskFault, Protected};
 use crate::folders::{flush_folders, is_inside, make_ready, note_new_folders};
 use crate::names::hidden_names;
 use crate::parts::{folder_of, is_part_path, part_path};
 use crate::put::{Draft, WrittenPages, put_whole};
-use crate::system::{FileId, FileSystem, Occupant, Standing};
+use crate::system::{Content, FileId, FileSystem, Occupant, Standing};
 use std::alloc::{AllocError, Global};
 use std::collections::{BTreeMap, BTreeSet};
 use std::io;
@@ -32,20 +33,20 @@ pub struct Bounds {
 
 /// How many names are tried for a part before the folder is given up: somebody else would have to
 /// have taken all of them.
-const PART_TRIES: u32 = 100;
+pub(crate) const PART_TRIES: u32 = 100;
 
 /// The files that pages go into, over those of a system. Each page takes its place whole; what the
 /// call reads is never written, nor is what is no file of its own.
 #[derive(Drop)]
 pub struct PageFiles<S> {
-    system: S,
-    alloc: Global,
-    bounds: Bounds,
+    pub(crate) system: S,
+    pub(crate) alloc: Global,
+    pub(crate) bounds: Bounds,
     /// The number of the process, and how many parts it made.
-    process: u32,
-    parts: u64,
+    pub(crate) process: u32,
+    pub(crate) parts: u64,
     /// The files that the call reads.
-    sources: BTreeSet<FileId>,
+    pub(crate) sources: BTreeSet<FileId>,
     pages: WrittenPages,
     /// The folder that no page leaves; none where each may go anywhere.
     root: Option<String>,
@@ -123,15 +124,15 @@ impl<S: FileSystem> PageFiles<S> {
     /// written as it stands. All else is as of `write`.
     pub fn write_out(&mut self, path: &str, text: &str) -> Result<(), DiskFault>
         ensures page { OnOk result (IfSome (S.stands self.old.system) (λ s. is_own (s path.now)
-            ≡ true → Between (TakesPlace path.now text.now) (S.story self.old.system)
-            (S.story self.new.system))) }
+            ≡ true → Between (TakesPlace path.now (λ _. holds text.now))
+            (S.story self.old.system) (S.story self.new.system))) }
     {
         match self.system.standing(path) {
             Ok(Standing::Other(Occupant::Folder)) => {
                 Err(DiskFault::Refused(io::ErrorKind::IsADirectory))
             }
             Ok(Standing::Other(_)) => self.write_through(path, text),
-            _ => self.put(path, text),
+            _ => self.put(path, Content::Text(text)),
         }
     }
 
@@ -146,8 +147,9 @@ impl<S: FileSystem> PageFiles<S> {
     }
 
     /// Puts a page into the file at a path: all of it, or the file holds what it held.
-    fn put(&mut self, path: &str, text: &str) -> Result<(), DiskFault>
-        ensures placed { OnOk result (Between (TakesPlace path.now text.now)
+    pub(crate) fn put(&mut self, path: &str, content: Content<'_>) -> Result<(), DiskFault>
+        requires { is_of_pages content ≡ true }
+        ensures placed { OnOk result (Between (TakesPlace path.now (filled_with content.entry))
             (S.story self.old.system) (S.story self.new.system)) }
         ensures kept { OnErr result (Between IsKept (S.story self.old.system)
             (S.story self.new.system)) }
@@ -162,8 +164,35 @@ impl<S: FileSystem> PageFiles<S> {
         let replaced = self.replaced(path)?;
         self.make_folder_ready(path)?;
         let mode = replaced.map(|file| file.1);
-        self.put_in_part(Draft { path, text, mode })?;
+        self.put_in_part(Draft {
+            path,
+            content,
+            mode,
+        })?;
         self.forget(replaced);
+        Ok(())
+    }
+
+    /// Takes away the file at a path; it is `NotFound` where nothing is there.
+    pub(crate) fn take_away(&mut self, path: &str) -> Result<(), DiskFault>
+        ensures placed { OnOk result (Between (TakesPlace path.now (λ _. gone))
+            (S.story self.old.system) (S.story self.new.system)) }
+        ensures kept { OnErr result (Between IsKept (S.story self.old.system)
+            (S.story self.new.system)) }
+        ensures source { OnOk result (IfSome (S.stands self.old.system)
+            (λ s. IsNoSource ⟦<FileId as Ord>⟧.cmp self.old.sources (s path.now))) }
+        ensures own { OnOk result (IfSome (S.stands self.old.system)
+            (λ s. is_own (s path.now) ≡ true)) }
+        ensures hidden { OnOk result (hidden_names path.now ≤ self.old.bounds.hidden) }
+        ensures bounds { self.new.bounds ≡ self.old.bounds }
+    {
+        let removed = self.replaced(path)?;
+        if removed.is_none() {
+            return Err(DiskFault::Refused(io::ErrorKind::NotFound));
+        }
+        self.make_folder_ready(path)?;
+        self.system.remove(path)?;
+        self.forget(removed);
         Ok(())
     }
 
@@ -178,7 +207,7 @@ impl<S: FileSystem> PageFiles<S> {
     }
 
     /// The file that a page takes the place of, and its mode; none where there is no file.
-    fn replaced(&self, path: &str) -> Result<Option<(FileId, u32)>, DiskFault>
+    pub(crate) fn replaced(&self, path: &str) -> Result<Option<(FileId, u32)>, DiskFault>
         ensures source { OnOk result (IfSome (S.stands self.now.system)
             (λ s. IsNoSource ⟦<FileId as Ord>⟧.cmp self.now.sources (s path.now))) }
         ensures own { OnOk result (IfSome (S.stands self.now.system)
@@ -223,7 +252,7 @@ impl<S: FileSystem> PageFiles<S> {
 
     /// Makes the folder of a page ready for it, once: it is there, within bounds, and without the
     /// parts of runs that ended before their time.
-    fn make_folder_ready(&mut self, path: &str) -> Result<(), DiskFault>
+    pub(crate) fn make_folder_ready(&mut self, path: &str) -> Result<(), DiskFault>
         ensures kept { Between IsKept (S.story self.old.system) (S.story self.new.system) }
         ensures bounds { self.new.bounds ≡ self.old.bounds }
     {
@@ -247,9 +276,11 @@ impl<S: FileSystem> PageFiles<S> {
 
     /// Puts a page into its file by way of a part with a name that nobody else has.
     fn put_in_part(&mut self, draft: Draft<'_>) -> Result<(), DiskFault>
-        requires { is_part_path draft.path.now ≡ false }
-        ensures placed { OnOk result (Between (TakesPlace draft.entry.path.now draft.entry.text.now)
-            (S.story self.old.system) (S.story self.new.system)) }
+        requires page { is_part_path draft.path.now ≡ false }
+        requires source { is_of_pages draft.content ≡ true }
+        ensures placed { OnOk result (Between (TakesPlace draft.entry.path.now
+            (filled_with draft.entry.content)) (S.story self.old.system)
+            (S.story self.new.system)) }
         ensures kept { OnErr result (Between IsKept (S.story self.old.system)
             (S.story self.new.system)) }
         ensures bounds { self.new.bounds ≡ self.old.bounds }
@@ -272,9 +303,11 @@ impl<S: FileSystem> PageFiles<S> {
     /// Puts a page into its file by way of the next part. It is `AlreadyExists` if somebody else
     /// has the part's name, and `NotFound` if somebody took the part away.
     fn put_in_new_part(&mut self, draft: Draft<'_>) -> io::Result<()>
-        requires { is_part_path draft.path.now ≡ false }
-        ensures placed { OnOk result (Between (TakesPlace draft.entry.path.now draft.entry.text.now)
-            (S.story self.old.system) (S.story self.new.system)) }
+        requires page { is_part_path draft.path.now ≡ false }
+        requires source { is_of_pages draft.content ≡ true }
+        ensures placed { OnOk result (Between (TakesPlace draft.entry.path.now
+            (filled_with draft.entry.content)) (S.story self.old.system)
+            (S.story self.new.system)) }
         ensures kept { OnErr result (Between IsKept (S.story self.old.system)
             (S.story self.new.system)) }
         ensures bounds { self.new.bounds ≡ self.old.bounds }
@@ -291,7 +324,7 @@ impl<S: FileSystem> PageFiles<S> {
     }
 
     /// The path of a page.
-    fn path_of(&self, name: &str) -> Result<String, AllocError>
+    pub(crate) fn path_of(&self, name: &str) -> Result<String, AllocError>
         ensures { IfOk result (λ path. string_bytes path
             ≡ string_bytes self.now.bounds.front ++ name.now) }
     {
@@ -304,42 +337,4 @@ impl<S: FileSystem> PageFiles<S> {
 /// its place before another run, which saw it before it was locked, took it away.
 fn is_tried_again(kind: io::ErrorKind) -> bool {
     matches!(kind, io::ErrorKind::AlreadyExists | io::ErrorKind::NotFound)
-}
-
-impl<S: FileSystem> Disk for PageFiles<S> {
-    ghost files = { λ d. option_map (files_below (string_bytes d.bounds.front))
-        (S.story d.system) };
-
-    fn read(&self, name: &str) -> Result<Option<String>, DiskFault> {
-        let path = self.path_of(name)?;
-        if is_part_path(path.as_str()) {
-            return Err(DiskFault::Refused(io::ErrorKind::InvalidFilename));
-        }
-        self.system.read(path.as_str())
-    }
-
-    // Besides what every disk ensures: at each moment the file holds the page or what it held, and
-    // what is never written is refused.
-    fn write(&mut self, name: &str, text: &str) -> Result<(), DiskFault>
-        ensures put { IfSome (option_map (files_below (string_bytes self.old.bounds.front))
-            (S.story self.old.system)) (λ f. IsPut name.now text.now f result
-            (option_map (files_below (string_bytes self.new.bounds.front))
-            (S.story self.new.system))) }
-        ensures placed { OnOk result
-            (Between (TakesPlace (string_bytes self.old.bounds.front ++ name.now) text.now)
-            (S.story self.old.system) (S.story self.new.system)) }
-        ensures kept { OnErr result (Between IsKept (S.story self.old.system)
-            (S.story self.new.system)) }
-        ensures source { OnOk result (IfSome (S.stands self.old.system)
-            (λ s. IsNoSource ⟦<FileId as Ord>⟧.cmp self.old.sources
-            (s (string_bytes self.old.bounds.front ++ name.now)))) }
-        ensures own { OnOk result (IfSome (S.stands self.old.system)
-            (λ s. is_own (s (string_bytes self.old.bounds.front ++ name.now)) ≡ true)) }
-        ensures hidden { OnOk result
-            (hidden_names (string_bytes self.old.bounds.front ++ name.now)
-            ≤ self.old.bounds.hidden) }
-    {
-        let path = self.path_of(name)?;
-        self.put(path.as_str(), text)
-    }
 }

@@ -1,9 +1,11 @@
 //! What a system does with its files.
-ghost use Rattle.std.specs.Prelude.{◌≡◌, None, Option, IfOk, IfSome, OnErr, OnOk};
+ghost use Rattle.std.specs.Prelude.{◌≡◌, None, Option, IfOk, IfSome, OnErr, OnOk, take};
+ghost use Rattle.std.specs.Io.{WritesAtMost};
 ghost use Rattle.liquid_model.specs.Texts.{Text};
+ghost use Rattle.liquid_files.specs.Contents.{filled_with};
 ghost use Rattle.liquid_files.specs.Files.{IsFound};
-ghost use Rattle.liquid_files.specs.Stories.{Between, IsFilled, IsMade, IsRenamed, OnlyChanges};
-ghost use Rattle.liquid_files.specs.Stories.{Story};
+ghost use Rattle.liquid_files.specs.Stories.{Between, IsFilled, IsMade, IsRenamed, IsTakenAway};
+ghost use Rattle.liquid_files.specs.Stories.{IsAppended, OnlyChanges, Story};
 ghost use Rattle.liquid_files.specs.declared.system.FileId.{FileId};
 ghost use Rattle.liquid_files.specs.declared.system.Standing.{Standing};
 
@@ -38,6 +40,15 @@ pub enum Occupant {
     Device,
 }
 
+/// What is put into a file.
+#[derive(Clone, Copy)]
+pub enum Content<'t> {
+    /// This text.
+    Text(&'t str),
+    /// What the file at this path holds, any bytes.
+    Copy(&'t str),
+}
+
 /// What a system does with its files: one call each.
 pub trait FileSystem {
     // The files, now and at each moment before, where they are known.
@@ -67,12 +78,21 @@ pub trait FileSystem {
         ensures made { OnOk result (Between (IsMade path.now) (story self.old) (story self.new)) }
         ensures unmade { OnErr result (story self.new ≡ story self.old) };
 
-    /// Writes a text into the file that was made last, which is at this path.
-    fn fill(&mut self, path: &str, text: &str) -> io::Result<()>
-        ensures filled { OnOk result (Between (IsFilled path.now text.now) (story self.old)
-            (story self.new)) }
+    /// Writes a text, or what another file holds, into the file that was made last, which is at
+    /// this path.
+    fn fill(&mut self, path: &str, content: Content<'_>) -> io::Result<()>
+        ensures filled { OnOk result (Between (IsFilled path.now (filled_with content.entry))
+            (story self.old) (story self.new)) }
         ensures unfilled { OnErr result (Between (OnlyChanges path.now) (story self.old)
             (story self.new)) };
+
+    /// Writes bytes at the end of the file that was made last, which is at this path: so many of
+    /// the first ones as the system takes at once.
+    fn append(&mut self, path: &str, bytes: &[u8]) -> io::Result<usize>
+        ensures bound { WritesAtMost result bytes.now }
+        ensures appended { IfOk result (λ n. Between (IsAppended path.now (take n bytes.now))
+            (story self.old) (story self.new)) }
+        ensures same { OnErr result (story self.new ≡ story self.old) };
 
     /// Makes sure that what was written into the file that was made last is on the disk, and closes
     /// the file.
@@ -85,9 +105,11 @@ pub trait FileSystem {
             (story self.new)) }
         ensures same { OnErr result (story self.new ≡ story self.old) };
 
-    /// Takes away the file at a path, if it can.
-    fn remove(&mut self, path: &str)
-        ensures { Between (OnlyChanges path.now) (story self.old) (story self.new) };
+    /// Takes away the file at a path.
+    fn remove(&mut self, path: &str) -> io::Result<()>
+        ensures removed { OnOk result (Between (IsTakenAway path.now) (story self.old)
+            (story self.new)) }
+        ensures same { OnErr result (story self.new ≡ story self.old) };
 
     /// Makes a folder, and those that it lies in, where they aren't there.
     fn make_folder(&mut self, folder: &str) -> io::Result<()>

@@ -4,7 +4,7 @@ use Rattle.std.proofs.lemmas.Result.{err_from_is_err_and}
 use Rattle.std.proofs.Common.{Err}
 use Rattle.std.specs.declared.io.ErrorKind.TheVariants.{InvalidFilename}
 use Rattle.liquid_files.proofs.Below.{no_memory, part_is_unreadable, read_below}
-use Rattle.liquid_files.proofs.page_files.PageFilesDisk.read.Goals as goal
+use Rattle.liquid_files.proofs.page_disk.PageFilesDisk.read.Goals as goal
 
 pub returns-in_err-path : goal.returns-in_err-path
 returns-in_err-path g c =
