@@ -4,7 +4,7 @@ import zipfile
 
 from word_cases import case
 
-PAGE = {"t": "Dear {{ name }}, {{ town }}.\n"}
+PAGE = {"t": "Dear {{ name }}, {{ town }}."}
 ADA = "Dear Ada, Oslo.\n"
 ZIP = "it is no text but a ZIP file, as workbooks are: save its table as CSV, in UTF-8"
 OFFICE = "it is no text but a file of Office: save its table as CSV, in UTF-8"
@@ -81,25 +81,25 @@ def json_cases():
 def table_cases():
     bar = "note: r.csv: it is read by --delimiter '|', by which its first row has most cells"
     done = "pages 1, failed 0"
-    vip = {"t": "{% unless vip %}Dear {% endunless %}{{ name }}\n"}
+    vip = {"t": "{% unless vip %}Dear {% endunless %}{{ name }}"}
     none = f"warning: no column is named `vip`, {NO_VALUE}"
     return [
         merged("bars between cells", "r.csv", "name|town\nAda|Oslo\n", ADA, (bar, done), 0),
         merged("a comma in a name between semicolons", "r.csv", "name;town;a, b\nAda;Oslo;1\n", ADA, ("note: r.csv: it is read by --delimiter semicolon", "note: r.csv: no template can write", done), 0),
-        merged("as many commas as semicolons", "r.csv", "name;a,town;b\nAda,Oslo\n", errors=("note: r.csv: no template can write the column `name;a`", NO_NAME, "  tip: the first row names the columns", "pages 0, failed 1")),
+        merged("as many commas as semicolons", "r.csv", "name;a,town\nAda,Oslo\n", errors=("note: r.csv: no template can write the column `name;a`", NO_NAME, "  tip: the first row names the columns", "pages 0, failed 1")),
         merged("a first line for Excel", "r.csv", "sep=;\nname;town\nAda;Oslo\n", errors=("error: r.csv: its first line, `sep=`, is for Excel and no row: take it out",)),
         merged("the names alone", "r.csv", "name,town\n", errors=("note: r.csv: no row follows the first, which names the columns", "pages 0, failed 0"), status=0),
         merged("the names alone, printing less", "r.csv", "name,town", words=" -q"),
-        merged("a row without a value", "r.csv", "name,town\nAda,Oslo\n,\n", ADA + "Dear , .\n", ("warning: record 2: all of its cells are empty", "pages 2, failed 0"), 0, " --separator ''"),
-        merged("rows without values", "r.csv", "name,town\n,\nAda,Oslo\n,\n", "Dear , .\n" + ADA + "Dear , .\n", ("warning: record 1, and 1 more: all cells are empty", "pages 3, failed 0"), 0, " --separator ''"),
-        merged("a quote after a backslash", "r.csv", 'name,town\nBo,Rome\n"A\\"d\\" a",Oslo\nCy,Bergen\n', 'Dear Bo, Rome.\nDear A\\d\\" a", Oslo.\nDear Cy, Bergen.\n', ('warning: r.csv: line 3 has text after a closing quote; a quote in quotes is ""', "pages 3, failed 0"), 0, " --separator ''"),
-        merged("text after a quote", "r.csv", 'name,town\n"Ada" L,Oslo\n', "Dear Ada L, Oslo.\n", ('warning: r.csv: line 2 has text after a closing quote; a quote in quotes is ""', done), 0, " --separator ''"),
-        merged("quotes as they must be", "r.csv", 'name,town\r\n"A""d""a","Oslo"\r\n', 'Dear A"d"a, Oslo.\n', (done,), 0, " --separator ''"),
+        merged("a row without a value", "r.csv", "name,town\nAda,Oslo\n,\n", ADA + "Dear , .\n", ("warning: record 2: all of its cells are empty", "pages 2, failed 0"), 0),
+        merged("rows without values", "r.csv", "name,town\n,\nAda,Oslo\n,\n", "Dear , .\n" + ADA + "Dear , .\n", ("warning: record 1, and 1 more: all cells are empty", "pages 3, failed 0"), 0),
+        merged("a quote after a backslash", "r.csv", 'name,town\nBo,Rome\n"A\\"d\\" a",Oslo\nCy,Bergen\n', 'Dear Bo, Rome.\nDear A\\d\\" a", Oslo.\nDear Cy, Bergen.\n', ('warning: r.csv: line 3 has text after a closing quote; a quote in quotes is ""', "pages 3, failed 0"), 0),
+        merged("text after a quote", "r.csv", 'name,town\n"Ada" L,Oslo\n', "Dear Ada L, Oslo.\n", ('warning: r.csv: line 2 has text after a closing quote; a quote in quotes is ""', done), 0),
+        merged("quotes as they must be", "r.csv", 'name,town\r\n"A""d""a","Oslo"\r\n', 'Dear A"d"a, Oslo.\n', (done,), 0),
         merged("a name of no column", "r.csv", "name\nAda\n", "Dear Ada\n", (none, done), 0, template=vip),
         merged("a name of no column, printing less", "r.csv", "name\nAda\n", "Dear Ada\n", words=" -q", template=vip),
         merged("a name of other data", "r.csv", "name\nAda\n", "Ada\n", (done,), 0, " -D vip=1", vip),
         merged("a name like that of a column", "r.csv", "name,vips\nAda,1\n", "Dear Ada\n", ("warning: record 1: t: UnknownName: line 1, column 1: the data has no `vip`; did you mean `vips`?", done), 0, template=vip),
-        merged("a setting of a set of filters", "r.csv", "cents\n1205\n", "12.05\n", (done,), 0, " --filters shopify", {"t": "{{ cents | money }}\n"}),
+        merged("a setting of a set of filters", "r.csv", "cents\n1205\n", "$ 12.05\n", (done,), 0, " --filters shopify", {"t": "{{ cents | money }}"}),
         merged("a name of no column in records of JSON", "r.jsonl", '{"name": "Ada"}\n', "Dear Ada\n", (done,), 0, template=vip),
     ]
 

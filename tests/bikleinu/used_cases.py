@@ -95,7 +95,7 @@ def used_cases():
         case("a member under a name that is similar to one that isn't used", "{{ shop.towm }}", "-d shop=d", errors=("error: t: UnknownVariable: line 1, column 4: `shop.towm` has no value: `shop` has no `towm`; did you mean `town`?", MISSING)),
         case("the later of two files of long data", "{{ town }} {{ owner.name }}", "d -d e", e=long(town="Rome"), out="Rome Ada"),
         case("a later member replaces the whole earlier one", "{{ owner.age }}", "d -d e", e=long(owner={"name": "Bo"}), errors=("error: t: UnknownVariable: line 1, column 4: `owner.age` has no value: `owner` has no `age`; it has `name`", MISSING)),
-        case("the later of two files under a name", "{{ shop.town }}", "-d shop=d -d shop=e", e=long(town="Rome"), out="Rome"),
+        case("the later of two files under a name", "{{ shop.town }}", "-d shop=d -d shop=e", e=long(town="Rome"), out="Rome", errors=("note: d: a later -d gives `shop`, and replaces all of this",), status=0),
         case("TOML beside long data", "{{ town }} {{ owner.name }}", "d -d e.toml", **{"e.toml": 'town = "Rome"'}, out="Rome Ada"),
         case("long data with decimals", "{{ town }}", "d --decimals text", data=BAD, out="Oslo"),
         case("a time beside long data", "{{ now | date: '%Y' }} {{ town }}", "d --now 2026-11-27", out="2026 Oslo"),

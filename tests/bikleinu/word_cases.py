@@ -43,7 +43,7 @@ def value_cases():
         case("a number", "render t -D n:=3", {"t": "{% if n == 3 %}number{% endif %}"}, "number"),
         case("a list", "render t -D 'x:=[1, \"a\", {\"b\": null}]'", {"t": "{{ x.size }}{{ x[1] }}{{ x[2].b }}"}, "3a"),
         case("an object", "render t d -D 'a:= {\"b\": {\"c\": true}} '", {"t": "{{ a.b.c }}{{ name }}", "d": '{"a": 1, "name": "Ada"}'}, "trueAda"),
-        case("a name with a dot is no path", "render t -D a.b=1", {"t": "{{ a.b }}"}, errors=("error: t: UnknownVariable: line 1, column 4", MISSING)),
+        case("a name with a dot is no path", "render t -D a.b=1", {"t": "{{ a.b }}"}, errors=("note: no template can write the name `a.b`, which -D gives", "error: t: UnknownVariable: line 1, column 4", MISSING)),
         case("a text in quotes", "render t -D 'name:=\"Bo\"'", hello, "Hello Bo!"),
         case("no JSON", "render t -D name:=Bo", hello, errors=("error: -D name: InvalidInput: in the data: line 1, column 1", TEXT_VALUE), status=2),
         case("more than one value", "render t -D 'n:=1, \"m\": 2'", hello, errors=("error: -D n: InvalidInput: in the data: line 1, column 2", TEXT_VALUE), status=2),

@@ -152,13 +152,16 @@ def turns_cover():
         written(f"{top}/crates/high/stdin", "rows aren't proved")
         whole = {file for crate, files in work for file in files if crate.name != "high"}
         yield said("those of crates that changed are tried, also in a merge or without a commit", whole < tried(work, top) < every)
+        few = tried(work, top, most=40)
+        yield said("where time is short no more than that are tried, and the telling ones", telling < few and len(few) <= 40)
+        yield said("where time isn't short all of the turn are", tried(work, top, most=len(every)) == tried(work, top))
         git(top, "clone", "--quiet", "--depth", f"{COMMITS + 2}", f"file://{top}", f"{top}/shallow")
         yield said("with a part of the history all are tried", tried(work, f"{top}/shallow") == every)
 
 
-def tried(work, top):
+def tried(work, top, most=None):
     """The edits that the turn tries; none if what is tried and what is left aren't all edits, each once."""
-    of = [[file for _, files in part for file in files] for part in of_turn(work, top)[:2]]
+    of = [[file for _, files in part for file in files] for part in of_turn(work, top, most=most)[:2]]
     return set(of[0]) if sorted(of[0] + of[1]) == sorted(file for _, files in work for file in files) else set()
 
 

@@ -8,39 +8,54 @@ import zlib
 from crates import Stopped
 from edits import text_of
 
-# how many steps back from the commit a change counts, and in how many turns the others are tried
-COMMITS, TURNS = 10, 3
+# how many steps back from the commit a change counts, in how many turns the others are tried, and in how many at most where time is short
+COMMITS, TURNS, MOST_TURNS = 10, 3, 12
 OF_CRATE = re.compile(r"crates/(\w+)/(?:src|specs|proofs|wrong)/")
 TELLING_PAGE, TELLING = "docs/proof/refused.md", re.compile(r"`(\w+/\w+)`")
 WHY = ("of crates that changed", "telling", "of turn {} of {}")
+SHORT = "this machine has the time for {} edits, so those of crates that changed are tried by turns too"
 
 
 class NoHistory(Exception):
     """There is no number of a commit, or nothing to compare its files with, and why."""
 
 
-def of_turn(work, top, since=None):
+def of_turn(work, top, since=None, most=None):
     """Of these crates with their edits, the repository's at this folder, those to try, those left, and the lines that say which and why.
-    Without history all are tried. Changes count since that commit, if one is given."""
+    Without history all are tried. Changes count since that commit, if one is given. Where there is time for so many edits only, changes
+    don't count, and there are more turns."""
     every = sum(len(files) for _, files in work)
     try:
         changed, number = changed_crates(top, since), int(git(top, "rev-list", "--count", "--first-parent", "HEAD"))
     except NoHistory as why:
         return work, [], f"tries all {every} edits: {why}"
-    telling, turn, found = telling_edits(top), number % TURNS, [0] * len(WHY)
+    telling = telling_edits(top)
+    tried, found = chosen(work, changed, telling, number, TURNS)
+    turns, lines = TURNS, ""
+    if most is not None and sum(found) > most:
+        lines = f"\n{SHORT.format(most)}"
+        for turns in range(TURNS, MOST_TURNS + 1):
+            tried, found = chosen(work, (), telling, number, turns)
+            if sum(found) <= most:
+                break
+    left = [(crate, [file for file in files if file not in taken]) for (crate, files), (_, taken) in zip(work, tried)]
+    counts = ", ".join(f"{count} {words.format(number % turns + 1, turns)}" for count, words in zip(found, WHY))
+    named = ", ".join(crate.name for crate, _ in work if crate.name in changed) or "none"
+    lines = f"tries {sum(found)} of {every} edits: {counts}; {every - sum(found)} are left to the other turns, and --all tries all{lines}"
+    return with_edits(tried), with_edits(left), f"{lines}\ncrates that changed since {since or f'{COMMITS} commits'}: {named}"
+
+
+def chosen(work, changed, telling, number, turns):
+    """Of the edits of each crate those that are tried at the commit of that number, and how many for each reason."""
+    found = [0] * len(WHY)
 
     def is_tried(crate, file):
-        reasons = (crate.name in changed, name_of(crate, file) in telling, turn_of(crate, file) == turn)
+        reasons = (crate.name in changed, name_of(crate, file) in telling, turn_of(crate, file, turns) == number % turns)
         if any(reasons):
             found[reasons.index(True)] += 1
         return any(reasons)
 
-    tried = [(crate, [file for file in files if is_tried(crate, file)]) for crate, files in work]
-    left = [(crate, [file for file in files if file not in taken]) for (crate, files), (_, taken) in zip(work, tried)]
-    counts = ", ".join(f"{count} {words.format(turn + 1, TURNS)}" for count, words in zip(found, WHY))
-    named = ", ".join(crate.name for crate, _ in work if crate.name in changed) or "none"
-    lines = f"tries {sum(found)} of {every} edits: {counts}; {every - sum(found)} are left to the other turns, and --all tries all"
-    return with_edits(tried), with_edits(left), f"{lines}\ncrates that changed since {since or f'{COMMITS} commits'}: {named}"
+    return [(crate, [file for file in files if is_tried(crate, file)]) for crate, files in work], found
 
 
 def with_edits(work):
@@ -52,9 +67,9 @@ def name_of(crate, file):
     return f"{crate.name}/{os.path.splitext(os.path.basename(file))[0]}"
 
 
-def turn_of(crate, file):
-    """The turn of an edit, which stays while it keeps its name."""
-    return zlib.crc32(name_of(crate, file).encode()) % TURNS
+def turn_of(crate, file, turns):
+    """The turn of an edit among so many, which stays while it keeps its name."""
+    return zlib.crc32(name_of(crate, file).encode()) % turns
 
 
 def telling_edits(top):

@@ -140,7 +140,9 @@ fn format_of(rt: &HostRuntime, call: &MergeCall<'_>, front: &[u8]) -> Result<Rec
     }
     let format = guessed_format(front);
     if let Some(given) = call.format {
-        note_json(rt, call, given, format);
+        if !front.trim_ascii_start().is_empty() {
+            note_json(rt, call, given, format);
+        }
         return Ok(given);
     }
     if matches!(format, RecordsFormat::Table) {

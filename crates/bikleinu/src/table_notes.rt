@@ -46,7 +46,7 @@ impl MadeRows {
             0 => return,
             1 => eprintln!(rt; "warning: record {first}: all of its cells are empty"),
             count => {
-                let more = count - 1;
+                let more = count.saturating_sub(1);
                 eprintln!(rt; "warning: record {first}, and {more} more: all cells are empty")
             }
         };

@@ -10,7 +10,7 @@
 --     record_tip kind path decimals first      for a fault of a record that is read as JSON, and
 --                                              is this first line
 use Rattle.std.specs.Prelude.{Bool, true, false, cond, not, ◌&&◌, ◌||◌, codes, Option, Some, None}
-use Rattle.std.specs.Prelude.{option_map}
+use Rattle.std.specs.Prelude.{[], ◌∷◌, option_and_then}
 use Rattle.liquid_core.specs.declared.missing_value.Missing.{Missing}
 use Rattle.liquid_core.specs.declared.missing_value.Missing.TheVariants.{IsFault, IsNil}
 use Rattle.liquid_model.specs.declared.error.ErrorKind.{ErrorKind}
@@ -107,19 +107,24 @@ value_tip Float = Some DecimalsAsTexts
 value_tip InvalidInput = Some TextValue
 value_tip kind = None
 
--- by how the records are written that begin so
-abbrev pub format_tip : RecordsFormat → Tip
-format_tip Lines = OneLine
-format_tip Items = List
-format_tip format.Table = Table
+-- whether a line ends as an object does
+abbrev pub ends_in_brace : CommandWord → Bool
+ends_in_brace line = has_ending (125 ∷ 10 ∷ []) line
+    || (has_ending (125 ∷ []) line || has_ending (125 ∷ 13 ∷ 10 ∷ []) line)
 
-abbrev pub first_line_tip : CommandWord → CommandWord → Tip
+-- by how the records are written that begin so
+abbrev pub format_tip : RecordsFormat → CommandWord → Option Tip
+format_tip Lines line = cond (ends_in_brace line) None (Some OneLine)
+format_tip Items line = Some List
+format_tip format.Table line = Some Table
+
+abbrev pub first_line_tip : CommandWord → CommandWord → Option Tip
 first_line_tip path line =
-    cond (is_template_name path) TemplateFirst (format_tip (guessed_format line))
+    cond (is_template_name path) (Some TemplateFirst) (format_tip (guessed_format line) line)
 
 -- a number may be a text, and a first line that is no JSON that of a template, a table or a list,
 -- or not a whole record
 abbrev pub record_tip : ErrorKind → CommandWord → Bool → Option CommandWord → Option Tip
 record_tip Float path decimals first = cond decimals None (Some DecimalsAsTexts)
-record_tip InvalidInput path decimals first = option_map (first_line_tip path) first
+record_tip InvalidInput path decimals first = option_and_then (first_line_tip path) first
 record_tip kind path decimals first = None

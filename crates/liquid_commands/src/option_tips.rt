@@ -1,7 +1,8 @@
 //! The options that are a way out of a fault.
 ghost use Rattle.std.specs.Prelude.{◌≡◌, Some, option_map};
 ghost use Rattle.liquid_commands.specs.Tips.{checked_tip, data_tip, exchanged_tip};
-ghost use Rattle.liquid_commands.specs.Tips.{first_line_tip, no_file_tip, page_tip};
+ghost use Rattle.liquid_commands.specs.Tips.{ends_in_brace, first_line_tip, no_file_tip};
+ghost use Rattle.liquid_commands.specs.Tips.{page_tip};
 ghost use Rattle.liquid_commands.specs.Tips.{record_tip, set_tip, source_tip, tip_text, value_tip};
 
 use crate::record_words::{RecordsFormat, guessed_format, is_records_name};
@@ -190,20 +191,31 @@ pub fn record_tip(
 {
     match (kind, first_line) {
         (ErrorKind::Float, _) if !decimals_as_texts => Some(Tip::DecimalsAsTexts),
-        (ErrorKind::InvalidInput, Some(line)) => Some(first_line_tip(path, line)),
+        (ErrorKind::InvalidInput, Some(line)) => first_line_tip(path, line),
         _ => None,
     }
 }
 
-fn first_line_tip(path: &str, line: &str) -> Tip
+fn first_line_tip(path: &str, line: &str) -> Option<Tip>
     ensures { result ≡ first_line_tip path.now line.now }
 {
     if is_template_name(path) {
-        return Tip::TemplateFirst;
+        return Some(Tip::TemplateFirst);
     }
     match guessed_format(line.as_bytes()) {
-        RecordsFormat::Lines => Tip::OneLine,
-        RecordsFormat::List => Tip::List,
-        RecordsFormat::Table => Tip::Table,
+        RecordsFormat::Lines => if ends_in_brace(line) {
+            None
+        } else {
+            Some(Tip::OneLine)
+        },
+        RecordsFormat::List => Some(Tip::List),
+        RecordsFormat::Table => Some(Tip::Table),
     }
+}
+
+/// Whether a line ends as an object does.
+fn ends_in_brace(line: &str) -> bool
+    ensures { result ≡ ends_in_brace line.now }
+{
+    ends_in(line, "}\n") || ends_in(line, "}") || ends_in(line, "}\r\n")
 }

@@ -34,8 +34,9 @@ impl DataReader {
     pub fn whole(alloc: Global) -> DataReader
         ensures { (name : Text) → read_uses result name ≡ everything }
     {
+        let uses = None;
         DataReader {
-            uses: None,
+            uses,
             scratch: Scratch::new(alloc),
         }
     }
@@ -71,7 +72,7 @@ impl DataReader {
                 return Ok(data);
             }
         }
-        data_by(alloc, text, &mut self.scratch)
+        self.whole_data(alloc, text)
     }
 
     /// The whole data of a text: as of `data_from_json`, also what is refused.

@@ -4,7 +4,7 @@ use Rattle.liquid_model.specs.Data.{Datum, Items, no_items, item}
 use Rattle.liquid_model.specs.View.{view, items_view}
 use Rattle.liquid_model.specs.declared.value.Value.{Value}
 use Rattle.liquid_yaml.specs.Places.{with_last}
-use Rattle.liquid_yaml.specs.Values.{with_item}
+use Rattle.liquid_yaml.specs.Flows.{with_item}
 
 abbrev pub before : List Value → Option Items → Option Items
 before [] o = o

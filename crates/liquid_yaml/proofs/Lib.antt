@@ -1,5 +1,7 @@
 pub mod Blocks
 pub mod Cuts
+pub mod Escapes
+pub mod Flows
 pub mod Items
 pub mod LineLists
 pub mod Parts

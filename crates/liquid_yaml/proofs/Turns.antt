@@ -10,13 +10,11 @@ use Rattle.liquid_model.specs.declared.error.Error.{Error}
 use Rattle.liquid_model.specs.declared.error.ErrorKind.{ErrorKind}
 use Rattle.liquid_model.specs.declared.error.ErrorKind.TheVariants.{InvalidInput, Memory}
 use Rattle.liquid_model.specs.declared.value.Value.{Value}
-use Rattle.liquid_yaml.specs.Bytes.{first_part, first_part_view, left_view, parts_left}
+use Rattle.liquid_yaml.specs.Bytes.{ends_with_return, first_part, first_part_view, left_view, parts_left}
 use Rattle.liquid_yaml.specs.Lines.{ends_front, opens_front}
 use Rattle.liquid_yaml.specs.Places.{Gathering, nothing_read, document, taken_line, cut_at_end}
-use Rattle.liquid_yaml.specs.Reading.{Front, front_found, front_matter_of, front_of_lines, yaml_members, with_body, ReadDocument, document_before, document_view, joined_lines, or_fault, read_on, rest_of}
+use Rattle.liquid_yaml.specs.Reading.{Front, front_found, front_matter_of, front_of_lines, yaml_members, with_body, ReadDocument, document_before, document_view, joined_lines, or_fault, read_on, rest_of, value_found, yaml_content, yaml_value}
 use Rattle.liquid_yaml.specs.declared.reading.Document.{Document}
-use Rattle.liquid_yaml.specs.Values.{bracket_entry_at, entries, with_item}
-use Rattle.liquid_yaml.proofs.Items.{before, before_next, before_none, before_refused, none_with}
 use Rattle.liquid_yaml.proofs.LineLists.{lines_joined}
 use Rattle.liquid_yaml.proofs.Parts.{parts_first, size_left, size_less, size_of, sizes}
 
@@ -36,30 +34,6 @@ less_left c left text p e f =
     let same : size_left p.1 ≡ size_of (first_part c text.now).1 = sizes p.1 ∙ ap (λ (q : Text × Option Text). size_of q.1) f in
     let big : size_left left ≡ suc (length text.now) = ap size_left e in
     omega (arith, small, same, big)
-
--- ---- the entries of a list
-
-pub entries_turn : (vs new : List Value) (v : Value) (left : Option (Bor Text)) (text : Bor Text) (p : Cut) (whole : Option Items) → left ≡ Some text → first_part_view p ≡ first_part 44 text.now
-    → Some (view v) ≡ bracket_entry_at p.0.now → new ≡ vs ++ v ∷ [] → before vs (entries (parts_left 44 (left_view left))) ≡ whole
-    → before new (entries (parts_left 44 (left_view p.1))) ≡ whole
-entries_turn vs new v left text p whole e f entry push inv =
-    ap (λ ws. before ws (entries (parts_left 44 (left_view p.1)))) push
-    ∙ sym (before_next vs v (entries (parts_left 44 (left_view p.1))))
-    ∙ ap (λ d. before vs (with_item d (entries (parts_left 44 (left_view p.1))))) entry
-    ∙ ap (λ ps. before vs (entries ps)) (sym (parts_cut 44 left text p e f))
-    ∙ inv
-
-pub entries_refused : (vs : List Value) (left : Option (Bor Text)) (text : Bor Text) (p : Cut) (whole : Option Items) → left ≡ Some text → first_part_view p ≡ first_part 44 text.now
-    → None ≡ bracket_entry_at p.0.now → before vs (entries (parts_left 44 (left_view left))) ≡ whole → None ≡ whole
-entries_refused vs left text p whole e f entry inv =
-    sym (before_refused vs)
-    ∙ ap (before vs) (sym (none_with (entries (parts_left 44 (left_view p.1)))))
-    ∙ ap (λ d. before vs (with_item d (entries (parts_left 44 (left_view p.1))))) entry
-    ∙ ap (λ ps. before vs (entries ps)) (sym (parts_cut 44 left text p e f))
-    ∙ inv
-
-pub entries_end : (vs : List Value) (left : Option (Bor Text)) (whole : Option Items) → left ≡ None → before vs (entries (parts_left 44 (left_view left))) ≡ whole → Some (items_view vs) ≡ whole
-entries_end vs left whole e inv = sym (before_none vs) ∙ ap (λ o. before vs (entries (parts_left 44 (left_view o)))) (sym e) ∙ inv
 
 -- ---- lines
 
@@ -125,12 +99,6 @@ read_out front g left whole e inv = sym (ap (λ o. read_on front (Some g) (parts
 
 -- ---- what calls answer
 
-pub none_by : (o : Option Value) (w : Option Datum) → o ≡ None → option_map view o ≡ w → None ≡ w
-none_by o w e h = sym (ap (option_map view) e) ∙ h
-
-pub some_by : (o : Option Value) (v : Value) (w : Option Datum) → o ≡ Some v → option_map view o ≡ w → Some (view v) ≡ w
-some_by o v w e h = sym (ap (option_map view) e) ∙ h
-
 -- the fault of a line ends the reading
 pub whole_faulted : (front : Bool) (g : Gathering) (k : ErrorKind) (left : Option (Bor Text)) (text : Bor Text) (p : Cut) (whole : Result ReadDocument ErrorKind) → left ≡ Some text
     → first_part_view p ≡ first_part 10 text.now → (front && ends_front p.0.now) ≡ false → Faulted k (or_fault (taken_line g p.0.now))
@@ -156,6 +124,10 @@ faulted_on k r s carries h = at (is_memory k) h
     at : (b : Bool) → MatchBool b ⊤ ((r ≡ Err k) × (is_refusal k ≡ false)) → MatchBool b ⊤ ((s ≡ Err k) × (is_refusal k ≡ false))
     at true h = tt
     at false h = (carries h.0, h.1)
+
+-- a text that ends with no carriage return is read by its lines
+pub read_lines : (s : Text) → ends_with_return s ≡ false → yaml_value s ≡ value_found (read_on false (Some nothing_read) (parts_left 10 (yaml_content s)))
+read_lines s e = ap (λ (b : Bool). cond b (Err InvalidInput) (value_found (read_on false (Some nothing_read) (parts_left 10 (yaml_content s))))) e
 
 -- ---- front matter
 

@@ -3,8 +3,9 @@
 --     end_trimmed s      the text without spaces, tabs and carriage returns at its end
 --     without_return s      a line without the carriage return of its end
 --     is_clean s      no character of the line is a control, or one that YAML reads as an end
-use Rattle.std.specs.Prelude.{ℕ, ◌-◌, ◌==◌, ◌||◌, ◌&&◌, not, nat_le, Bool, true, List, [], ◌∷◌}
-use Rattle.std.specs.Prelude.{length, take, drop, cond, nat_lt, slice_index, Option, Some, None}
+use Rattle.std.specs.Prelude.{ℕ, suc, ◌-◌, ◌==◌, ◌||◌, ◌&&◌, not, nat_le, Bool, true, false}
+use Rattle.std.specs.Prelude.{List, [], ◌∷◌, length, take, drop, cond, nat_lt, slice_index}
+use Rattle.std.specs.Prelude.{Option, Some, None}
 use Rattle.std.specs.Borrow.{Bor}
 use Rattle.std.specs.List.{after_first, before_first, position_or_len, prefix_len, slice_split}
 use Rattle.std.specs.List.{list_all, suffix_len}
@@ -40,9 +41,11 @@ abbrev pub first_part : ℕ → Text → Text × Option Text
 first_part c s = cond (nat_lt (position_or_len (λ b. b == c) s) (length s))
     (before_first (λ b. b == c) s, Some (after_first (λ b. b == c) s)) (s, None)
 
+abbrev pub ends_with_return : Text → Bool
+ends_with_return s = nat_lt 0 (length s) && slice_index s (length s - 1) == carriage_return
+
 abbrev pub without_return : Text → Text
-without_return s = cond (nat_lt 0 (length s) && (slice_index s (length s - 1) == carriage_return))
-    (take (length s - 1) s) s
+without_return s = cond (ends_with_return s) (take (length s - 1) s) s
 
 -- no control, no separator of lines or paragraphs, no byte order mark, and not U+FFFE or U+FFFF
 abbrev pub is_clean_character : ℕ → Bool
@@ -64,10 +67,20 @@ left_view (Some s) = Some s.now
 abbrev pub first_part_view : Bor Text × Option (Bor Text) → Text × Option Text
 first_part_view p = (p.0.now, left_view p.1)
 
+-- how many bytes stand before one at which a state stops that each of them changes
+abbrev pub state_len : {S : Type 0} → (S → ℕ → Text → Bool) → (S → ℕ → Text → S) → S → Text → ℕ
+state_len stops next at [] = 0
+state_len stops next at (b ∷ bs) =
+    cond (stops at b bs) 0 (suc (state_len stops next (next at b bs) bs))
+
 -- the text is empty, or begins with a space
 abbrev pub is_ended : Text → Bool
 is_ended [] = true
 is_ended (b ∷ bs) = b == space
+
+abbrev pub begins_with_byte : ℕ → Text → Bool
+begins_with_byte c [] = false
+begins_with_byte c (b ∷ bs) = b == c
 
 -- the text is empty, or begins with `#`
 abbrev pub begins_comment : Text → Bool

@@ -1,7 +1,9 @@
 pub mod Blocks
 pub mod Bytes
+pub mod Flows
 pub mod Grammar
 pub mod Lines
 pub mod Places
+pub mod Quotings
 pub mod Reading
 pub mod Values

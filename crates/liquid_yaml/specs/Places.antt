@@ -2,28 +2,32 @@
 --     taken_line g line      what is gathered after one more line, where that fits
 --     document g      the value, once no line is left
 use Rattle.std.specs.Prelude.{ℕ, ◌==◌, ◌||◌, ◌&&◌, not, nat_lt, Bool, true, false, List, [], ◌∷◌}
-use Rattle.std.specs.Prelude.{cond, Option, Some, None, option_map, option_and_then}
+use Rattle.std.specs.Prelude.{◌++◌, length, cond, Option, Some, None, option_map}
+use Rattle.std.specs.Prelude.{option_and_then, string_bytes}
 use Rattle.liquid_model.specs.Data.{Datum, nil, text, array, object, Items, no_items, item, Pairs}
 use Rattle.liquid_model.specs.Data.{no_pairs, put}
 use Rattle.liquid_model.specs.Texts.{Text}
 use Rattle.liquid_model.specs.View.{view, items_view, pairs_view}
-use Rattle.liquid_model.specs.Bytes.{greater_sign, number_sign}
+use Rattle.liquid_model.specs.Bytes.{greater_sign, line_feed, number_sign, space}
 use Rattle.liquid_yaml.specs.Blocks.{Lines, Stepped, ends_before, refused, goes_on, block_step}
 use Rattle.liquid_yaml.specs.Blocks.{block_text, block_view, cut_off, header_at}
-use Rattle.liquid_yaml.specs.Blocks.{vertical_bar}
+use Rattle.liquid_yaml.specs.Blocks.{vertical_bar, without_feeds}
 use Rattle.liquid_yaml.specs.Bytes.{end_trimmed, is_clean, without_return}
-use Rattle.liquid_yaml.specs.Lines.{LineMeaning, SaidMember, note, sets, adds, adds_map, said}
-use Rattle.liquid_yaml.specs.Values.{line_value}
+use Rattle.liquid_yaml.specs.Flows.{line_value}
+use Rattle.liquid_yaml.specs.Lines.{LineMeaning, SaidMember, blank, note, sets, adds, adds_map}
+use Rattle.liquid_yaml.specs.Lines.{spells, said}
+use Rattle.liquid_yaml.specs.Values.{is_all_plain, is_plain_scalar, plain_text}
 use Rattle.liquid_yaml.specs.declared.block.Step.{Step}
 use Rattle.liquid_yaml.specs.declared.block.Step.TheVariants as step
 use Rattle.liquid_yaml.specs.declared.places.Gathered.{Gathered}
-use Rattle.liquid_yaml.specs.declared.places.Here.{Here}
-use Rattle.liquid_yaml.specs.declared.places.Here.TheVariants as at
-use Rattle.liquid_yaml.specs.declared.places.OpenList.{OpenList}
-use Rattle.liquid_yaml.specs.declared.places.OpenMap.{OpenMap}
-use Rattle.liquid_yaml.specs.declared.places.Place.{Place}
-use Rattle.liquid_yaml.specs.declared.places.Place.TheVariants as of
-use Rattle.liquid_yaml.specs.declared.places.Start.{Start}
+use Rattle.liquid_yaml.specs.declared.place.Here.{Here}
+use Rattle.liquid_yaml.specs.declared.place.Here.TheVariants as at
+use Rattle.liquid_yaml.specs.declared.place.OpenList.{OpenList}
+use Rattle.liquid_yaml.specs.declared.place.OpenMap.{OpenMap}
+use Rattle.liquid_yaml.specs.declared.place.Place.{Place}
+use Rattle.liquid_yaml.specs.declared.words.PlainWords.{PlainWords}
+use Rattle.liquid_yaml.specs.declared.place.Place.TheVariants as of
+use Rattle.liquid_yaml.specs.declared.place.Start.{Start}
 
 -- Where a value stands that isn't whole: under a key, in a map after so many spaces with the
 -- members before it; or in a list, after the items before it.
@@ -31,10 +35,17 @@ pub data Around : Type 0 where
   member : ℕ → Pairs → Text → Around
   element : ℕ → Items → Around
 
--- What is read of that value: nothing yet, all of it, or lines of a text.
+-- A text without quotes that may go on, below what stands after so many spaces. It ends with a line
+-- feed for each blank line after its words.
+pub record Words : Type 0 where
+  pub below : ℕ
+  pub words : Text
+
+-- What is read of that value: nothing yet, all of it, words, or lines of a text below `|` or `>`.
 pub data ValueSoFar : Type 0 where
   nothing : ValueSoFar
   whole : Datum → ValueSoFar
+  plain : Words → ValueSoFar
   block : Lines → ValueSoFar
 
 -- the places around what is read, from the inmost one outwards
@@ -45,10 +56,14 @@ pub record Gathering : Type 0 where
 abbrev pub nothing_read : Gathering
 nothing_read = record { around = []; here = nothing }
 
+abbrev pub words_value : Words → Datum
+words_value p = text (without_feeds p.words)
+
 -- no value is nil
 abbrev pub value_so_far : ValueSoFar → Datum
 value_so_far nothing = nil
 value_so_far (whole d) = d
+value_so_far (plain p) = words_value p
 value_so_far (block t) = text (block_text t)
 
 -- ---- the ends of maps and lists
@@ -95,6 +110,10 @@ cut_at_end s = record { around = s.around; here = read_at_end s.here }
 abbrev pub is_unread : ValueSoFar → Bool
 is_unread nothing = true
 is_unread here = false
+
+abbrev pub is_words : ValueSoFar → Bool
+is_words (plain p) = true
+is_words here = false
 
 -- a map or a list begins where no value stands yet
 abbrev pub opened_place : Around → ValueSoFar → List Around → ValueSoFar → Option Gathering
@@ -143,6 +162,15 @@ add_to n value (element m ds ∷ rest) here = cond (m == n)
 abbrev pub with_element : ℕ → ValueSoFar → Gathering → Option Gathering
 with_element n value s = add_to n value s.around s.here
 
+-- a text without quotes and without a comment after it may go on
+abbrev pub words_read : ℕ → Text → Text → ValueSoFar
+words_read n s t =
+    cond (is_all_plain s) (plain (record { below = n; words = t })) (whole (text t))
+
+abbrev pub scalar_read : ℕ → Text → Datum → ValueSoFar
+scalar_read n s (text t) = words_read n s t
+scalar_read n s d = whole d
+
 -- what follows a key or a `-` that stands after n spaces: nothing, or a comment; the header of a
 -- text; or a value
 abbrev pub read_at : ℕ → Text → Option ValueSoFar
@@ -150,7 +178,7 @@ read_at n [] = Some nothing
 read_at n (b ∷ bs) = cond (b == number_sign) (Some nothing)
     (cond (b == vertical_bar) (option_map block (header_at false n bs))
     (cond (b == greater_sign) (option_map block (header_at true n bs))
-    (option_map whole (line_value (b ∷ bs)))))
+    (option_map (scalar_read n (b ∷ bs)) (line_value (b ∷ bs)))))
 
 abbrev pub taken_member : SaidMember → Gathering → Option Gathering
 taken_member m s = option_and_then
@@ -160,13 +188,74 @@ abbrev pub taken_item : ℕ → Text → Gathering → Option Gathering
 taken_item n s state = option_and_then
     (λ value. with_element n value (closed_before n true state)) (read_at n s)
 
+-- ---- a line that is no member and no item
+
+abbrev pub with_here : Gathering → ValueSoFar → Gathering
+with_here s here = record { around = s.around; here = here }
+
+-- a blank line within words is a line feed
+abbrev pub with_blank : Words → Words
+with_blank p = record { below = p.below; words = p.words ++ line_feed ∷ [] }
+
+-- further words stand after a space, unless blank lines stand between them
+abbrev pub word_gap : Text → Text
+word_gap s = cond (length (without_feeds s) == length s) (space ∷ []) []
+
+abbrev pub with_words : Words → Text → Words
+with_words p line = record {
+  below = p.below;
+  words = (p.words ++ word_gap p.words) ++ plain_text line;
+}
+
+abbrev pub after_blank : ValueSoFar → ValueSoFar
+after_blank (plain p) = plain (with_blank p)
+after_blank here = here
+
+-- a comment ends words
+abbrev pub after_note : ValueSoFar → ValueSoFar
+after_note (plain p) = whole (words_value p)
+after_note here = here
+
+abbrev pub words_on : Words → Text → ValueSoFar
+words_on p line = cond (is_all_plain line) (plain (with_words p line))
+    (whole (words_value (with_words p line)))
+
+abbrev pub words_gone_on : Words → ℕ → Text → Option ValueSoFar
+words_gone_on p n line =
+    cond (nat_lt p.below n && is_plain_scalar true line) (Some (words_on p line)) None
+
+abbrev pub column_of_place : Around → ℕ
+column_of_place (member n ps key) = n
+column_of_place (element n ds) = n
+
+-- after how many spaces the key or the `-` stands whose value is read
+abbrev pub inmost_column : List Around → Option ℕ
+inmost_column [] = None
+inmost_column (p ∷ ps) = Some (column_of_place p)
+
+-- a value stands below its key or its `-`, and deeper
+abbrev pub value_below : Option ℕ → ℕ → Text → Option ValueSoFar
+value_below None n line = None
+value_below (Some m) n line = cond (nat_lt m n) (read_at m line) None
+
+-- words go on, or a value begins where none stands yet
+abbrev pub spelled_on : List Around → ValueSoFar → ℕ → Text → Option ValueSoFar
+spelled_on ps (plain p) n line = words_gone_on p n line
+spelled_on ps nothing n line = value_below (inmost_column ps) n line
+spelled_on ps here n line = None
+
+abbrev pub taken_part : ℕ → Text → Gathering → Option Gathering
+taken_part n line s = option_map (with_here s) (spelled_on s.around s.here n line)
+
 abbrev pub taken : Gathering → Option LineMeaning → Option Gathering
 taken s None = None
-taken s (Some note) = Some s
+taken s (Some blank) = Some (with_here s (after_blank s.here))
+taken s (Some note) = Some (with_here s (after_note s.here))
 taken s (Some (sets m)) = taken_member m s
 taken s (Some (adds n value)) = taken_item n value s
 taken s (Some (adds_map n m)) =
     option_and_then (taken_member m) (with_element n nothing (closed_before n true s))
+taken s (Some (spells n line)) = taken_part n line s
 
 -- the line isn't one of a text, and says something after this state; it isn't read; or it is one
 pub data Reached : Type 0 where
@@ -184,6 +273,7 @@ reached_after ps t (goes_on u) = inside (record { around = ps; here = block u })
 abbrev pub reached_by : List Around → ValueSoFar → Text → Reached
 reached_by ps nothing line = outside (record { around = ps; here = nothing })
 reached_by ps (whole d) line = outside (record { around = ps; here = whole d })
+reached_by ps (plain p) line = outside (record { around = ps; here = plain p })
 reached_by ps (block t) line = reached_after ps t (block_step t line)
 
 abbrev pub step_here : Gathering → Text → Reached
@@ -217,9 +307,13 @@ abbrev pub places_view : List Place → List Around → List Around
 places_view [] outer = outer
 places_view (p ∷ ps) outer = places_view ps (around_view p ∷ outer)
 
+abbrev pub words_view : PlainWords → Words
+words_view w = record { below = w.below; words = string_bytes w.words }
+
 abbrev pub so_far_view : Here → ValueSoFar
 so_far_view at.Nothing = nothing
 so_far_view (at.Whole v) = whole (view v)
+so_far_view (at.Words w) = plain (words_view w)
 so_far_view (at.Block b) = block (block_view b)
 
 abbrev pub gathering_view : Gathered → Gathering

@@ -10,7 +10,7 @@ use Rattle.liquid_model.specs.View.{pairs_view, view}
 use Rattle.liquid_model.specs.declared.error.ErrorKind.{ErrorKind}
 use Rattle.liquid_model.specs.declared.error.ErrorKind.TheVariants.{InvalidInput}
 use Rattle.liquid_model.specs.Bytes.{line_feed}
-use Rattle.liquid_yaml.specs.Bytes.{first_part, parts_left}
+use Rattle.liquid_yaml.specs.Bytes.{ends_with_return, first_part, parts_left}
 use Rattle.liquid_yaml.specs.Lines.{opens_front, ends_front}
 use Rattle.liquid_yaml.specs.Places.{Gathering, nothing_read, document, taken_line, cut_at_end}
 use Rattle.liquid_yaml.specs.declared.reading.FrontMatter.{FrontMatter}
@@ -59,9 +59,10 @@ abbrev pub value_found : Result ReadDocument ErrorKind → Result Datum ErrorKin
 value_found (Ok f) = Ok f.value
 value_found (Err kind) = Err kind
 
+-- a carriage return that no line feed follows ends a line of YAML too, and isn't read
 abbrev pub yaml_value : Text → Result Datum ErrorKind
-yaml_value source =
-    value_found (read_on false (Some nothing_read) (parts_left line_feed (yaml_content source)))
+yaml_value source = cond (ends_with_return source) (Err InvalidInput)
+    (value_found (read_on false (Some nothing_read) (parts_left line_feed (yaml_content source))))
 
 -- a map, or nothing
 abbrev pub yaml_members : Datum → Result Pairs ErrorKind

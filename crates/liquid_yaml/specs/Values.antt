@@ -1,24 +1,19 @@
--- What a value on one line says: the part of YAML that is read here.
+-- What a scalar on one line says.
 --     scalar_at may_note s      a text in quotes, a word, a whole number or a plain text
---     line_value s      a scalar or a list of scalars in brackets, and perhaps a comment
 use Rattle.std.specs.Prelude.{ℕ, ◌-◌, ◌==◌, ◌||◌, ◌&&◌, not, nat_le, nat_lt, Bool, true, false}
 use Rattle.std.specs.Prelude.{List, [], ◌∷◌, length, take, drop, slice_index, cond, bytes_eq, codes}
 use Rattle.std.specs.Prelude.{Option, Some, None, option_map, is_some}
-use Rattle.std.specs.List.{list_all, prefix_len, slice_split}
-use Rattle.liquid_model.specs.Data.{Datum, nil, truth, number, text, array, Items, no_items, item}
+use Rattle.std.specs.List.{list_all}
+use Rattle.liquid_model.specs.Data.{Datum, nil, truth, number, text}
 use Rattle.liquid_model.specs.Texts.{Text}
 use Rattle.liquid_model.specs.Whole.{whole_text}
-use Rattle.liquid_model.specs.Bytes.{close_bracket, comma, dash, dot, double_quote, is_digit}
-use Rattle.liquid_model.specs.Bytes.{open_bracket, plus_sign, single_quote, space}
+use Rattle.liquid_model.specs.Bytes.{dash, dot, double_quote, is_digit, plus_sign, single_quote}
+use Rattle.liquid_model.specs.Bytes.{space}
 use Rattle.liquid_model.specs.Front.{run_len}
-use Rattle.liquid_yaml.specs.Bytes.{backslash, end_trimmed, first_part, in_plain}
-use Rattle.liquid_yaml.specs.Bytes.{is_ended, is_rest, without_spaces}
+use Rattle.liquid_yaml.specs.Bytes.{end_trimmed, first_part, in_plain, is_ended, is_rest}
+use Rattle.liquid_yaml.specs.Quotings.{quoting_len, quoted_text}
 
 -- ---- texts in quotes
-
--- not the quote, and in double quotes no `\`
-abbrev pub in_quotes : ℕ → ℕ → Bool
-in_quotes q b = not (b == q) && not (q == double_quote && b == backslash)
 
 -- the quote q, and nothing after it but perhaps a comment
 abbrev pub closes_quote : Bool → ℕ → Text → Bool
@@ -27,8 +22,8 @@ closes_quote may_note q (b ∷ bs) = b == q && is_rest may_note bs
 
 -- what stands after the quote q, where that is a text and the quote
 abbrev pub quoted_scalar : Bool → ℕ → Text → Option Datum
-quoted_scalar may_note q bs = cond (closes_quote may_note q (drop (prefix_len (in_quotes q) bs) bs))
-    (Some (text (take (prefix_len (in_quotes q) bs) bs))) None
+quoted_scalar may_note q bs = cond (closes_quote may_note q (drop (quoting_len q bs) bs))
+    (option_map text (quoted_text q (take (quoting_len q bs) bs))) None
 
 -- ---- plain texts
 
@@ -49,6 +44,10 @@ begins_plain (b ∷ bs) = opens_plain b bs
 -- the text up to a comment, without the spaces before that
 abbrev pub plain_text : Text → Text
 plain_text s = end_trimmed (take (run_len in_plain s) s)
+
+-- no comment follows
+abbrev pub is_all_plain : Text → Bool
+is_all_plain s = begins_plain s && run_len in_plain s == length s
 
 abbrev pub is_plain_scalar : Bool → Text → Bool
 is_plain_scalar may_note s = begins_plain s && is_rest may_note (drop (run_len in_plain s) s)
@@ -142,40 +141,3 @@ scalar_by may_note b bs = cond (b == double_quote || b == single_quote)
 abbrev pub scalar_at : Bool → Text → Option Datum
 scalar_at may_note [] = None
 scalar_at may_note (b ∷ bs) = scalar_by may_note b bs
-
--- none of `[`, `{` and `}`, which would nest
-abbrev pub is_unnested : ℕ → Bool
-is_unnested b = not (b == 91) && (not (b == 123) && not (b == 125))
-
-abbrev pub bracket_entry_at : Text → Option Datum
-bracket_entry_at s =
-    cond (list_all is_unnested s) (scalar_at false (end_trimmed (without_spaces s))) None
-
-abbrev pub with_item : Option Datum → Option Items → Option Items
-with_item (Some d) (Some ds) = Some (item d ds)
-with_item _ _ = None
-
-abbrev pub entries : List Text → Option Items
-entries [] = Some no_items
-entries (s ∷ rest) = with_item (bracket_entry_at s) (entries rest)
-
--- what stands between the brackets of a list: nothing, or values with commas between them
-abbrev pub listed_in : Text → Option Items
-listed_in s = cond (length (without_spaces s) == 0) (Some no_items)
-    (entries (slice_split (λ b. b == comma) s))
-
--- the text up to the first closing bracket, where one is there and nothing but a comment follows
-abbrev pub bracket_list : Text × Option Text → Option Datum
-bracket_list (inside, None) = None
-bracket_list (inside, Some after) =
-    cond (is_rest true after) (option_map array (listed_in inside)) None
-
-abbrev pub list_at : Text → Option Datum
-list_at bs = bracket_list (first_part close_bracket bs)
-
-abbrev pub spelled_by : ℕ → List ℕ → Option Datum
-spelled_by b bs = cond (b == open_bracket) (list_at bs) (scalar_by true b bs)
-
-abbrev pub line_value : Text → Option Datum
-line_value [] = None
-line_value (b ∷ bs) = spelled_by b bs

@@ -1,6 +1,9 @@
 //! Why YAML is refused.
 ghost use Rattle.liquid_model.specs.ErrorKinds.{IsKindOrMemory};
 
+use crate::quoting::quoting_len;
+use crate::scan::is_rest;
+use crate::value::is_numeric;
 use liquid_model::{Error, ErrorKind, Location, Origin};
 use std::alloc::Global;
 
@@ -31,6 +34,17 @@ pub(crate) fn no_map(alloc: Global) -> Error
         alloc,
         ErrorKind::InvalidInput,
         "the YAML is a list where members `key: value` are expected",
+    )
+}
+
+/// The fault of a text that ends with a carriage return.
+pub(crate) fn lone_return(alloc: Global) -> Error
+    ensures { IsKindOrMemory ErrorKind.InvalidInput result.kind }
+{
+    Error::new(
+        alloc,
+        ErrorKind::InvalidInput,
+        "the YAML ends with a carriage return: write a line feed after it",
     )
 }
 
@@ -102,28 +116,59 @@ fn of_value(value: &str) -> Option<&'static str> {
             "this line of YAML has a type, which isn't read: leave it out, or write quotes \
              around a text",
         ),
-        Some(b'"') if value.contains('\\') => Some(
-            "this line of YAML has a backslash in quotes: put the text between two `'`, or \
-             below `key: |`",
+        Some(quote @ (b'"' | b'\'')) => of_quoted(*quote, value),
+        Some(b'[' | b'{') => of_flow(value),
+        Some(_) if is_numeric(value) && value.bytes().any(|b| b.is_ascii_digit()) => Some(
+            "this line of YAML has a number that isn't whole, or a clock: write quotes around it, \
+             and it is a text",
         ),
-        Some(b'"') if !is_closed(value, '"') => Some(UNCLOSED),
-        Some(b'\'') if !is_closed(value, '\'') => Some(UNCLOSED),
+        Some(_) if value.contains(": ") => Some(
+            "this line of YAML has a `: ` in its value: write quotes around the value",
+        ),
         _ => None,
     }
+}
+
+/// What is said of a text in quotes.
+fn of_quoted(quote: u8, value: &str) -> Option<&'static str> {
+    if !is_closed(value, quote) {
+        return Some(UNCLOSED);
+    }
+    if quote == b'"' && value.contains('\\') {
+        return Some(
+            "this line of YAML has an escape that isn't known: `\\\"`, `\\\\`, `\\/`, `\\n`, \
+             `\\r`, `\\t` and `\\u00e9` are; or put the text between two `'`",
+        );
+    }
+    None
+}
+
+/// What is said of a list in brackets or a map in braces.
+fn of_flow(value: &str) -> Option<&'static str> {
+    let value = value.trim();
+    if !value.ends_with(']') && !value.ends_with('}') && !value.contains('#') {
+        return Some(
+            "this line of YAML has a list or map that no sign closes on it: write all of it on \
+             one line, or a member or an item a line, without brackets and braces",
+        );
+    }
+    Some(
+        "this line of YAML has a list or map that isn't read: write it as `[a, b]` or \
+         `{a: 1, b: c}`, with quotes around texts that have signs",
+    )
 }
 
 /// What is said of a text in quotes that doesn't end as its line does.
 const UNCLOSED: &str = "this line of YAML has a quote that ends before the line or not at all: \
                         close it, or put the text between the other quotes";
 
-/// Whether a text that begins with a quote has the next one at its end, before a comment at most.
-fn is_closed(text: &str, quote: char) -> bool {
-    let inside = text.strip_prefix(quote).unwrap_or(text);
-    match inside.split_once(quote) {
-        Some((_, after)) => {
-            let after = after.trim_start();
-            after.is_empty() || after.starts_with('#')
-        }
-        None => false,
+/// Whether a text that begins with a quote ends with it, before a comment at most.
+fn is_closed(text: &str, quote: u8) -> bool {
+    match text.as_bytes() {
+        [] => false,
+        [_, inside @ ..] => match &inside[quoting_len(quote, inside)..] {
+            [] => false,
+            [_, after @ ..] => is_rest(true, after),
+        },
     }
 }

@@ -3,12 +3,17 @@
 
 mod block;
 mod fault;
+mod flow;
+mod flow_parts;
 mod laws;
 mod line;
+mod place;
 mod places;
+mod quoting;
 mod reading;
 mod scan;
 mod value;
+mod words;
 
 pub use laws::front_matter_laws;
 pub use liquid_model::{Error, ErrorKind, Object, Result, Value};

@@ -1,9 +1,12 @@
 //! The lines of YAML.
 ghost use Rattle.std.specs.Prelude.{◌≡◌, ◌≤◌, length, option_map};
+ghost use Rattle.std.specs.List.{prefix_len};
 ghost use Rattle.liquid_yaml.specs.Lines as spec;
 ghost use Rattle.liquid_yaml.specs.Lines.{line_view, setting_view};
 
-use crate::scan::{is_ended, is_key_byte, is_letter, spaces_in, trimmed, without_spaces};
+use crate::scan::{
+    begins_with_byte, is_ended, is_key_byte, is_letter, spaces_in, trimmed, without_spaces,
+};
 use crate::value::is_word;
 
 /// How far to the right a member or an item may begin.
@@ -17,9 +20,9 @@ pub(crate) struct Member<'t> {
     pub value: &'t str,
 }
 
-/// An item of a list, after so many spaces.
+/// An item of a list, a value, or a part of a text, after so many spaces.
 #[derive(Clone, Copy, Drop)]
-pub(crate) struct ListItem<'t> {
+pub(crate) struct Part<'t> {
     pub column: usize,
     pub value: &'t str,
 }
@@ -34,14 +37,18 @@ pub(crate) struct MapItem<'t> {
 /// What a line says.
 #[derive(Clone, Copy, Drop)]
 pub(crate) enum Line<'t> {
-    /// Nothing: it is blank or a comment.
+    /// Nothing: it is blank.
+    Blank,
+    /// Nothing: it is a comment.
     Note,
     /// A member of a map.
     Sets(Member<'t>),
     /// An item of a list.
-    Adds(ListItem<'t>),
+    Adds(Part<'t>),
     /// An item of a list that is a map.
     AddsMap(MapItem<'t>),
+    /// A value, or a part of a text.
+    Spells(Part<'t>),
 }
 
 /// Whether a line opens front matter, where it is the first.
@@ -66,33 +73,37 @@ pub(crate) fn said(line: &str) -> Option<Line<'_>>
     if column > WIDEST {
         return None;
     }
-    said_after(column, without_spaces(line))
+    Some(said_after(column, without_spaces(line)))
 }
 
 #[tactic(auto, using(liquid_model::proofs::Cuts::past_first))]
-fn said_after(column: usize, text: &str) -> Option<Line<'_>>
+fn said_after(column: usize, text: &str) -> Line<'_>
     requires { column ≤ spec.widest }
-    ensures { option_map line_view result ≡ spec.said_after column text.now }
+    ensures { line_view result ≡ spec.said_after column text.now }
 {
     match text.as_bytes() {
-        [] | [b'#', ..] => Some(Line::Note),
-        [b'-', ..] => item_of(column, &text[1..]),
-        _ => member_of(column, text).map(|member| Line::Sets(member)),
+        [] => Line::Blank,
+        [b'#', ..] => Line::Note,
+        [b'-', after @ ..] if is_ended(after) => item_of(column, &text[1..]),
+        _ => match member_of(false, column, text) {
+            Some(member) => Line::Sets(member),
+            None => Line::Spells(Part {
+                column,
+                value: text,
+            }),
+        },
     }
 }
 
 /// What follows a `-`.
-fn item_of(column: usize, text: &str) -> Option<Line<'_>>
+fn item_of(column: usize, text: &str) -> Line<'_>
     requires { column ≤ spec.widest }
-    ensures { option_map line_view result ≡ spec.item_said column text.now }
+    ensures { line_view result ≡ spec.item_said column text.now }
 {
-    if !is_ended(text.as_bytes()) {
-        return None;
-    }
     let value = without_spaces(text);
     match first_member(column, spaces_in(text), value) {
-        Some(first) => Some(Line::AddsMap(MapItem { column, first })),
-        None => Some(Line::Adds(ListItem { column, value })),
+        Some(first) => Line::AddsMap(MapItem { column, first }),
+        None => Line::Adds(Part { column, value }),
     }
 }
 
@@ -104,32 +115,91 @@ fn first_member(column: usize, gap: usize, text: &str) -> Option<Member<'_>>
     if gap > WIDEST {
         return None;
     }
-    member_of(column + 1 + gap, text)
+    member_of(false, column + 1 + gap, text)
+}
+
+/// The member that a text says, of a map by lines, or of one in braces.
+#[tactic(auto, using(liquid_model::proofs::Cuts::past_first))]
+pub(crate) fn member_of(in_flow: bool, column: usize, text: &str) -> Option<Member<'_>>
+    ensures { option_map setting_view result ≡ spec.member_of in_flow column text.now }
+{
+    match text.as_bytes() {
+        [] => None,
+        [quote @ (b'"' | b'\''), ..] => quoted_member(in_flow, column, *quote, &text[1..]),
+        _ => plain_member(column, text),
+    }
 }
 
 #[tactic(auto, using(crate::proofs::Cuts::key_cut))]
-fn member_of(column: usize, text: &str) -> Option<Member<'_>>
-    ensures { option_map setting_view result ≡ spec.member_of column text.now }
+fn plain_member(column: usize, text: &str) -> Option<Member<'_>>
+    ensures { option_map setting_view result ≡ spec.plain_member column text.now }
 {
     let (key, rest) = text.split_at(key_len(text.as_bytes()));
     if !is_key(key) {
         return None;
     }
-    value_of(column, key, without_spaces(rest))
+    value_of(false, column, key, without_spaces(rest))
+}
+
+/// A key after a quote, the quote, and a value.
+#[tactic(auto, using(crate::proofs::Cuts::quoted_key_cut))]
+fn quoted_member(in_flow: bool, column: usize, quote: u8, text: &str) -> Option<Member<'_>>
+    requires { quote ≤ 127 }
+    ensures { option_map setting_view result ≡ spec.quoted_member in_flow column quote text.now }
+{
+    let (key, rest) = text.split_at(quoted_key_len(quote, text.as_bytes()));
+    quoted_member_by(in_flow, column, quote, key, rest)
+}
+
+#[tactic(auto, using(liquid_model::proofs::Cuts::past_first))]
+fn quoted_member_by<'t>(
+    in_flow: bool,
+    column: usize,
+    quote: u8,
+    key: &'t str,
+    rest: &'t str,
+) -> Option<Member<'t>>
+    requires { quote ≤ 127 }
+    ensures { option_map setting_view result
+        ≡ spec.quoted_member_by in_flow column quote key.now rest.now }
+{
+    if !begins_with_byte(quote, rest.as_bytes()) || key == "<<" {
+        return None;
+    }
+    value_of(in_flow, column, key, without_spaces(&rest[1..]))
 }
 
 /// What follows a key and spaces.
-fn value_of<'t>(column: usize, key: &'t str, text: &'t str) -> Option<Member<'t>>
-    ensures { option_map setting_view result ≡ spec.member_said column key.now text.now }
+#[tactic(auto, using(liquid_model::proofs::Cuts::past_first))]
+fn value_of<'t>(is_tight: bool, column: usize, key: &'t str, text: &'t str) -> Option<Member<'t>>
+    ensures { option_map setting_view result
+        ≡ spec.member_said is_tight column key.now text.now }
 {
     match text.as_bytes() {
-        [b':', after @ ..] if is_ended(after) => Some(Member {
+        [b':', after @ ..] if is_tight || is_ended(after) => Some(Member {
             column,
             key,
             value: without_spaces(&text[1..]),
         }),
         _ => None,
     }
+}
+
+fn is_in_quoted_key(quote: u8, byte: u8) -> bool
+    ensures { result ≡ spec.in_quoted_key quote byte }
+{
+    byte != quote && !(quote == b'"' && byte == b'\\')
+}
+
+fn quoted_key_len(quote: u8, bytes: &[u8]) -> usize
+    ensures value { result ≡ prefix_len (spec.in_quoted_key quote) bytes.now }
+    ensures within { result ≤ length bytes.now }
+{
+    let mut n = 0;
+    while n < bytes.len() && is_in_quoted_key(quote, bytes[n]) {
+        n += 1;
+    }
+    n
 }
 
 fn key_len(bytes: &[u8]) -> usize

@@ -7,128 +7,23 @@ ghost use Rattle.liquid_yaml.specs.Lines as spec_lines;
 ghost use Rattle.liquid_yaml.specs.Lines.{setting_view};
 ghost use Rattle.liquid_yaml.specs.Places as spec;
 ghost use Rattle.liquid_yaml.specs.Places.{around_view, fitting, list_view, map_view, reached_view};
+ghost use Rattle.liquid_yaml.specs.Places.{whole};
 ghost use Rattle.liquid_yaml.specs.Places.{so_far_view, gathering_view};
 
-use crate::block::{Block, Step, block_at};
+use crate::block::Step;
 use crate::line::{Line, Member, said};
+use crate::place::{Here, OpenList, OpenMap, Place, Start, first_item, first_member, read_at};
 use crate::scan::{is_clean, trimmed, without_return};
-use crate::value::value_of;
-use liquid_model::{Object, Result, Value, store};
+use crate::value::{is_all_plain, is_plain_scalar};
+use liquid_model::{Result, Value, store};
 use std::alloc::Global;
 use std::mem;
-
-/// A map after so many spaces, with the members before a key whose value isn't whole.
-#[derive(Drop)]
-pub(crate) struct OpenMap<'t> {
-    pub column: usize,
-    pub members: Object,
-    pub key: &'t str,
-}
-
-/// A list after so many spaces, with the items before one that isn't whole.
-#[derive(Drop)]
-pub(crate) struct OpenList {
-    pub column: usize,
-    pub items: Vec<Value>,
-}
-
-/// Where a value stands that isn't whole.
-#[derive(Drop)]
-pub(crate) enum Place<'t> {
-    /// Under a key.
-    Member(OpenMap<'t>),
-    /// In a list.
-    Item(OpenList),
-}
-
-/// What is read of that value.
-pub(crate) enum Here<'t> {
-    /// Nothing yet.
-    Nothing,
-    /// All of it.
-    Whole(Value),
-    /// Lines of a text.
-    Block(Block<'t>),
-}
-
-/// Drops what it holds. Written by hand, so that each early return drops the value by one call
-/// to prove.
-impl Drop for Here<'_> {
-    fn drop(self) {
-        match self {
-            Here::Nothing | Here::Whole(_) | Here::Block(_) => {}
-        }
-    }
-}
-
-/// Where a line starts.
-#[derive(Clone, Copy, Drop)]
-pub(crate) struct Start {
-    pub column: usize,
-    /// Whether it begins an item of a list.
-    pub is_item: bool,
-}
 
 /// The places around what is read, from the outmost one inwards.
 #[derive(Drop)]
 pub(crate) struct Gathered<'t> {
     pub around: Vec<Place<'t>>,
     pub here: Here<'t>,
-}
-
-impl<'t> Place<'t> {
-    fn is_left(&self, start: Option<Start>) -> bool
-        ensures { result ≡ spec.is_left start (around_view self.now) }
-    {
-        match (start, self) {
-            (None, _) => true,
-            (Some(start), Place::Member(map)) => start.column < map.column,
-            (Some(start), Place::Item(list)) => {
-                start.column < list.column || (start.column == list.column && !start.is_item)
-            }
-        }
-    }
-
-    /// The map or list with this value in it.
-    #[tactic(auto, using(crate::proofs::Items::items_push))]
-    fn holding(self, alloc: Global, value: Value) -> Result<Value>
-        ensures { IsValueOrMemory view result (spec.holding (around_view self.entry) (view value)) }
-    {
-        match self {
-            Place::Member(map) => {
-                let mut members = map.members;
-                store(&mut members, String::from_str(alloc, map.key)?, value)?;
-                Ok(Value::Object(members))
-            }
-            Place::Item(list) => {
-                let mut items = list.items;
-                items.push(value)?;
-                Ok(Value::Array(items))
-            }
-        }
-    }
-}
-
-impl<'t> Here<'t> {
-    fn is_unread(&self) -> bool
-        ensures { result ≡ spec.is_unread (so_far_view self.now) }
-    {
-        match self {
-            Here::Nothing => true,
-            _ => false,
-        }
-    }
-
-    /// The value: nil where there is none.
-    fn value(self, alloc: Global) -> Result<Value>
-        ensures { IsValueOrMemory view result (spec.value_so_far (so_far_view self.entry)) }
-    {
-        match self {
-            Here::Nothing => Ok(Value::Nil),
-            Here::Whole(value) => Ok(value),
-            Here::Block(block) => Ok(Value::Text(block.text(alloc)?)),
-        }
-    }
 }
 
 impl<'t> Gathered<'t> {
@@ -294,6 +189,93 @@ impl<'t> Gathered<'t> {
         self.add(alloc, column, value)
     }
 
+    /// A blank line: a line feed within words.
+    fn take_blank(&mut self) -> Result<bool>
+        ensures { IsValueOrMemory (λ fits. fitting fits (gathering_view self.new)) result
+            (Some (spec.with_here (gathering_view self.old)
+            (spec.after_blank (gathering_view self.old).here))) }
+    {
+        if let Here::Words(words) = &mut self.here {
+            words.add_blank()?;
+        }
+        Ok(true)
+    }
+
+    /// A comment ends words.
+    fn take_note(&mut self, alloc: Global) -> Result<bool>
+        ensures { IsValueOrMemory (λ fits. fitting fits (gathering_view self.new)) result
+            (Some (spec.with_here (gathering_view self.old)
+            (spec.after_note (gathering_view self.old).here))) }
+    {
+        if self.here.is_words() {
+            self.end_words(alloc)?;
+        }
+        Ok(true)
+    }
+
+    fn end_words(&mut self, alloc: Global) -> Result<()>
+        ensures { IsValueOrMemory (λ _. gathering_view self.new) result
+            (spec.with_here (gathering_view self.old)
+            (whole (spec.value_so_far (gathering_view self.old).here))) }
+    {
+        let here = mem::replace(&mut self.here, Here::Nothing);
+        self.here = Here::Whole(here.value(alloc)?);
+        Ok(())
+    }
+
+    /// A line that is no member and no item: words go on, or a value begins where none stands yet.
+    fn take_part(&mut self, alloc: Global, column: usize, line: &'t str) -> Result<bool>
+        ensures { IsValueOrMemory (λ fits. fitting fits (gathering_view self.new)) result
+            (spec.taken_part column line.now (gathering_view self.old)) }
+    {
+        match &mut self.here {
+            Here::Words(words) => {
+                if words.below >= column || !is_plain_scalar(line) {
+                    return Ok(false);
+                }
+                words.add(line)?;
+            }
+            Here::Nothing => return self.take_value(alloc, column, line),
+            _ => return Ok(false),
+        }
+        if !is_all_plain(line) {
+            self.end_words(alloc)?;
+        }
+        Ok(true)
+    }
+
+    /// A value below its key or its `-`, and deeper.
+    fn take_value(&mut self, alloc: Global, column: usize, line: &'t str) -> Result<bool>
+        ensures { IsValueOrMemory (λ fits. fitting fits (gathering_view self.new)) result
+            (option_map (spec.with_here (gathering_view self.old))
+            (spec.value_below (spec.inmost_column (gathering_view self.old).around) column
+            line.now)) }
+    {
+        let Some(below) = self.inmost_column() else {
+            return Ok(false);
+        };
+        if below >= column {
+            return Ok(false);
+        }
+        match read_at(alloc, below, line)? {
+            Some(value) => {
+                self.here = value;
+                Ok(true)
+            }
+            None => Ok(false),
+        }
+    }
+
+    /// After how many spaces the key or the `-` stands whose value is read.
+    fn inmost_column(&self) -> Option<usize>
+        ensures { result ≡ spec.inmost_column (gathering_view self.now).around }
+    {
+        match self.around.last() {
+            Some(place) => Some(place.column()),
+            None => None,
+        }
+    }
+
     /// A line that says something.
     fn take(&mut self, alloc: Global, line: &'t str) -> Result<bool>
         ensures { IsValueOrMemory (λ fits. fitting fits (gathering_view self.new)) result
@@ -301,7 +283,9 @@ impl<'t> Gathered<'t> {
     {
         match said(trimmed(line)) {
             None => Ok(false),
-            Some(Line::Note) => Ok(true),
+            Some(Line::Blank) => self.take_blank(),
+            Some(Line::Note) => self.take_note(alloc),
+            Some(Line::Spells(part)) => self.take_part(alloc, part.column, part.value),
             Some(Line::Sets(member)) => self.take_member(alloc, member),
             Some(Line::Adds(item)) => self.take_item(alloc, item.column, item.value),
             Some(Line::AddsMap(item)) => {
@@ -365,44 +349,5 @@ impl<'t> Gathered<'t> {
     {
         self.close(alloc, None)?;
         mem::replace(&mut self.here, Here::Nothing).value(alloc)
-    }
-}
-
-fn first_member<'t>(alloc: Global, member: Member<'t>) -> Place<'t>
-    ensures { around_view result ≡ spec.first_member (setting_view member.entry) }
-{
-    Place::Member(OpenMap {
-        column: member.column,
-        members: Object::new(alloc),
-        key: member.key,
-    })
-}
-
-fn first_item<'t>(alloc: Global, column: usize) -> Place<'t>
-    ensures { around_view result ≡ spec.first_element column }
-{
-    Place::Item(OpenList {
-        column,
-        items: Vec::new(alloc),
-    })
-}
-
-/// What follows a key or a `-` that stands after so many spaces.
-#[tactic(auto, using(liquid_model::proofs::Cuts::past_first))]
-fn read_at<'t>(alloc: Global, column: usize, text: &'t str) -> Result<Option<Here<'t>>>
-    ensures { IsValueOrMemory (λ o. option_map so_far_view o) result
-        (spec.read_at column text.now) }
-{
-    match text.as_bytes() {
-        [] | [b'#', ..] => Ok(Some(Here::Nothing)),
-        [b'|', ..] => {
-            let block = block_at(alloc, false, column, &text[1..]);
-            Ok(block.map(|block| Here::Block(block)))
-        }
-        [b'>', ..] => {
-            let block = block_at(alloc, true, column, &text[1..]);
-            Ok(block.map(|block| Here::Block(block)))
-        }
-        _ => Ok(value_of(alloc, text)?.map(|value| Here::Whole(value))),
     }
 }

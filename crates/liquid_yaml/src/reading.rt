@@ -8,10 +8,10 @@ ghost use Rattle.liquid_yaml.specs.Places.{nothing_read, gathering_view, taken_l
 ghost use Rattle.liquid_yaml.specs.Reading as spec;
 ghost use Rattle.liquid_yaml.specs.Reading.{document_view, front_found_view};
 
-use crate::fault::{bad_line, no_end, no_map};
+use crate::fault::{bad_line, lone_return, no_end, no_map};
 use crate::line::{closes, opens};
 use crate::places::Gathered;
-use crate::scan::first_part;
+use crate::scan::{ends_with_return, first_part};
 use liquid_model::{Location, Object, Origin, Result, Value};
 use std::alloc::Global;
 
@@ -65,10 +65,14 @@ impl Lines {
 /// The value of a text of YAML. A text without any is nil.
 ///
 /// The text is refused, by `InvalidInput`, where a line isn't of the part of YAML that is read here
-/// or doesn't fit the lines before it. `Memory` where a growth was refused.
+/// or doesn't fit the lines before it, and where it ends with a carriage return. `Memory` where a
+/// growth was refused.
 pub fn value_from_yaml(alloc: Global, text: &str) -> Result<Value>
     ensures { Answers view result (spec.yaml_value text.now) }
 {
+    if ends_with_return(text) {
+        return Err(lone_return(alloc));
+    }
     let (left, before) = yaml_content(text);
     let found = read_left(
         alloc,
@@ -83,9 +87,9 @@ pub fn value_from_yaml(alloc: Global, text: &str) -> Result<Value>
 
 /// The data of a text of YAML, which is a map or nothing.
 ///
-/// The text is refused, by `InvalidInput`, where it is no map, and where a line isn't of the part
-/// of YAML that is read here or doesn't fit the lines before it. `Memory` where a growth was
-/// refused.
+/// The text is refused, by `InvalidInput`, where it is no map, where a line isn't of the part of
+/// YAML that is read here or doesn't fit the lines before it, and where it ends with a carriage
+/// return. `Memory` where a growth was refused.
 pub fn data_from_yaml(alloc: Global, text: &str) -> Result<Object>
     ensures { Answers (λ m. pairs_view m.entries) result (spec.yaml_data text.now) }
 {

@@ -96,6 +96,13 @@ pub(crate) fn first_part(text: &str, sign: char) -> (&str, Option<&str>)
     }
 }
 
+/// Whether a text ends with a carriage return.
+pub(crate) fn ends_with_return(text: &str) -> bool
+    ensures { result ≡ spec.ends_with_return text.now }
+{
+    matches!(text.as_bytes().last(), Some(b'\r'))
+}
+
 /// A line without the carriage return at its end.
 #[tactic(auto, using(crate::proofs::Cuts::last_cut))]
 pub(crate) fn without_return(line: &str) -> &str
@@ -144,6 +151,15 @@ pub(crate) fn without_feeds(text: &str) -> &str
     ensures { result.now ≡ without_feeds text.now }
 {
     &text[..fed_len(text.as_bytes())]
+}
+
+pub(crate) fn begins_with_byte(byte: u8, bytes: &[u8]) -> bool
+    ensures { result ≡ spec.begins_with_byte byte bytes.now }
+{
+    match bytes {
+        [] => false,
+        [first, ..] => *first == byte,
+    }
 }
 
 fn begins_comment(bytes: &[u8]) -> bool

@@ -1,30 +1,18 @@
-//! The values that stand on one line.
-ghost use Rattle.std.specs.Prelude.{◌≡◌, ◌≤◌, ◌==◌, length, option_map};
-ghost use Rattle.std.specs.List.{list_all, prefix_len, slice_split};
+//! The scalars that stand on one line.
+ghost use Rattle.std.specs.Prelude.{◌≡◌, ◌≤◌, option_map, true};
+ghost use Rattle.std.specs.List.{list_all};
 ghost use Rattle.liquid_model.specs.Answer.{IsValueOrMemory};
-ghost use Rattle.liquid_model.specs.View.{view, items_view};
+ghost use Rattle.liquid_model.specs.View.{view};
 ghost use Rattle.liquid_yaml.specs.Values as spec;
 
-use crate::scan::{first_part, is_ended, is_rest, plain_len, trimmed, without_spaces};
+use crate::quoting::{quoted_text, quoting_len};
+use crate::scan::{first_part, is_ended, is_rest, plain_len, trimmed};
 use liquid_model::{Result, Value, whole_of};
 use std::alloc::Global;
 
-/// The value that a text of a line spells, or none where it spells none that is read here: a
-/// scalar, or a list of scalars in brackets, and perhaps a comment. The answer is `Memory` where a
-/// growth was refused, and no other kind.
-#[tactic(auto, using(liquid_model::proofs::Cuts::past_first))]
-pub(crate) fn value_of(alloc: Global, text: &str) -> Result<Option<Value>>
-    ensures { IsValueOrMemory (λ o. option_map view o) result (spec.line_value text.now) }
-{
-    match text.as_bytes() {
-        [b'[', ..] => bracket_list(alloc, &text[1..]),
-        _ => scalar_of(alloc, true, text),
-    }
-}
-
 /// A text in quotes, a word, a whole number or a plain text, and perhaps a comment.
 #[tactic(auto, using(liquid_model::proofs::Cuts::past_first))]
-fn scalar_of(alloc: Global, may_note: bool, text: &str) -> Result<Option<Value>>
+pub(crate) fn scalar_of(alloc: Global, may_note: bool, text: &str) -> Result<Option<Value>>
     ensures { IsValueOrMemory (λ o. option_map view o) result (spec.scalar_at may_note text.now) }
 {
     match text.as_bytes() {
@@ -36,23 +24,6 @@ fn scalar_of(alloc: Global, may_note: bool, text: &str) -> Result<Option<Value>>
 
 // ---- texts in quotes
 
-fn is_in_quotes(quote: u8, byte: u8) -> bool
-    ensures { result ≡ spec.in_quotes quote byte }
-{
-    byte != quote && !(quote == b'"' && byte == b'\\')
-}
-
-fn quoted_len(quote: u8, bytes: &[u8]) -> usize
-    ensures value { result ≡ prefix_len (spec.in_quotes quote) bytes.now }
-    ensures within { result ≤ length bytes.now }
-{
-    let mut n = 0;
-    while n < bytes.len() && is_in_quotes(quote, bytes[n]) {
-        n += 1;
-    }
-    n
-}
-
 fn closes_quote(may_note: bool, quote: u8, bytes: &[u8]) -> bool
     ensures { result ≡ spec.closes_quote may_note quote bytes.now }
 {
@@ -63,17 +34,17 @@ fn closes_quote(may_note: bool, quote: u8, bytes: &[u8]) -> bool
 }
 
 /// What stands after a quote, where that is a text and the same quote.
-#[tactic(auto, using(crate::proofs::Cuts::quoted_cut))]
-fn quoted(alloc: Global, may_note: bool, quote: u8, text: &str) -> Result<Option<Value>>
+#[tactic(auto, using(crate::proofs::Cuts::quoting_cut))]
+pub(crate) fn quoted(alloc: Global, may_note: bool, quote: u8, text: &str) -> Result<Option<Value>>
     requires { quote ≤ 127 }
     ensures { IsValueOrMemory (λ o. option_map view o) result
         (spec.quoted_scalar may_note quote text.now) }
 {
-    let (inside, rest) = text.split_at(quoted_len(quote, text.as_bytes()));
+    let (inside, rest) = text.split_at(quoting_len(quote, text.as_bytes()));
     if !closes_quote(may_note, quote, rest.as_bytes()) {
         return Ok(None);
     }
-    Ok(Some(Value::Text(String::from_str(alloc, inside)?)))
+    Ok(quoted_text(alloc, quote, inside)?.map(|text| Value::Text(text)))
 }
 
 // ---- plain texts
@@ -106,8 +77,30 @@ fn begins_plain(bytes: &[u8]) -> bool
     }
 }
 
+/// Whether a text is plain up to its end, without a comment.
+pub(crate) fn is_all_plain(text: &str) -> bool
+    ensures { result ≡ spec.is_all_plain text.now }
+{
+    begins_plain(text.as_bytes()) && plain_len(text.as_bytes()) == text.len()
+}
+
+/// Whether a text is plain, and nothing but a comment follows.
+pub(crate) fn is_plain_scalar(text: &str) -> bool
+    ensures { result ≡ spec.is_plain_scalar true text.now }
+{
+    begins_plain(text.as_bytes()) && is_rest(true, &text.as_bytes()[plain_len(text.as_bytes())..])
+}
+
+/// A plain text without a comment after it.
 #[tactic(auto, using(crate::proofs::Cuts::plain_cut))]
-fn plain(alloc: Global, may_note: bool, text: &str) -> Result<Option<Value>>
+pub(crate) fn plain_text(text: &str) -> &str
+    ensures { result.now ≡ spec.plain_text text.now }
+{
+    trimmed(&text[..plain_len(text.as_bytes())])
+}
+
+#[tactic(auto, using(crate::proofs::Cuts::plain_cut))]
+pub(crate) fn plain(alloc: Global, may_note: bool, text: &str) -> Result<Option<Value>>
     ensures { IsValueOrMemory (λ o. option_map view o) result (spec.plain_at may_note text.now) }
 {
     let (inside, rest) = text.split_at(plain_len(text.as_bytes()));
@@ -192,7 +185,7 @@ fn is_in_number(byte: u8) -> bool
         || (byte >= b'a' && byte <= b'f')
 }
 
-fn is_numeric(text: &str) -> bool
+pub(crate) fn is_numeric(text: &str) -> bool
     ensures { result ≡ spec.looks_numeric text.now }
 {
     match text.as_bytes() {
@@ -273,63 +266,4 @@ fn numeric_value(alloc: Global, text: &str) -> Result<Option<Value>>
         Some(number) => Ok(Some(Value::Integer(number))),
         None => Ok(None),
     }
-}
-
-// ---- lists in brackets
-
-/// What follows an open bracket, where a closing one ends it.
-fn bracket_list(alloc: Global, text: &str) -> Result<Option<Value>>
-    ensures { IsValueOrMemory (λ o. option_map view o) result (spec.list_at text.now) }
-{
-    match first_part(text, ']') {
-        (inside, Some(after)) if is_rest(true, after.as_bytes()) => {
-            let items = listed_in(alloc, inside)?;
-            Ok(items.map(|items| Value::Array(items)))
-        }
-        _ => Ok(None),
-    }
-}
-
-fn listed_in(alloc: Global, text: &str) -> Result<Option<Vec<Value>>>
-    ensures { IsValueOrMemory (λ o. option_map (λ v. items_view v.items) o) result
-        (spec.listed_in text.now) }
-{
-    if without_spaces(text).is_empty() {
-        return Ok(Some(Vec::new(alloc)));
-    }
-    entries(alloc, text)
-}
-
-/// The values between the commas of a text.
-fn entries(alloc: Global, text: &str) -> Result<Option<Vec<Value>>>
-    ensures { IsValueOrMemory (λ o. option_map (λ v. items_view v.items) o) result
-        (spec.entries (slice_split (λ b. b == 44) text.now)) }
-{
-    let mut values = Vec::new(alloc);
-    let mut left = Some(text);
-    while let Some(text) = left {
-        let (part, rest) = first_part(text, ',');
-        match entry_of(alloc, part)? {
-            Some(value) => values.push(value)?,
-            None => return Ok(None),
-        }
-        left = rest;
-    }
-    Ok(Some(values))
-}
-
-fn is_flat(text: &str) -> bool
-    ensures { result ≡ list_all spec.is_unnested text.now }
-{
-    text.bytes()
-        .all(|byte| byte != b'[' && byte != b'{' && byte != b'}')
-}
-
-fn entry_of(alloc: Global, text: &str) -> Result<Option<Value>>
-    ensures { IsValueOrMemory (λ o. option_map view o) result (spec.bracket_entry_at text.now) }
-{
-    if !is_flat(text) {
-        return Ok(None);
-    }
-    scalar_of(alloc, false, trimmed(without_spaces(text)))
 }

@@ -4,7 +4,7 @@ use Rattle.liquid_model.specs.View.{view, items_view}
 use Rattle.liquid_model.proofs.Views.{view-Array}
 use Rattle.liquid_yaml.specs.Places.{around_view, holding}
 use Rattle.liquid_yaml.proofs.Items.{items_push}
-use Rattle.liquid_yaml.proofs.places.Place.holding.Goals as goal
+use Rattle.liquid_yaml.proofs.place.Place.holding.Goals as goal
 
 pub returns-in_ok-push-in-Item : goal.returns-in_ok-push-in-Item
 returns-in_ok-push-in-Item c =
