@@ -90,6 +90,9 @@ enum {
     BIKLEINU_RESERVED_NAME = 111,  /* a tag's name that blocks have a use of: else, elsif, when, and what begins with end */
     BIKLEINU_TAKEN_NAME = 112,     /* a tag's name at which the language has a tag or a block of its own */
     BIKLEINU_NO_SUCH_STYLE = 113,  /* a number that is no style */
+    BIKLEINU_NO_VALUES = 114,      /* a text of given values that is no values with commas between them */
+    BIKLEINU_NO_SUCH_SET = 115,    /* a number that is no set of filters */
+    BIKLEINU_OTHER_PATHS = 116,    /* data that were read for paths, and a run that asks for more */
 
     /* of a page that a limit of the caller's ended: it holds the text up to there, and a fault of the kind Write (18) */
     BIKLEINU_BYTES_REACHED = 104,
@@ -114,9 +117,20 @@ uint32_t bikleinu_register(bikleinu_handle *language, const uint8_t *name, size_
 
 /* Registers the names of Jekyll's own filters, which bikleinu_answers_jekyll (below) lets the library answer, in a language: relative_url,
  * absolute_url, the four of dates, xml_escape, cgi_escape, uri_escape, jsonify, normalize_whitespace, number_of_words, to_integer,
- * array_to_sentence_string, group_by, where and find, and highlight, link, post_url and feed_meta, which tags of Jekyll's call. What such a
- * name stood for before is forgotten. After BIKLEINU_MEMORY some may be registered; after any other number but 0 nothing changed. */
+ * array_to_sentence_string, group_by, where, find and where_exp, and highlight, link, post_url, feed_meta and seo, which tags of Jekyll's call.
+ * What such a name stood for before is forgotten. After BIKLEINU_MEMORY some may be registered; after any other number but 0 nothing changed. */
 uint32_t bikleinu_register_jekyll(bikleinu_handle *language);
+
+/* Sets of filters that the library has itself. */
+enum {
+    BIKLEINU_SET_DECIMALS = 1, /* over exact decimals: decimal_plus and so on */
+    BIKLEINU_SET_JEKYLL = 2,
+    BIKLEINU_SET_SHOPIFY = 3
+};
+
+/* Makes the language of a set, as bikleinu --filters has it: the standard one with the names of the set's filters, and with the tags and blocks
+ * of Jekyll's or Shopify's templates. A table that bikleinu_answers_set (below) gives the set answers their calls. */
+uint32_t bikleinu_set_language(uint32_t set, bikleinu_handle *made);
 
 /* How what stands after the name of a tag of the caller's is read. */
 enum {
@@ -138,6 +152,14 @@ uint32_t bikleinu_register_tag(bikleinu_handle *language, const uint8_t *name, s
  * its input, and to the values. A block without its end is BIKLEINU_MISSING_END. */
 uint32_t bikleinu_register_block(bikleinu_handle *language, const uint8_t *name, size_t length, const uint8_t *filter, size_t filter_length,
                                  uint32_t style);
+
+/* The same with values that the filter is also given, after those of the tag: a text as "page.title, site.url", which is values as they
+ * stand in a tag with commas between them, or no bytes for none. One that is missing is nil for the filter, and no fault. A text that is no
+ * such values is BIKLEINU_NO_VALUES, before a refused name. The filter is registered with these among its numbers of arguments. */
+uint32_t bikleinu_register_tag_given(bikleinu_handle *language, const uint8_t *name, size_t length, const uint8_t *filter,
+                                     size_t filter_length, uint32_t style, const uint8_t *given, size_t given_length);
+uint32_t bikleinu_register_block_given(bikleinu_handle *language, const uint8_t *name, size_t length, const uint8_t *filter,
+                                       size_t filter_length, uint32_t style, const uint8_t *given, size_t given_length);
 
 /* Makes a language escape for HTML what outputs and cycle write, but not an output that ends with "| raw", in templates that are parsed from
  * then on. A captured text is escaped already, and needs it. */
@@ -228,8 +250,15 @@ uint32_t bikleinu_paths(bikleinu_handle *template_, bikleinu_handle *partials, b
  * takes less time and memory. The text is refused as by bikleinu_data, also for what no path asks for. The page of a template and its
  * partials whose paths these are is the same as over all of the data, whatever filters answer and however deep partials may nest: its
  * text, and the kind of the fault that it ends by. The message of that fault is about what was read, so it may not know of a similar
- * name. Any other page is one over what was read, and may end at a name that the text has and the paths don't ask for. */
+ * name. A rendering over such data first finds what its template and partials ask for, on BIKLEINU_CALL_STACK bytes of stack: where that is
+ * more than was read, there is no page, and the answer is BIKLEINU_OTHER_PATHS. */
 uint32_t bikleinu_data_for(const uint8_t *json, size_t length, bikleinu_handle *paths, bikleinu_handle *made);
+
+/* Makes the key of what such paths ask of the data in a text of JSON, which is refused as by bikleinu_data. It is read as BIKLEINU_TEXT: a text of
+ * JSON. Over data of one key the pages of a template and its partials whose paths these are, and their filters, are the same, so a key,
+ * or a digest of it, stands for a page that isn't rendered yet: as an ETag, or in a queue that drops equal jobs. Data that differ only in what
+ * no path asks for mostly have one key, but may have two. */
+uint32_t bikleinu_seen_key(const uint8_t *json, size_t length, bikleinu_handle *paths, bikleinu_handle *made);
 
 /* Filters of the caller's.
  *
@@ -238,11 +267,11 @@ uint32_t bikleinu_data_for(const uint8_t *json, size_t length, bikleinu_handle *
  * caller reads the calls, puts the answers into the table and renders again. A table is kept for further pages, which mostly need no
  * second run. So a filter is to be a function of its input and arguments: it isn't asked again what the table has. */
 
-/* Makes a table without filters, answers and a site. */
+/* Makes a table without filters, answers and sets. */
 uint32_t bikleinu_answers(bikleinu_handle *made);
 
 /* Adds a filter to a table by its name, unless it is there. After anything but 0 nothing changed. A page that calls a registered filter
- * which the table hasn't ends by BIKLEINU_UNSUPPORTED, but for Jekyll's own over a site (below). */
+ * which the table hasn't ends by BIKLEINU_UNSUPPORTED, but for those of its sets (below). */
 uint32_t bikleinu_answers_filter(bikleinu_handle *answers, const uint8_t *name, size_t length);
 
 /* Puts a site into a table, in place of the one before: its address, as "https://example.org", and its base path, as "/blog", or no bytes.
@@ -250,6 +279,12 @@ uint32_t bikleinu_answers_filter(bikleinu_handle *answers, const uint8_t *name, 
  * table has by their names. After anything but 0 nothing changed. */
 uint32_t bikleinu_answers_jekyll(bikleinu_handle *answers, const uint8_t *address, size_t address_length, const uint8_t *base,
                                  size_t base_length);
+
+/* Lets the library answer the calls of a set's filters itself, each with as many arguments as it takes, but for those that the table has by
+ * their names. What they know of a site or a shop is what data has, in place of what was known before: of Jekyll's site.url and
+ * site.baseurl, of Shopify's shop.money_format, shop.money_with_currency_format, collection.handle and current_tags. The data aren't
+ * looked at of decimals, but the handle holds some, as {}. After anything but 0 nothing changed. */
+uint32_t bikleinu_answers_set(bikleinu_handle *answers, uint32_t set, bikleinu_handle *data);
 
 /* Renders as bikleinu_render_within, with the filters of a table. Where the answer is BIKLEINU_LACKING, page holds calls that the table
  * lacks: at least one, at most BIKLEINU_CALLS, and each once. Each is to be answered (below), and then the same call made again.
@@ -277,7 +312,7 @@ uint32_t bikleinu_refuse(bikleinu_handle *answers, bikleinu_handle *calls, size_
 
 /* Parts of what a handle holds, each as UTF-8. */
 enum {
-    BIKLEINU_TEXT = 0,    /* the text of a page; calls, names or paths, in JSON */
+    BIKLEINU_TEXT = 0,    /* the text of a page; calls, names, paths or a key, in JSON */
     BIKLEINU_MESSAGE = 1, /* the message of a fault, or of a page's fault */
     BIKLEINU_NAME = 2,    /* the name of its kind, as UnknownVariable */
     BIKLEINU_PARTIAL = 3  /* the name of the partial that it stands in */

@@ -21,6 +21,10 @@ SHOP = long(town="Oslo", owner={"name": "Ada", "age": 40}, products=PRODUCTS)
 BAD = long(town="Oslo", part=1.5)
 
 
+# what converters made of a text
+CONVERSIONS = {"markdownify": {"*a*": "<p><em>a</em></p>"}, "smartify": {"*a*": "*a*"}}
+
+
 def case(title, template, words="d", data=SHOP, out="", errors=(), status=None, **files):
     """The page of a template over `d`, and the files that stand beside it."""
     return {"title": title, "words": f"render t {words}", "files": {"t": template, "d": data, **files}, "out": out, "errors": errors, "status": bool(errors) if status is None else status}
@@ -104,6 +108,12 @@ def used_cases():
         case("the base of a site in long data, and another member", "{{ '/x' | relative_url }} {{ site.pages.last }}", "d --filters jekyll", data=long(site={"baseurl": "/b", "pages": [1, 2]}), out="/b/x 2"),
         case("a site that isn't used but for its address", "{{ '/x' | absolute_url }}{% for i in list %}{{ i.a }}{% endfor %}", "d --filters jekyll", data=long(site={"pages": [1]}, list=[{"a": 1}]), out="/x1"),
         case("a site that is no map in long data", "{{ '/x' | absolute_url }}", "d --filters jekyll", data=long(site=["http://x.org"]), out="/x"),
+        case("a text that a converter of the data knows", "{{ t | markdownify }}{{ t | smartify }}", "d --filters jekyll", data=long(t="*a*", conversions=CONVERSIONS), out="<p><em>a</em></p>*a*"),
+        case("a text that no converter knows", "{{ t | markdownify }}", "d --filters jekyll", data=long(t="b", conversions=CONVERSIONS), errors=("error: t: InvalidInput: line 1, column 8: `markdownify`: the input must be a text that `conversions.markdownify` of the data has, not the text `b`",)),
+        case("data without conversions", "{{ t | smartify }}", "d --filters jekyll", data=long(t=5), errors=("error: t: InvalidInput: line 1, column 8: `smartify`: the input must be a text that `conversions.smartify` of the data has, not a number",)),
+        case("the text of a plugin in long data", "{% seo title=false %}{% seo %}", "d --filters jekyll", data=long(seo_tag="<title>Tea</title>"), out="<title>Tea</title><title>Tea</title>"),
+        case("data without the text of a plugin", "{% seo %}", "d --filters jekyll", errors=("error: t: InvalidArgument: line 1, column 1: `seo`: the argument must be `seo_tag` of the data, the text that jekyll-seo-tag writes for the page, not nil",)),
+        case("a partial of the page's folder", "{% include_relative parts/a.md of=town %}", "d --filters jekyll -p parts/a.md=parts/a.md", **{"parts/a.md": "in {{ include.of }}"}, out="in Oslo"),
         case("a condition over items of long data", "{% assign p = products | where_exp: 'p', 'p.price > 57' %}{{ p | map: 'title' | join }}", "d --filters jekyll", out="tea 58 tea 59"),
         case("a name that is similar to one of long data, with a set", "{{ towm }}", "d --filters shopify", errors=("error: t: UnknownVariable: line 1, column 4: `towm` has no value; did you mean `town`?", MISSING)),
         case("tags of a page in long data", "{{ 'a' | link_to_add_tag: 'a' }}", "d --filters shopify", data=long(collection={"handle": "teas", "x": 1}, current_tags=["b", 1, "c"]), out='<a title="Show tag a" href="/collections/teas/b+c+a">a</a>'),

@@ -1,5 +1,6 @@
 /* What templates ask of their data, as paths, data that are read no further, and pages in which what is missing is nil. It prints each
  * thing that isn't well, and at the end "asked: N". */
+#include <stdbool.h>
 #include <stdio.h>
 #include <string.h>
 
@@ -90,15 +91,57 @@ static void refuses(const char *json, uint32_t wanted, size_t wanted_line) {
 static void of_reading(void) {
     static const char all[] = "{\"lines\":[{\"count\":2,\"tea\":\"green\",\"of\":\"Assam\"}],\"shop\":{\"name\":\"Bay\"},\"n\":7}";
     reads_for("{% for line in lines %}{% render 'line', line: line %}{% endfor -%}", all, "- 2 of green\n", "{{ lines[0].of }}{{ n }}",
-              BIKLEINU_UNKNOWN_VARIABLE);
+              BIKLEINU_OTHER_PATHS);
     reads_for("{{ shop.name }}{% if lines %}!{% endif %}", all, "Bay!", "{{ shop.name }}", BIKLEINU_DONE);
-    reads_for("no data", all, "no data", "{{ n }}", BIKLEINU_UNKNOWN_VARIABLE);
+    reads_for("no data", all, "no data", "{{ n }}", BIKLEINU_OTHER_PATHS);
+    reads_for("{{ shop }}", "{\"shop\":\"Bay\"}", "Bay", "{% if shop %}{{ shop.size }}{% endif %}", BIKLEINU_DONE);
+    reads_for("{% for l in lines %}{{ l.tea }}{% endfor %}", all, "green", "{% for l in lines %}{{ l.of }}{% endfor %}",
+              BIKLEINU_OTHER_PATHS);
+    is("no page", (uint32_t)page.there, 0);
+    is("nor with a table", bikleinu_answers(&answers), BIKLEINU_DONE);
+    is("nor with a table", bikleinu_render_with(&template_, &data, &partials, 32, &(bikleinu_limits){.bytes = 9, .turns = 9}, &answers, &page),
+       BIKLEINU_OTHER_PATHS);
     reads_for("{{ n }}", all, "7", "{{ n }}", BIKLEINU_DONE);
     refuses("{\"n\":7,\n\"m\":[1.5]}", BIKLEINU_FLOAT, 2);
     refuses("{\"n\":7,\n\n\"m\":]}", BIKLEINU_INVALID_INPUT, 3);
     is("no paths to read for", bikleinu_data_for(bytes(all), strlen(all), &template_, &data), BIKLEINU_OTHER_HANDLE);
     is("nothing to read for", bikleinu_data_for(bytes(all), strlen(all), &none, &data), BIKLEINU_OTHER_HANDLE);
     is("no text to read", bikleinu_data_for(bytes("\xff"), 1, &paths, &data), BIKLEINU_NO_TEXT);
+}
+
+/* The key of a text for the paths that were found last. */
+static const char *key_of(const char *json) {
+    static char texts[2][ROOM];
+    static int at;
+    char *text = texts[at ^= 1];
+    is(json, bikleinu_seen_key(bytes(json), strlen(json), &paths, &made), BIKLEINU_DONE);
+    text[bikleinu_copy(&made, BIKLEINU_TEXT, (uint8_t *)text, ROOM - 1)] = 0;
+    return text;
+}
+
+/* Two texts have one key, or each its own. */
+static void keys(const char *one, const char *other, bool is_same) { is(other, !strcmp(key_of(one), key_of(other)), is_same); }
+
+/* A text has no key, where it gives no data. */
+static void has_no_key(const char *json, uint32_t wanted) { is(json, bikleinu_seen_key(bytes(json), strlen(json), &paths, &made), wanted); }
+
+/* Keys of what a template sees: the page over a text is that over its key. */
+static void of_keys(void) {
+    static const char tea[] = "{\"lines\":[{\"count\":2,\"tea\":\"green\",\"of\":\"Assam\"}],\"n\":7}";
+    asks("{% for line in lines %}{% render 'line', line: line %}{% endfor -%}", "[\"lines[].count\",\"lines[].tea\"]");
+    keys(tea, "{\"n\":8,\"lines\":[{\"tea\":\"green\",\"count\":2}]}", true);
+    keys(tea, "{\"lines\":[{\"count\":3,\"tea\":\"green\"}]}", false);
+    keys(tea, "{\"lines\":[{\"count\":2,\"tea\":\"green\"},{}]}", false);
+    keys("{}", "{\"lines\":null}", false);
+    const char *key = key_of(tea);
+    is("the key as data", bikleinu_data(bytes(key), strlen(key), &data), BIKLEINU_DONE);
+    is("render", bikleinu_render(&template_, &data, &partials, 32, &page), BIKLEINU_DONE);
+    reads("over a key", &page, "- 2 of green\n");
+    has_no_key("{\"n\":1.5}", BIKLEINU_FLOAT);
+    has_no_key("[]", BIKLEINU_INVALID_INPUT);
+    has_no_key("\xff", BIKLEINU_NO_TEXT);
+    is("no paths to ask for", bikleinu_seen_key(bytes(tea), strlen(tea), &template_, &made), BIKLEINU_OTHER_HANDLE);
+    is("nothing to ask for", bikleinu_seen_key(bytes(tea), strlen(tea), &none, &made), BIKLEINU_OTHER_HANDLE);
 }
 
 int main(void) {
@@ -118,6 +161,7 @@ int main(void) {
     is("no template", bikleinu_paths(&data, &none, &made), BIKLEINU_OTHER_HANDLE);
     is("no partials", bikleinu_paths(&template_, &data, &made), BIKLEINU_OTHER_HANDLE);
     of_reading();
+    of_keys();
     bikleinu_handle *all[] = {&language, &template_, &data, &partials, &paths, &made, &answers, &page};
     for (size_t at = 0; at < sizeof all / sizeof *all; at++) bikleinu_free(all[at]);
     printf("asked: %zu\n", tests);

@@ -194,8 +194,9 @@ def for_one_template():
             same(lambda: template.render(read), "2 green;1 black;"),
             same(lambda: template.render(template.data({"lines": [{"count": 0.5, "tea": [1]}]})), "0.5 1;"),
             same(lambda: template.render(template.data(text, others), others), "Assam.Ceylon."),
-            same(lambda: template.page(read, others).fault.name, "UnknownVariable"),
-            same(lambda: other.page(read).fault.name, "UnknownVariable"),
+            same(lambda: refusal(lambda: template.page(read, others))[:11], "OtherPaths:"),
+            same(lambda: refusal(lambda: other.render(read))[:11], "OtherPaths:"),
+            same(lambda: made.from_string("{{ lines.size }}").render(made.from_string("{{ lines }}").data(text)), "2"),
             same(lambda: other.render(other.data(text)), "7"),
             same(lambda: template.render(template.data('{"lines": [{"of": 1}]}'), missing="nil"), " ;"),
             *(same(lambda: refusal(lambda: other.data(bad)), refusal(lambda: Data(bad))) for bad in ('{"n": 1,\n"m": 1.5}', '{"m": [}', "[]")),
@@ -461,7 +462,30 @@ def examples():
     return f"{wrong}" if wrong or sum(result.attempted for _, result in results) < 10 else None
 
 
+def keys():
+    """Keys of what templates see: they differ where a page could."""
+    made = Environment(partials={"line": "{{ line.title }}"}, decimals="text")
+    template = made.from_string("{% for line in lines %}{% render 'line', line: line %};{% endfor %}")
+    one, other = ({"lines": [{"title": "Tea", "price": price}], "n": price} for price in (1.5, 2))
+    key = template.seen_key(one)
+    return first(
+        [
+            same(lambda: template.seen_key(other), key),
+            same(lambda: template.seen_key(**other), key),
+            same(lambda: template.seen_key('{"lines": [{"title": "Tea"}]}'), key),
+            same(lambda: template.render(key), template.render(one)),
+            same(lambda: template.seen_key(lines=[{"title": "Teas"}]) == key, False),
+            same(lambda: template.seen_key(one, {"line": "{{ line.price }}"}) == key, False),
+            same(lambda: template.seen_key() == template.seen_key(lines=[]), False),
+            raises(lambda: template.seen_key('{"lines": 1.5}'), LiquidError),
+            raises(lambda: template.seen_key("{}", n=1), TypeError),
+            raises(lambda: template.seen_key(lines=object()), LiquidError),
+        ]
+    )
+
+
 CHECKS = {
+    "keys of what is seen": keys,
     "data that are refused": refused,
     "what is made of values": shown,
     "names beside data": names,

@@ -338,6 +338,74 @@ def sites():
     )
 
 
+def about(*values, title, name=None):
+    return f"{values} {title} {name}"
+
+
+def framed(body, *, name):
+    return f"{name}[{body}]"
+
+
+def given():
+    """Values that tags and blocks are given by keywords: None where a page's data have nothing there, which is no fault."""
+    made = Environment()
+    made.tag("about", given={"title": "page.title", "name": "site.author"})(about)
+    made.block("frame", given={"name": "site.name"})(framed)
+    copied = pickle.loads(pickle.dumps(made))
+    source = "{% about %}|{% about 'x' 2 %}|{% frame %}b{% endframe %}"
+    data = {"page": {"title": "T"}, "site": {"author": 3}}
+    wanted = "() T 3|('x', 2) T 3|None[b]"
+    one = Environment()
+    one.tag("one", given={"title": "t"})(lambda title: title)
+    return first(
+        [
+            same(lambda: made.from_string(source).render(data), wanted),
+            same(lambda: copied.from_string(source).render(data), wanted),
+            same(lambda: made.from_string(source).paths(), ["page.title", "site.author", "site.name"]),
+            same(lambda: one.from_string("{% one %}").render(t=5), "5"),
+            raises(lambda: one.from_string("{% one 1 %}"), LiquidError),
+            same(lambda: name_of_given({"title": "a b"}), "NoValues"),
+            raises(lambda: made.tag("x", given={"title": "a, b"})(about), ValueError),
+            raises(lambda: made.tag("x", given={"title": 3})(about), TypeError),
+        ]
+    )
+
+
+def name_of_given(values):
+    try:
+        Language().add_tag("x", about, given=values)
+    except LiquidError as error:
+        return error.name if error.message else "no message"
+    return None
+
+
+def sets():
+    """The sets of filters that the library has itself, over what the data of each page say."""
+    shop = Environment(filters="shopify")
+    shop.filters["own"] = own
+    money = shop.from_string("{{ 1999 | money | own }} {% style %}a{% endstyle %}")
+    site = Environment(filters="jekyll")
+    urls = site.from_string("{{ '/t' | absolute_url }} {{ xs | where_exp: 'x', 'x.a > 1' | size }}")
+    decimals = Environment(filters="decimals", autoescape=True).from_string("{{ p | decimal_times: 3 }}{{ '<' }}")
+    placed = Environment(jekyll=True, site=("https://example.org", ""))
+    place = {"site": {"url": "https://example.org", "baseurl": "/b"}, "xs": [{"a": 1}, {"a": 2}]}
+    return first(
+        [
+            same(lambda: money.render(shop={"money_format": "EUR {{amount}}"})[:9], "EUR 19.99"),
+            same(lambda: money.render()[:7], "$ 19.99"),
+            same(lambda: pickle.loads(pickle.dumps(money)).render(shop={"money_format": "{{amount}} EUR"})[:9], "19.99 EUR"),
+            same(lambda: urls.render(place), "https://example.org/b/t 1"),
+            same(lambda: urls.render(xs=[]), "/t 0"),
+            same(lambda: urls.render(urls.data('{"xs": [], "site": {"url": "https://a.org"}}')), "https://a.org/t 0"),
+            same(lambda: decimals.render(p="19.99"), "59.97&lt;"),
+            same(lambda: placed.from_string("{{ xs | where_exp: 'x', 'x.a > 1' | jsonify }}").render(place), '[{"a":2}]'),
+            same(lambda: money.seen_key(shop={"money_format": "a"}) == money.seen_key(shop={"money_format": "b"}), False),
+            same(lambda: repr(Language(filters="shopify")), "<bikleinu.Language, shopify>"),
+            raises(lambda: Environment(filters="Shopify"), ValueError),
+        ]
+    )
+
+
 CHECKS = {
     "pages of filters in Python": pages,
     "each call once": asked_once,
@@ -351,6 +419,8 @@ CHECKS = {
     "Jekyll's filters over a site": sites,
     "tags and blocks": tags,
     "refused tags": refused_tags,
+    "given values": given,
+    "sets of filters": sets,
     "what a repr shows": shown,
 }
 

@@ -49,7 +49,7 @@ typedef struct {
     text source, data, name;
 } row;
 
-enum { LANGUAGE, TEMPLATE, PARTIAL, PARTIALS, DATA, PAGE, PATHS, READ, SHARED, NAMES, CALLED, WITHIN, HANDLES };
+enum { LANGUAGE, TEMPLATE, PARTIAL, PARTIALS, DATA, PAGE, PATHS, READ, SHARED, NAMES, CALLED, WITHIN, KEY, HANDLES };
 
 static bikleinu_handle held[HANDLES];
 static size_t rows, calls, refused, wrong;
@@ -62,6 +62,7 @@ static uint32_t read_data(const row *it) { return bikleinu_data(it->data.at, it-
 static uint32_t insert(const row *it) { return bikleinu_insert(&held[PARTIALS], it->name.at, it->name.length, &held[PARTIAL]); }
 static uint32_t find_paths(const row *it) { return (void)it, bikleinu_paths(&held[TEMPLATE], &held[PARTIALS], &held[PATHS]); }
 static uint32_t read_for(const row *it) { return bikleinu_data_for(it->data.at, it->data.length, &held[PATHS], &held[READ]); }
+static uint32_t make_key(const row *it) { return bikleinu_seen_key(it->data.at, it->data.length, &held[PATHS], &held[KEY]); }
 static uint32_t render_read(const row *it) { return (void)it, bikleinu_render(&held[TEMPLATE], &held[READ], &held[PARTIALS], 32, &held[PAGE]); }
 static uint32_t share(const row *it) { return (void)it, bikleinu_share(&held[TEMPLATE], &held[SHARED]); }
 static uint32_t render_shared(const row *it) { return (void)it, bikleinu_render(&held[SHARED], &held[DATA], &held[PARTIALS], 32, &held[PAGE]); }
@@ -197,8 +198,10 @@ int main(void) {
             if (!is_same(PAGE, render_shared(&it), ended, page)) report("render of what is shared", 0, ended, "and another page");
             each("paths", find_paths, &it, PATHS, false);
             each("data for the template", read_for, &it, READ, false);
+            each("key", make_key, &it, KEY, false);
             if (!is_same_page(render_read(&it), ended, page, length)) report("render of what is read for it", 0, ended, "and another page");
             free(page.at);
+            each("render of what is read for it", render_read, &it, PAGE, false);
             each("render where what is missing is nil", render_lenient, &it, WITHIN, false);
         }
         free(it.source.at), free(it.data.at);

@@ -140,7 +140,8 @@ static void measure(run it) {
 /* What they are made with: the deepest that they take, and what they make. */
 static bikleinu_handle language = BIKLEINU_NONE, template_ = BIKLEINU_NONE, partials = BIKLEINU_NONE, paths = BIKLEINU_NONE, data = BIKLEINU_NONE;
 static bikleinu_handle answers = BIKLEINU_NONE, lacking = BIKLEINU_NONE, answer = BIKLEINU_NONE, made = BIKLEINU_NONE;
-static char source[MOST], json[MOST], text[MOST];
+static bikleinu_handle part = BIKLEINU_NONE;
+static char source[MOST], json[MOST], text[MOST], given[MOST];
 
 static void write_times(char *into, const char *piece, size_t times) {
     for (into += strlen(into); times; times--) into += strlen(strcpy(into, piece));
@@ -169,6 +170,17 @@ static uint32_t finds_called(void) { return bikleinu_partial_names(&template_, &
 static uint32_t finds_paths(void) { return bikleinu_paths(&template_, &partials, &made); }
 static uint32_t reads_data(void) { return bikleinu_data(bytes(json), strlen(json), &made); }
 static uint32_t reads_data_for(void) { return bikleinu_data_for(bytes(json), strlen(json), &paths, &made); }
+static uint32_t makes_key(void) { return bikleinu_seen_key(bytes(json), strlen(json), &paths, &made); }
+/* a page over data that were read for paths first finds its own, on this stack too */
+static uint32_t renders_part(void) {
+    return bikleinu_render_with(&template_, &part, &partials, 0, &(bikleinu_limits){.levels = 1, .bytes = 9, .turns = 9}, &answers, &made) ==
+           BIKLEINU_TOO_MANY_LEVELS ? BIKLEINU_DONE : 1;
+}
+static uint32_t gives_values(void) {
+    return bikleinu_register_tag_given(&language, bytes("t"), 1, bytes("f"), 1, BIKLEINU_STYLE_ITEMS, bytes(given), strlen(given));
+}
+static uint32_t makes_set_language(void) { return bikleinu_set_language(BIKLEINU_SET_SHOPIFY, &made); }
+static uint32_t places_set(void) { return bikleinu_answers_set(&answers, BIKLEINU_SET_SHOPIFY, &data); }
 static uint32_t answers_call(void) { return bikleinu_answer(&answers, &lacking, 0, &answer); }
 static uint32_t shares(void) { return bikleinu_share(&data, &made); }
 static uint32_t copies(void) {
@@ -182,7 +194,9 @@ static const struct {
 } others[] = {
     {"bikleinu_parse", parses}, {"bikleinu_names", reads_names}, {"bikleinu_partial_names", finds_called},
     {"bikleinu_paths", finds_paths}, {"bikleinu_data", reads_data},
-    {"bikleinu_data_for", reads_data_for}, {"bikleinu_answer", answers_call},
+    {"bikleinu_data_for", reads_data_for}, {"bikleinu_seen_key", makes_key}, {"bikleinu_render_with", renders_part},
+    {"bikleinu_register_tag_given", gives_values}, {"bikleinu_set_language", makes_set_language},
+    {"bikleinu_answers_set", places_set}, {"bikleinu_answer", answers_call},
     {"bikleinu_share", shares}, {"bikleinu_copy", copies}};
 
 /* Makes one of them, and frees what it makes. */
@@ -207,6 +221,9 @@ static void make_deepest(void) {
     need(bikleinu_insert(&partials, bytes("p"), 1, &partial));
     need(bikleinu_paths(&template_, &partials, &paths));
     need(bikleinu_data(bytes(json), strlen(json), &data));
+    need(bikleinu_data_for(bytes(json), strlen(json), &paths, &part));
+    *given = 0;
+    write_times(given, "d[", NESTED), write_times(given, "d", 1), write_times(given, "]", NESTED);
     need(bikleinu_data(bytes(json), strlen(json), &answer));
     need(bikleinu_answers(&answers));
     need(bikleinu_answers_filter(&answers, bytes("f"), 1));

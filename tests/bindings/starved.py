@@ -61,6 +61,9 @@ def calls(folder):
         "new filters": lambda: Environment(filters={"shout": upper}).from_string("{{ 'a' | shout }}").render(),
         "jekyll's filters": lambda: Environment(site=("http://x.org", "/b")).from_string("{{ 'a' | absolute_url }}").render(),
         "new tags": lambda: tagged().from_string("{% loud %}a{% up 'b' %}{% endloud %}").render(),
+        "given values": lambda: about().from_string("{% about %}").render(page={"title": "T"}),
+        "a set of filters": lambda: Environment(filters="shopify").from_string("{{ 1999 | money }}").render({"shop": {"money_format": "{{amount}}"}}),
+        "a key": lambda: template.seen_key(DATA, partials),
         "a fault": lambda: Template("{{ a | plus: 'x' }}").page({"a": 1}).fault.name,
         "a folder": lambda: Environment(partials=folder).from_string(SOURCE).render(DATA),
         "a folder that is read again": lambda: changed(again, folder, data),
@@ -70,6 +73,19 @@ def calls(folder):
 
 def upper(text):
     return text.upper()
+
+
+def about():
+    """An environment with a tag that is given a value."""
+    from bikleinu import Environment
+
+    made = Environment()
+    made.tag("about", given={"title": "page.title"})(titled)
+    return made
+
+
+def titled(title):
+    return f"<{title}>"
 
 
 def tagged():

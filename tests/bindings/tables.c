@@ -447,10 +447,89 @@ static void of_sites(void) {
     end();
 }
 
+static uint32_t add_given(const char *name, const char *filter, const char *given) {
+    return bikleinu_register_tag_given(&language, bytes(name), strlen(name), bytes(filter), strlen(filter), BIKLEINU_STYLE_ITEMS, bytes(given),
+                                       strlen(given));
+}
+static uint32_t frame_given(const char *given) {
+    return bikleinu_register_block_given(&language, bytes("frame"), 5, bytes("{% box %}"), 9, BIKLEINU_STYLE_TEXT, bytes(given), strlen(given));
+}
+static uint32_t register_about(void) { return add_given("about", "about", "page.title, site['a b'], 3"); }
+static uint32_t register_frame(void) { return frame_given("site.name,"); }
+
+/* Values that are given with a tag and a block: nil where one is missing, also where what is missing is a fault. */
+static void of_given(void) {
+    begin_tags("", "{\"page\":{\"title\":\"T\"},\"site\":{\"name\":\"N\"}}");
+    is("the filter of about", bikleinu_register(&language, bytes("about"), 5, 3, 4), BIKLEINU_DONE);
+    is("about in the table", bikleinu_answers_filter(&answers, bytes("about"), 5), BIKLEINU_DONE);
+    each("a tag with given values", register_about), each("a block with one", register_frame);
+    is("parse", parse("{% about %}{% about 'x' %}{% frame %}b{% endframe %}"), BIKLEINU_DONE);
+    renders(BIKLEINU_LACKING, BIKLEINU_TEXT, "[[\"about\",null,\"T\",null,3],[\"about\",null,\"x\",\"T\",null,3],[\"{% box %}\",\"b\",\"N\"]]");
+    refuses("{% about 1, 2 %}", BIKLEINU_FILTER_ARGUMENTS, 1, "about");
+    is("no given values", add_given("about", "money", ""), BIKLEINU_DONE);
+    is("parse", parse("{% about %}"), BIKLEINU_DONE);
+    renders(BIKLEINU_LACKING, BIKLEINU_TEXT, "[[\"money\",null]]");
+    is("no comma", add_given("else", "f", "a b"), BIKLEINU_NO_VALUES);
+    is("a filter", add_given("about", "f", "a | size"), BIKLEINU_NO_VALUES);
+    is("more than values", frame_given("a %} b"), BIKLEINU_NO_VALUES);
+    is("white space", frame_given(" "), BIKLEINU_NO_VALUES);
+    is("no text of values", frame_given("\xff"), BIKLEINU_NO_TEXT);
+    is("a reserved name", add_given("else", "f", "a"), BIKLEINU_RESERVED_NAME);
+    is("in data", bikleinu_register_tag_given(&data, bytes("a"), 1, bytes("f"), 1, 9, bytes("a"), 1), BIKLEINU_OTHER_HANDLE);
+    is("nothing came of it", parse("{% about %}"), BIKLEINU_DONE);
+    renders(BIKLEINU_LACKING, BIKLEINU_TEXT, "[[\"money\",null]]");
+    end();
+}
+
+static uint32_t set_now;
+static uint32_t make_set_language(void) { return bikleinu_set_language(set_now, &language); }
+static uint32_t put_set(void) { return bikleinu_answers_set(&answers, set_now, &data); }
+
+/* A page in the language of a set, whose filters the library answers over what the data say. */
+static void of_set(uint32_t set, const char *source, const char *json, const char *wanted) {
+    set_now = set;
+    each("the language of a set", make_set_language);
+    is(source, parse(source), BIKLEINU_DONE);
+    is("data", bikleinu_data(bytes(json), strlen(json), &data), BIKLEINU_DONE);
+    is("answers", bikleinu_answers(&answers), BIKLEINU_DONE);
+    renders(BIKLEINU_UNSUPPORTED, BIKLEINU_TEXT, "");
+    each("a set", put_set);
+    renders(BIKLEINU_DONE, BIKLEINU_TEXT, wanted);
+    end();
+}
+
+/* The sets of filters that the library has itself. */
+static void of_sets(void) {
+    of_set(BIKLEINU_SET_DECIMALS, "{{ p | decimal_times: 3 }} {{ p | decimal_compare: '20' }}", "{\"p\":\"19.99\"}", "59.97 -1");
+    of_set(BIKLEINU_SET_SHOPIFY, "{{ p | money }} {{ 'Green Tea' | handleize }}", "{\"p\":1999,\"shop\":{\"money_format\":\"EUR {{amount}}\"}}",
+           "EUR 19.99 green-tea");
+    of_set(BIKLEINU_SET_JEKYLL, "{{ '/t' | absolute_url }} {{ xs | where_exp: 'x', 'x.a > 1' | size }}{% link a.md %}",
+           "{\"xs\":[{\"a\":1},{\"a\":2}],\"site\":{\"url\":\"https://example.org\",\"baseurl\":\"/b\",\"pages\":[{\"path\":\"a.md\",\"url\":\"/a.html\"}]}}",
+           "https://example.org/b/t 1/b/a.html");
+    begin("", "{\"answer\":\"own\"}");
+    is("no set", bikleinu_set_language(0, &answer), BIKLEINU_NO_SUCH_SET);
+    is("nor this", bikleinu_answers_set(&answers, 4, &data), BIKLEINU_NO_SUCH_SET);
+    is("no data", bikleinu_answers_set(&answers, BIKLEINU_SET_DECIMALS, &partials), BIKLEINU_OTHER_HANDLE);
+    is("no table", bikleinu_answers_set(&language, BIKLEINU_SET_SHOPIFY, &data), BIKLEINU_OTHER_HANDLE);
+    is("decimals", bikleinu_answers_set(&answers, BIKLEINU_SET_DECIMALS, &data), BIKLEINU_DONE);
+    is("a name of the table's", bikleinu_answers_filter(&answers, bytes("decimal_plus"), 12), BIKLEINU_DONE);
+    is("its filter", bikleinu_register(&language, bytes("decimal_plus"), 12, 0, 2), BIKLEINU_DONE);
+    is("its filter", bikleinu_register(&language, bytes("decimal_minus"), 13, 0, 2), BIKLEINU_DONE);
+    is("parse", parse("{{ 1 | decimal_plus: 2 }} {{ 1 | decimal_minus: 2 }}"), BIKLEINU_DONE);
+    renders(BIKLEINU_LACKING, BIKLEINU_TEXT, "[[\"decimal_plus\",1,2]]");
+    is("answer", bikleinu_answer(&answers, &page, 0, &data), BIKLEINU_DONE);
+    renders(BIKLEINU_DONE, BIKLEINU_TEXT, "own -1");
+    is("another number of arguments", parse("{{ 1 | decimal_minus }}"), BIKLEINU_DONE);
+    renders(BIKLEINU_UNSUPPORTED, BIKLEINU_TEXT, "");
+    is("share", bikleinu_share(&answers, &answer), BIKLEINU_DONE);
+    is("for what is shared", bikleinu_answers_set(&answers, BIKLEINU_SET_SHOPIFY, &data), BIKLEINU_SHARED_HANDLE);
+    end();
+}
+
 int main(void) {
     size_t before = blocks;
     of_rounds(), of_faults(), of_memory(), of_refusals(), of_languages(), of_escaping(), of_bounds(), of_limits();
-    of_tags(), of_refused_tags(), of_highlight(), of_sites();
+    of_tags(), of_refused_tags(), of_given(), of_highlight(), of_sites(), of_sets();
     if (blocks != before) wrong++, printf("%zu pieces of memory are left\n", blocks - before);
     printf("tables: %zu\n", tests);
     return wrong != 0;

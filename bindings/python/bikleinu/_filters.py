@@ -7,7 +7,7 @@ import threading
 from typing import Any, Callable, Dict, List, NamedTuple, Optional, Tuple
 
 from ._library import library
-from ._owner import TEXT, Owner, utf8
+from ._owner import TEXT, Owner, lent, utf8
 from ._values import Conversions, encoded
 from .errors import INVALID_INPUT, LACKING, LimitError, LiquidError, refused
 
@@ -30,11 +30,23 @@ class Table(Owner):
         self.answers = 0
         self._need(library.bikleinu_answers(self._handle))
         if site:
-            address, base = map(utf8, site)
-            self._need(library.bikleinu_answers_jekyll(self._handle, address, len(address), base, len(base)))
+            self.place(site)
         for name in names:
             text = utf8(name)
             self._need(library.bikleinu_answers_filter(self._handle, text, len(text)))
+
+    def place(self, site: Site) -> None:
+        """Lets the library answer Jekyll's filters over a site."""
+        address, base = map(utf8, site)
+        self._need(library.bikleinu_answers_jekyll(self._handle, address, len(address), base, len(base)))
+
+    def use(self, set_number: int, data: Optional[Owner]) -> None:
+        """Lets the library answer the filters of a set, over what data say."""
+        if data is None:
+            data = Owner()
+            data._need(library.bikleinu_data(b"{}", 2, data._handle))
+        with lent(data) as (given,):
+            self._need(library.bikleinu_answers_set(self._handle, set_number, given))
 
     def put(self, calls: Owner, number: int, answer: bytes) -> None:
         """Puts in the answer to a call, which is the member "answer" of a text of JSON."""
@@ -58,11 +70,20 @@ class _Tables(threading.local):
 
 
 class Tag(NamedTuple):
-    """What stands for a tag: its function, how what stands after its name is read, and whether it is a block."""
+    """What stands for a tag: its function, how what stands after its name is read, whether it is a block, and the values that its
+    function is given by keywords, each as a template names it."""
 
     function: Function
     style: str
     is_block: bool
+    given: Tuple[Tuple[str, str], ...] = ()
+
+    def call(self, value: Any, arguments: List[Any]) -> Any:
+        """What the function answers to the text of a block, the values of the tag and those that it is given."""
+        count = len(arguments) - len(self.given)
+        given = {name: argument for (name, _), argument in zip(self.given, arguments[count:])}
+        values = [value, *arguments[:count]] if self.is_block else arguments[:count]
+        return self.function(*values, **given)
 
 
 def filter_of(tag: str) -> str:
@@ -71,11 +92,11 @@ def filter_of(tag: str) -> str:
 
 
 class Filters:
-    """Functions by their names, and the site over which the library itself answers Jekyll's filters. Each thread has a table of its own,
-    so that no two wait for each other."""
+    """Functions by their names, and the site over which the library itself answers Jekyll's filters, or the number of a set that it
+    answers over what the data of a page say. Each thread has a table of its own, so that no two wait for each other."""
 
-    def __init__(self, site: Optional[Site] = None) -> None:
-        self.site = site
+    def __init__(self, site: Optional[Site] = None, set_number: int = 0) -> None:
+        self.site, self.set_number = site, set_number
         self.functions: Dict[str, Function] = {}
         self.tags: Dict[str, Tag] = {}
         self._tag_of: Dict[str, Tag] = {}
@@ -83,10 +104,10 @@ class Filters:
         self._tables = _Tables()
 
     def __reduce__(self) -> Any:
-        return _filters, (self.functions, self.tags, self.site)
+        return _filters, (self.functions, self.tags, self.site, self.set_number)
 
     def __bool__(self) -> bool:
-        return bool(self.functions or self.tags or self.site)
+        return bool(self.functions or self.tags or self.site or self.set_number)
 
     def add(self, name: str, function: Function) -> None:
         """Adds a function, in place of the one of that name."""
@@ -103,13 +124,17 @@ class Filters:
         tag = self._tag_of.get(name)
         if tag is None:
             return self.functions[name](value, *arguments)
-        return tag.function(value, *arguments) if tag.is_block else tag.function(*arguments)
+        return tag.call(value, arguments)
 
-    def table(self) -> Table:
-        """This thread's table, which is begun anew where it holds much, or answers of a function that was replaced."""
+    def table(self, data: Optional[Owner] = None) -> Table:
+        """This thread's table for a page over data. It is begun anew where it holds much, or answers of a function that was replaced."""
         table = self._tables.table
         if table is None or table.version != self._version or table.answers > _ANSWERS:
             table = self._tables.table = Table([*self.functions, *self._tag_of], self._version, self.site)
+        if self.set_number:
+            table.use(self.set_number, data)
+            if self.site:
+                table.place(self.site)
         return table
 
     def forget(self) -> None:
@@ -117,8 +142,8 @@ class Filters:
         self._tables.table = None
 
 
-def _filters(functions: Dict[str, Function], tags: Dict[str, Tag], site: Optional[Site]) -> Filters:
-    made = Filters(site)
+def _filters(functions: Dict[str, Function], tags: Dict[str, Tag], site: Optional[Site], set_number: int) -> Filters:
+    made = Filters(site, set_number)
     for name, function in functions.items():
         made.add(name, function)
     for name, tag in tags.items():
@@ -126,14 +151,15 @@ def _filters(functions: Dict[str, Function], tags: Dict[str, Tag], site: Optiona
     return made
 
 
-def arity(function: Function, has_input: bool = True) -> Tuple[int, int]:
-    """How many arguments a function takes by their places, beside its input where it has one: at least, and at most."""
+def arity(function: Function, has_input: bool = True, given: Tuple[str, ...] = ()) -> Tuple[int, int]:
+    """How many arguments a function takes by their places, beside its input where it has one, and those that it is given by name: at
+    least, and at most."""
     by_place = (inspect.Parameter.POSITIONAL_ONLY, inspect.Parameter.POSITIONAL_OR_KEYWORD)
     try:
         taken = inspect.signature(function).parameters.values()
     except ValueError:
         return 0, _ANY_NUMBER  # a function in C that doesn't say
-    places = [it for it in taken if it.kind in by_place]
+    places = [it for it in taken if it.kind in by_place and it.name not in given]
     takes_any = any(it.kind is inspect.Parameter.VAR_POSITIONAL for it in taken)
     if has_input and not places and not takes_any:
         raise TypeError("the function of a filter or a block takes its input by its place, and then its arguments")
@@ -148,9 +174,9 @@ class Run:
         self.filters, self.how, self.most = filters, how, most
         self.errors: Dict[str, BaseException] = {}
 
-    def page(self, render: Callable[[Owner, Table], int]) -> Tuple[int, Owner]:
-        """The number that a run ended by, and its page, when each call that it lacked is answered."""
-        table = self.filters.table()
+    def page(self, render: Callable[[Owner, Table], int], data: Optional[Owner]) -> Tuple[int, Owner]:
+        """The number that a run over data ended by, and its page, when each call that it lacked is answered."""
+        table = self.filters.table(data)
         for asked in range(self.most + 1):
             page = Owner()
             answer = render(page, table)

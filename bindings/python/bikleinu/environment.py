@@ -13,7 +13,7 @@ from ._owner import listed, new_lock, whole
 from ._settings import Missing, Settings, missing_of
 from ._values import Conversions
 from .data import Data
-from .language import Called, Functions, Language
+from .language import Called, Functions, Given, Language
 from .partials import Partials
 from .template import Template
 
@@ -34,8 +34,8 @@ class Environment:
 
     depth, levels, max_bytes and max_turns are as of Template.page, decimals, dates and default as of Data.
 
-    filters are functions in Python by their names (as of Language.add_filter); a page asks them in at most max_rounds rounds. jekyll
-    site and autoescape are as of Language. missing is as of Template.page: with missing="nil" what is missing is nil. The
+    filters are functions in Python by their names (as of Language.add_filter), or a set of the library's; a page asks functions in at most
+    max_rounds rounds. jekyll, site, autoescape and sets are as of Language. missing is as of Template.page: with missing="nil" what is missing is nil. The
     partials of a mapping are parsed with the first template, so filters that are added until then are known to them; those of a folder
     when they are read.
 
@@ -46,7 +46,7 @@ class Environment:
         self,
         *,
         partials: Union[Partials, Mapping[str, str], str, "os.PathLike[str]", None] = None,
-        filters: Mapping[str, Function] | None = None,
+        filters: Mapping[str, Function] | str | None = None,
         missing: Missing = "fault",
         jekyll: bool = False,
         site: Site | None = None,
@@ -114,22 +114,22 @@ class Environment:
     def tag(self, name: Called) -> Called: ...
 
     @overload
-    def tag(self, name: str | None = None, *, style: str = "items") -> Callable[[Called], Called]: ...
+    def tag(self, name: str | None = None, *, style: str = "items", given: Given = None) -> Callable[[Called], Called]: ...
 
-    def tag(self, name: Any = None, *, style: str = "items") -> Any:
+    def tag(self, name: Any = None, *, style: str = "items", given: Given = None) -> Any:
         """Makes a tag of the function that follows, under this name or its own (as of Language.add_tag), for what is parsed from now
         on."""
-        return self._language.tag(name, style=style)
+        return self._language.tag(name, style=style, given=given)
 
     @overload
     def block(self, name: Called) -> Called: ...
 
     @overload
-    def block(self, name: str | None = None, *, style: str = "items") -> Callable[[Called], Called]: ...
+    def block(self, name: str | None = None, *, style: str = "items", given: Given = None) -> Callable[[Called], Called]: ...
 
-    def block(self, name: Any = None, *, style: str = "items") -> Any:
+    def block(self, name: Any = None, *, style: str = "items", given: Given = None) -> Any:
         """Makes a block of the function that follows, which gets the text of the body first (as of Language.add_block)."""
-        return self._language.block(name, style=style)
+        return self._language.block(name, style=style, given=given)
 
     def from_string(self, source: str) -> Template:
         """The template of a source."""
@@ -152,15 +152,17 @@ class Environment:
 
     def __reduce__(self) -> Any:
         usual, how = self._usual, self._usual.how
-        named = {"partials": self.partials, "filters": self._language._filters.functions, "jekyll": self._language._jekyll}
+        named = {"partials": self.partials, "filters": self._language._set, "jekyll": self._language._jekyll}
         named.update(site=self._language._filters.site, missing=usual.missing, depth=usual.depth, levels=usual.levels, max_bytes=usual.max_bytes)
         named.update(max_turns=usual.max_turns, max_rounds=usual.max_rounds)
         named.update(decimals=how.decimals, dates=how.dates, default=how.default, autoescape=self._language._autoescape)
-        return _environment, (named, self._language._filters.tags)
+        return _environment, (named, self._language._filters.functions, self._language._filters.tags)
 
 
-def _environment(named: dict[str, Any], tags: Mapping[str, Tag]) -> Environment:
+def _environment(named: dict[str, Any], functions: Mapping[str, Function], tags: Mapping[str, Tag]) -> Environment:
     made = Environment(**named)
+    for name, function in functions.items():
+        made._language.add_filter(name, function)
     for name, tag in tags.items():
         made._language._add_tag(name, tag)
     return made

@@ -47,6 +47,8 @@ class Kind(enum.IntEnum):
     NO_WORD = 110
     RESERVED_NAME = 111
     TAKEN_NAME = 112
+    NO_VALUES = 114
+    OTHER_PATHS = 116
 
 
 INVALID_INPUT = Kind.INVALID_INPUT.value
@@ -63,6 +65,8 @@ SHARED_HANDLE = Kind.SHARED_HANDLE.value
 NO_WORD = Kind.NO_WORD.value
 RESERVED_NAME = Kind.RESERVED_NAME.value
 TAKEN_NAME = Kind.TAKEN_NAME.value
+NO_VALUES = Kind.NO_VALUES.value
+OTHER_PATHS = Kind.OTHER_PATHS.value
 
 NAMES = {
     INVALID_INPUT: "InvalidInput",
@@ -74,6 +78,8 @@ NAMES = {
     NO_WORD: "NoWord",
     RESERVED_NAME: "ReservedName",
     TAKEN_NAME: "TakenName",
+    NO_VALUES: "NoValues",
+    OTHER_PATHS: "OtherPaths",
 }
 LIMITS = {
     BYTES_REACHED: ("BytesReached", "the page takes more bytes than max_bytes"),
@@ -89,6 +95,8 @@ MESSAGES = {
     NO_WORD: "a tag's name is a word: a letter or `_`, then letters, digits, `_` and `-`",
     RESERVED_NAME: "blocks have a use of `else`, `elsif`, `when` and what begins with `end`, so no tag has such a name",
     TAKEN_NAME: "the language has a tag or a block of this name; give yours another",
+    NO_VALUES: "a given value is a value as it stands in a tag, as 'page.title'",
+    OTHER_PATHS: "the data were read for another template, and this one uses more of them; read them for this one",
 }
 
 

@@ -4,12 +4,14 @@ from __future__ import annotations
 import json
 from collections.abc import Callable, Mapping
 from dataclasses import dataclass
+from functools import partial
 from typing import Any, Optional
 
 from ._filters import Run, Table
 from ._library import Limits, library
-from ._owner import TEXT, Owner, Shared, checked, lent, made_by, part, shown, whole
+from ._owner import TEXT, Owner, Shared, checked, lent, made_by, part, shown, utf8, whole
 from ._settings import Missing, Settings, missing_of
+from ._values import encoded
 from .data import Data, DataLike, data_of
 from .errors import MESSAGES, LiquidError
 from .language import Language, parse
@@ -116,18 +118,18 @@ class Template(Shared):
             return answer
 
         if self._filters:
-            page = self._asking(render)
+            page = self._asking(render, None if data is None and not names else read)
         else:
             made = Owner()
             page = _shown(render(made), made)
         return Page(page.text, others._explained(page.fault)) if page.fault and isinstance(others, Partials) else page
 
-    def _asking(self, render: Callable[[Owner, Table], int]) -> Page:
+    def _asking(self, render: Callable[[Owner, Table], int], data: Owner | None) -> Page:
         """The page with the answers of filters in Python."""
         assert self._filters
         run = Run(self._filters, self._settings.how, self._settings.max_rounds)
         try:
-            page = _shown(*run.page(render))
+            page = _shown(*run.page(render, data))
         finally:
             run.end()
         run.explain(page.fault)
@@ -147,9 +149,32 @@ class Template(Shared):
         """
         return self._texts_of("paths", partials)
 
+    def seen_key(self, data: Mapping[str, Any] | str | None = None, partials: Others = None, **names: Any) -> str:
+        """A key of what this template and its partials, as they are now, see of data: pages over data of one key are the same. So it, or
+        a digest of it, is an ETag, or drops equal jobs of a queue, before anything is rendered.
+
+            >>> import bikleinu
+            >>> template = bikleinu.Template("{% for p in products %}{{ p.title }};{% endfor %}")
+            >>> teas = [{"title": "Tea", "stock": 3}], [{"title": "Tea", "stock": 2}]
+            >>> len({template.seen_key(products=it) for it in teas})
+            1
+
+        Data that can't be read raise the same errors as for a page. A filter in Python, and a function as missing, count as they are."""
+        how = self._settings.how
+        if not isinstance(data, str):
+            data = encoded({**(data or {}), **names}, how).decode()
+        elif names:
+            raise TypeError("names beside a str: names go with a mapping or alone")
+        text = utf8(data)
+        asked = [self._found("paths", self._others(partials))]
+        if self._filters and self._filters.set_number and self._language:
+            asked += self._language._known()
+        keys = [made_by(partial(library.bikleinu_seen_key, text, len(text)), Owner(), it) for it in asked]
+        return "\n".join(key._part(TEXT) for key in keys)
+
     def data(self, data: Mapping[str, Any] | str, partials: Others = None) -> Data:
         """Data of which no more is built than this template and its partials, as they are now, can see (see paths). A page over them is
-        the same as over all of the data, up to the words of a fault; another template may lack what it asks for.
+        the same as over all of the data, up to the words of a fault; another template that asks for more raises an error.
 
             >>> import bikleinu
             >>> template = bikleinu.Template("{% for p in products %}{{ p.title }};{% endfor %}")
@@ -157,7 +182,9 @@ class Template(Shared):
             'Tea;'
 
         It pays for a long text of JSON of which the template sees little: it takes less time and memory than Data. What isn't seen is
-        checked as ever, and raises the same errors."""
+        checked as ever, and raises the same errors. Where filters are a set of the library's, all is built, since they may use more."""
+        if self._filters and self._filters.set_number:
+            return Data._of(data, self._settings.how)
         return Data._of(data, self._settings.how, self._found("paths", self._others(partials)))
 
     def _others(self, partials: Others) -> Owner:

@@ -14,6 +14,8 @@ pub(crate) const LACKING: u32 = 106;
 const NO_WORD: u32 = 110;
 const RESERVED_NAME: u32 = 111;
 const TAKEN_NAME: u32 = 112;
+const NO_VALUES: u32 = 114;
+pub(crate) const OTHER_PATHS: u32 = 116;
 
 /// What kind of fault it is. The guide for writers of templates says what each one means.
 #[derive(Clone, Copy, Debug, PartialEq, Eq, Hash)]
@@ -91,11 +93,15 @@ pub enum Kind {
     ReservedName,
     /// A name at which the language has a tag or a block of its own.
     TakenName,
+    /// A given value of a tag that is none, as `page.title`.
+    NoValues,
+    /// Data that were read for the paths of another template, of which this one uses more.
+    OtherPaths,
     /// A kind that this version of the crate doesn't know.
     Other,
 }
 
-const KINDS: [(u32, Kind); 36] = [
+const KINDS: [(u32, Kind); 38] = [
     (1, Kind::UnknownVariable),
     (INVALID_INPUT, Kind::InvalidInput),
     (3, Kind::InvalidArgument),
@@ -132,6 +138,8 @@ const KINDS: [(u32, Kind); 36] = [
     (NO_WORD, Kind::NoWord),
     (RESERVED_NAME, Kind::ReservedName),
     (TAKEN_NAME, Kind::TakenName),
+    (NO_VALUES, Kind::NoValues),
+    (OTHER_PATHS, Kind::OtherPaths),
 ];
 
 /// Which text a fault stands in.
@@ -255,6 +263,11 @@ pub(crate) fn out_of_memory() -> LiquidError {
     LiquidError::new(MEMORY, words("Memory"), words(NO_MEMORY), None)
 }
 
+/// The error of a given value that is none.
+pub(crate) fn no_values() -> LiquidError {
+    call_refused(NO_VALUES).unwrap_or_else(out_of_memory)
+}
+
 /// The words of an error, or none where there is no memory for them.
 pub(crate) fn words(of: &str) -> String {
     let mut made = String::new();
@@ -276,6 +289,10 @@ pub(crate) fn call_refused(number: u32) -> Option<LiquidError> {
             ("ReservedName", "blocks have a use of `else`, `elsif`, `when` and what begins with `end`, so no tag has such a name")
         }
         TAKEN_NAME => ("TakenName", "the language has a tag or a block of this name; give yours another"),
+        NO_VALUES => ("NoValues", "a given value is one value as it stands in a tag, as `page.title`"),
+        OTHER_PATHS => {
+            ("OtherPaths", "the data were read for another template, and this one uses more of them; read them for this one")
+        }
         _ => return None,
     };
     Some(LiquidError::new(number, words(name), words(message), None))

@@ -45,22 +45,30 @@ extern "C" {
     pub(crate) fn bikleinu_jekyll_language(made: *mut Handle) -> u32;
     pub(crate) fn bikleinu_register(language: *mut Handle, name: *const u8, length: usize, least: usize, most: usize) -> u32;
     pub(crate) fn bikleinu_register_jekyll(language: *mut Handle) -> u32;
-    pub(crate) fn bikleinu_register_tag(
+    pub(crate) fn bikleinu_register_tag_given(
         language: *mut Handle,
         name: *const u8,
         length: usize,
         filter: *const u8,
         filter_length: usize,
         style: u32,
+        given: *const u8,
+        given_length: usize,
     ) -> u32;
-    pub(crate) fn bikleinu_register_block(
+    pub(crate) fn bikleinu_register_block_given(
         language: *mut Handle,
         name: *const u8,
         length: usize,
         filter: *const u8,
         filter_length: usize,
         style: u32,
+        given: *const u8,
+        given_length: usize,
     ) -> u32;
+    pub(crate) fn bikleinu_escape_html(language: *mut Handle) -> u32;
+    pub(crate) fn bikleinu_set_language(set: u32, made: *mut Handle) -> u32;
+    pub(crate) fn bikleinu_answers_set(answers: *mut Handle, set: u32, data: *mut Handle) -> u32;
+    pub(crate) fn bikleinu_seen_key(json: *const u8, length: usize, paths: *mut Handle, made: *mut Handle) -> u32;
     pub(crate) fn bikleinu_names(template: *mut Handle, partials: *mut Handle, made: *mut Handle) -> u32;
     pub(crate) fn bikleinu_paths(template: *mut Handle, partials: *mut Handle, made: *mut Handle) -> u32;
     pub(crate) fn bikleinu_data_for(json: *const u8, length: usize, paths: *mut Handle, made: *mut Handle) -> u32;

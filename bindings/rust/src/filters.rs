@@ -1,8 +1,11 @@
 //! Filters of the caller's: functions, and tables of their answers that the library renders with.
 use crate::error::{call_refused, LiquidError, INVALID_INPUT, LACKING};
 use crate::ffi::{
-    bikleinu_answer, bikleinu_answers, bikleinu_answers_filter, bikleinu_answers_jekyll, bikleinu_data, bikleinu_refuse, Owner, TEXT,
+    bikleinu_answer, bikleinu_answers, bikleinu_answers_filter, bikleinu_answers_jekyll, bikleinu_answers_set, bikleinu_data,
+    bikleinu_refuse, Owner, TEXT,
 };
+use crate::language::FilterSet;
+use crate::shared::{Lent, Shared};
 use crate::value::{Json, Reader, Value};
 use std::collections::BTreeMap;
 use std::error::Error;
@@ -31,6 +34,13 @@ struct Site {
 pub(crate) struct Filters {
     functions: Arc<BTreeMap<String, Arc<Function>>>,
     site: Option<Arc<Site>>,
+    set: Option<Arc<KnownSet>>,
+}
+
+/// A set of filters that the library has itself, with the paths of what they know of data.
+struct KnownSet {
+    number: u32,
+    paths: Shared,
 }
 
 impl Filters {
@@ -42,8 +52,17 @@ impl Filters {
         self.site = Some(Arc::new(Site { address: address.to_owned(), base: base.to_owned() }));
     }
 
+    pub(crate) fn set_of(&mut self, set: FilterSet, paths: Owner) {
+        self.set = Some(Arc::new(KnownSet { number: set.number(), paths: Shared::new(paths) }));
+    }
+
+    /// The paths of what filters of a set know of data, where they are of one.
+    pub(crate) fn known(&self) -> Option<&Shared> {
+        self.set.as_ref().map(|set| &set.paths)
+    }
+
     pub(crate) fn is_empty(&self) -> bool {
-        self.functions.is_empty() && self.site.is_none()
+        self.functions.is_empty() && self.site.is_none() && self.set.is_none()
     }
 
     /// The number that a run ended by, and its page, when each call that it lacked is answered. The table is kept, unless a function
@@ -51,12 +70,14 @@ impl Filters {
     pub(crate) fn page(
         &self,
         kept: &mut Option<Table>,
+        data: &Lent<'_>,
         render: impl Fn(&Table, &Owner) -> u32,
     ) -> Result<(u32, Owner, Errors), LiquidError> {
         let mut table = match kept.take() {
             Some(table) if table.answers <= ANSWERS => table,
             _ => Table::new(self)?,
         };
+        table.settle(self, data)?;
         let mut errors = Errors(Vec::new());
         for asked in 0..=ROUNDS {
             let page = Owner::new();
@@ -128,13 +149,6 @@ impl Table {
         let owner = Owner::new();
         // SAFETY: the handle is an owner's.
         settled(unsafe { bikleinu_answers(owner.at()) })?;
-        if let Some(site) = &filters.site {
-            let (address, base) = (site.address.as_bytes(), site.base.as_bytes());
-            // SAFETY: the handle is an owner's, and the bytes are two texts'.
-            settled(unsafe {
-                bikleinu_answers_jekyll(owner.at(), address.as_ptr(), address.len(), base.as_ptr(), base.len())
-            })?;
-        }
         for name in filters.functions.keys() {
             // SAFETY: the handle is an owner's, and the bytes are a text's.
             settled(unsafe { bikleinu_answers_filter(owner.at(), name.as_ptr(), name.len()) })?;
@@ -144,6 +158,28 @@ impl Table {
 
     pub(crate) fn owner(&self) -> &Owner {
         &self.owner
+    }
+
+    /// Lets the library answer its own filters, for a page over data.
+    fn settle(&self, filters: &Filters, data: &Lent<'_>) -> Result<(), LiquidError> {
+        if let Some(set) = &filters.set {
+            let empty = Owner::new();
+            if data.is_empty() {
+                // SAFETY: the handle is an owner's, and the bytes are a text's.
+                settled(unsafe { bikleinu_data("{}".as_ptr(), 2, empty.at()) })?;
+            }
+            let data = if data.is_empty() { empty.at() } else { data.at() };
+            // SAFETY: the handles are two owners'.
+            settled(unsafe { bikleinu_answers_set(self.owner.at(), set.number, data) })?;
+        }
+        if let Some(site) = &filters.site {
+            let (address, base) = (site.address.as_bytes(), site.base.as_bytes());
+            // SAFETY: the handle is an owner's, and the bytes are two texts'.
+            settled(unsafe {
+                bikleinu_answers_jekyll(self.owner.at(), address.as_ptr(), address.len(), base.as_ptr(), base.len())
+            })?;
+        }
+        Ok(())
     }
 
     fn put(&mut self, calls: &Owner, number: usize, data: &Owner) -> Result<(), LiquidError> {

@@ -1,8 +1,8 @@
 //! Languages.
-use crate::error::LiquidError;
+use crate::error::{no_values, LiquidError};
 use crate::ffi::{
-    bikleinu_jekyll_language, bikleinu_language, bikleinu_parse, bikleinu_register, bikleinu_register_block, bikleinu_register_jekyll,
-    bikleinu_register_tag, Owner,
+    bikleinu_escape_html, bikleinu_jekyll_language, bikleinu_language, bikleinu_parse, bikleinu_paths, bikleinu_register,
+    bikleinu_register_block_given, bikleinu_register_jekyll, bikleinu_register_tag_given, bikleinu_set_language, Owner,
 };
 use crate::filters::{settled, FilterError, Filters};
 use crate::shared::Shared;
@@ -28,6 +28,38 @@ impl TagStyle {
             TagStyle::Items => 0,
             TagStyle::Path => 1,
             TagStyle::Text => 2,
+        }
+    }
+}
+
+/// A set of filters that the library has itself.
+#[derive(Clone, Copy, Debug, PartialEq, Eq)]
+pub enum FilterSet {
+    /// Over exact decimals: `decimal_plus` and so on.
+    Decimals,
+    /// Jekyll's, with `where_exp`.
+    Jekyll,
+    /// Shopify's.
+    Shopify,
+}
+
+impl FilterSet {
+    pub(crate) fn number(self) -> u32 {
+        match self {
+            FilterSet::Decimals => 1,
+            FilterSet::Jekyll => 2,
+            FilterSet::Shopify => 3,
+        }
+    }
+
+    /// What its filters know of the data of a page, as a template that shows it.
+    fn known(self) -> &'static str {
+        match self {
+            FilterSet::Decimals => "",
+            FilterSet::Jekyll => "{{ site.url }}{{ site.baseurl }}",
+            FilterSet::Shopify => {
+                "{{ shop.money_format }}{{ shop.money_with_currency_format }}{{ collection.handle }}{{ current_tags }}"
+            }
         }
     }
 }
@@ -62,6 +94,54 @@ impl Language {
         // SAFETY: the handle is an owner's.
         let number = unsafe { bikleinu_jekyll_language(made.at()) };
         made.settled(number).map(Language::of)
+    }
+
+    /// The language of a set of filters that the library has itself. What they know of a site or a shop is what the data of each page have:
+    /// `site.url` and `site.baseurl`, or `shop.money_format`, `shop.money_with_currency_format`, `collection.handle` and `current_tags`.
+    ///
+    /// ```
+    /// use bikleinu::{Data, FilterSet, Language};
+    ///
+    /// let template = Language::with_filters(FilterSet::Decimals)?.parse("{{ price | decimal_times: 3 }}")?;
+    /// assert_eq!(template.render_text(&Data::from_json(r#"{"price": "19.99"}"#)?)?, "59.97");
+    /// # Ok::<(), bikleinu::LiquidError>(())
+    /// ```
+    ///
+    /// # Errors
+    ///
+    /// Refused memory.
+    pub fn with_filters(set: FilterSet) -> Result<Language, LiquidError> {
+        let made = Owner::new();
+        // SAFETY: the handle is an owner's.
+        let number = unsafe { bikleinu_set_language(set.number(), made.at()) };
+        let mut language = made.settled(number).map(Language::of)?;
+        let known = language.parse(set.known())?;
+        let (lent, none, paths) = (known.lend()?, Owner::new(), Owner::new());
+        // SAFETY: the handles are owners', three of them.
+        let number = unsafe { bikleinu_paths(lent.at(), none.at(), paths.at()) };
+        language.filters.set_of(set, paths.settled(number)?);
+        Ok(language)
+    }
+
+    /// Escapes for HTML what outputs and `cycle` write, but not an output that ends with `| raw`, in what is parsed from now on. A
+    /// captured text is escaped already, and needs it.
+    ///
+    /// ```
+    /// use bikleinu::{Data, Language};
+    ///
+    /// let mut language = Language::new()?;
+    /// language.autoescape()?;
+    /// let template = language.parse("{{ a }}{{ a | raw }}")?;
+    /// assert_eq!(template.render_text(&Data::from_json(r#"{"a": "<b>"}"#)?)?, "&lt;b&gt;<b>");
+    /// # Ok::<(), bikleinu::LiquidError>(())
+    /// ```
+    ///
+    /// # Errors
+    ///
+    /// Refused memory.
+    pub fn autoescape(&mut self) -> Result<(), LiquidError> {
+        // SAFETY: the handle is an owner's.
+        settled(unsafe { bikleinu_escape_html(self.owner.only().at()) })
     }
 
     fn of(owner: Owner) -> Language {
@@ -167,10 +247,56 @@ impl Language {
     where
         F: Fn(&[Value]) -> Result<Value, FilterError> + Send + Sync + 'static,
     {
-        let filter = self.filter_of_tag(name, arguments, move |_, values| function(values))?;
+        self.tag_given(name, style, arguments, &[], move |values, _| function(values))
+    }
+
+    /// As [`tag`](Language::tag), with values that the function gets too, each as a template names it: nil where the page's data have
+    /// nothing there.
+    ///
+    /// ```
+    /// use bikleinu::{Data, Language, TagStyle, Value};
+    ///
+    /// let mut language = Language::new()?;
+    /// language.tag_given("canonical", TagStyle::Items, 0..=0, &["site.url", "page.path"], |_, given| {
+    ///     let text = |at: usize| given[at].as_text().unwrap_or_default();
+    ///     Ok(format!("{}{}", text(0), text(1)).into())
+    /// })?;
+    /// let template = language.parse("{% canonical %}")?;
+    /// assert_eq!(template.render_text(&Data::from_json(r#"{"site": {"url": "https://example.org"}}"#)?)?, "https://example.org");
+    /// # Ok::<(), bikleinu::LiquidError>(())
+    /// ```
+    ///
+    /// # Errors
+    ///
+    /// As of [`tag`](Language::tag), and [`Kind::NoValues`](crate::Kind::NoValues) where one of them is no value, or has a comma.
+    pub fn tag_given<F>(
+        &mut self,
+        name: &str,
+        style: TagStyle,
+        arguments: RangeInclusive<usize>,
+        given: &[&str],
+        function: F,
+    ) -> Result<(), LiquidError>
+    where
+        F: Fn(&[Value], &[Value]) -> Result<Value, FilterError> + Send + Sync + 'static,
+    {
+        let (count, texts) = (given.len(), joined(given)?);
+        let filter = self.filter_of_tag(name, arguments, count, move |_, all| {
+            let (values, given) = all.split_at(all.len() - count);
+            function(values, given)
+        })?;
         // SAFETY: the handle is an owner's, and the bytes are texts'.
         settled(unsafe {
-            bikleinu_register_tag(self.owner.only().at(), name.as_ptr(), name.len(), filter.as_ptr(), filter.len(), style.number())
+            bikleinu_register_tag_given(
+                self.owner.only().at(),
+                name.as_ptr(),
+                name.len(),
+                filter.as_ptr(),
+                filter.len(),
+                style.number(),
+                texts.as_ptr(),
+                texts.len(),
+            )
         })
     }
 
@@ -183,21 +309,60 @@ impl Language {
     where
         F: Fn(&Value, &[Value]) -> Result<Value, FilterError> + Send + Sync + 'static,
     {
-        let filter = self.filter_of_tag(name, arguments, function)?;
+        self.block_given(name, style, arguments, &[], move |body, values, _| function(body, values))
+    }
+
+    /// As [`block`](Language::block), with given values, as [`tag_given`](Language::tag_given) has them.
+    ///
+    /// # Errors
+    ///
+    /// As of [`tag_given`](Language::tag_given).
+    pub fn block_given<F>(
+        &mut self,
+        name: &str,
+        style: TagStyle,
+        arguments: RangeInclusive<usize>,
+        given: &[&str],
+        function: F,
+    ) -> Result<(), LiquidError>
+    where
+        F: Fn(&Value, &[Value], &[Value]) -> Result<Value, FilterError> + Send + Sync + 'static,
+    {
+        let (count, texts) = (given.len(), joined(given)?);
+        let filter = self.filter_of_tag(name, arguments, count, move |body, all| {
+            let (values, given) = all.split_at(all.len() - count);
+            function(body, values, given)
+        })?;
         // SAFETY: the handle is an owner's, and the bytes are texts'.
         settled(unsafe {
-            bikleinu_register_block(self.owner.only().at(), name.as_ptr(), name.len(), filter.as_ptr(), filter.len(), style.number())
+            bikleinu_register_block_given(
+                self.owner.only().at(),
+                name.as_ptr(),
+                name.len(),
+                filter.as_ptr(),
+                filter.len(),
+                style.number(),
+                texts.as_ptr(),
+                texts.len(),
+            )
         })
     }
 
     /// Adds the filter that a tag calls, and answers its name. It is no word, so no template calls it otherwise, and a fault shows the tag
     /// by it.
-    fn filter_of_tag<F>(&mut self, name: &str, arguments: RangeInclusive<usize>, function: F) -> Result<String, LiquidError>
+    fn filter_of_tag<F>(
+        &mut self,
+        name: &str,
+        arguments: RangeInclusive<usize>,
+        given: usize,
+        function: F,
+    ) -> Result<String, LiquidError>
     where
         F: Fn(&Value, &[Value]) -> Result<Value, FilterError> + Send + Sync + 'static,
     {
+        let (least, most) = arguments.into_inner();
         let filter = format!("{{% {name} %}}");
-        self.filter_of(&filter, arguments, function)?;
+        self.filter_of(&filter, least.saturating_add(given)..=most.saturating_add(given), function)?;
         Ok(filter)
     }
 
@@ -211,6 +376,14 @@ impl Language {
         // SAFETY: both handles are owners', two of them, and the bytes are a text's.
         let number = unsafe { bikleinu_parse(lent.at(), source.as_ptr(), source.len(), made.at()) };
         made.settled(number).map(|owner| Template::of(owner, self.filters.clone()))
+    }
+}
+
+/// Given values as the library reads them, one for each text.
+fn joined(given: &[&str]) -> Result<String, LiquidError> {
+    match given.iter().any(|it| it.trim().is_empty() || it.contains(',')) {
+        true => Err(no_values()),
+        false => Ok(given.join(", ")),
     }
 }
 

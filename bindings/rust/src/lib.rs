@@ -48,6 +48,6 @@ mod value;
 pub use error::{Kind, LiquidError, Location, Origin};
 pub use filters::{FilterError, ROUNDS};
 pub use inputs::{Data, Partials};
-pub use language::{Language, TagStyle};
+pub use language::{FilterSet, Language, TagStyle};
 pub use template::{Limits, Page, Paths, Template};
 pub use value::Value;

@@ -53,6 +53,11 @@ impl Lent<'_> {
     pub(crate) fn at(&self) -> *mut Handle {
         self.owner.as_ref().map_or(std::ptr::null_mut(), Owner::at)
     }
+
+    /// Whether it holds nothing.
+    pub(crate) fn is_empty(&self) -> bool {
+        self.owner.as_ref().map_or(true, Owner::is_empty)
+    }
 }
 
 impl Drop for Lent<'_> {

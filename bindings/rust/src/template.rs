@@ -1,10 +1,11 @@
 //! Templates and their pages.
-use crate::error::{out_of_memory, LiquidError, MEMORY, NO_TEXT, TOO_MANY_LEVELS};
+use crate::error::{out_of_memory, LiquidError, MEMORY, NO_TEXT, OTHER_PATHS, TOO_MANY_LEVELS};
 use crate::ffi::{
-    bikleinu_data_for, bikleinu_names, bikleinu_paths, bikleinu_render_with, bikleinu_render_within, Handle, Owner, RawLimits, TEXT,
+    bikleinu_data_for, bikleinu_names, bikleinu_paths, bikleinu_render_with, bikleinu_render_within, bikleinu_seen_key, Handle, Owner,
+    RawLimits, TEXT,
 };
 use crate::filters::{Filters, Table};
-use crate::shared::{locked, Shared};
+use crate::shared::{locked, Lent, Shared};
 use crate::value::Reader;
 use crate::{Data, Partials, Value};
 use std::fmt;
@@ -133,6 +134,39 @@ impl Template {
         Ok(Paths { texts: texts(&made)?, owner: Shared::new(made) })
     }
 
+    /// A key of what the template and these partials see of the data in a text of JSON: pages over data of one key are the same. So it, or
+    /// a digest of it, is an `ETag`, or drops equal jobs of a queue, before anything is rendered.
+    ///
+    /// ```
+    /// use bikleinu::{Language, Partials};
+    ///
+    /// let template = Language::new()?.parse("{% for p in products %}{{ p.title }};{% endfor %}")?;
+    /// let key = |json| template.seen_key(json, &Partials::new()?);
+    /// let (one, other) = (r#"{"products": [{"title": "Tea", "stock": 3}]}"#, r#"{"products": [{"title": "Tea", "stock": 2}]}"#);
+    /// assert_eq!(key(one)?, key(other)?);
+    /// # Ok::<(), bikleinu::LiquidError>(())
+    /// ```
+    ///
+    /// # Errors
+    ///
+    /// What is wrong in the text, with its place, or refused memory.
+    pub fn seen_key(&self, json: &str, partials: &Partials) -> Result<String, LiquidError> {
+        let paths = self.paths(partials)?;
+        let mut key = key_of(json, &paths.owner)?;
+        if let Some(known) = self.filters.known() {
+            let more = key_of(json, known)?;
+            key.try_reserve(more.len() + 1).map_err(|_| out_of_memory())?;
+            key.push('\n');
+            key.push_str(&more);
+        }
+        Ok(key)
+    }
+
+    /// Another handle on it, for a call.
+    pub(crate) fn lend(&self) -> Result<Lent<'_>, LiquidError> {
+        self.owner.lend()
+    }
+
     /// The page of the template over this data, with these partials, of which at most `depth` may be nested.
     ///
     /// # Errors
@@ -187,7 +221,7 @@ impl Template {
             return shown(number, &page);
         }
         let mut kept = locked(&self.tables).pop();
-        let run = self.filters.page(&mut kept, |table, page| {
+        let run = self.filters.page(&mut kept, &data, |table, page| {
             let table = table.owner().at();
             // SAFETY: the handles are owners', five of them, and the limits are there for as long as the call.
             unsafe { bikleinu_render_with(given.0, given.1, given.2, depth, limits, table, page.at()) }
@@ -223,7 +257,7 @@ impl fmt::Debug for Paths {
 impl Data {
     /// As [`from_json`](Data::from_json), but no more is built than the paths ask for. Of a long text of which a template sees little that
     /// takes less time and memory. The page of a template and partials whose paths these are is the same as over all of the data, up to
-    /// the words of a fault; another template may lack what it asks for.
+    /// the words of a fault; a template that asks for more is refused ([`Kind::OtherPaths`](crate::Kind::OtherPaths)).
     ///
     /// ```
     /// use bikleinu::{Data, Language, Partials};
@@ -246,6 +280,14 @@ impl Data {
     }
 }
 
+/// The key of what paths ask of a text of JSON.
+fn key_of(json: &str, paths: &Shared) -> Result<String, LiquidError> {
+    let (asked, made) = (paths.lend()?, Owner::new());
+    // SAFETY: the handles are owners', two of them, and the bytes are a text's.
+    let number = unsafe { bikleinu_seen_key(json.as_ptr(), json.len(), asked.at(), made.at()) };
+    made.settled(number)?.part(TEXT)
+}
+
 /// The texts of a list in JSON.
 fn texts(list: &Owner) -> Result<Vec<String>, LiquidError> {
     let mut found = Vec::new();
@@ -259,7 +301,7 @@ fn texts(list: &Owner) -> Result<Vec<String>, LiquidError> {
 /// The page that a run ended with, or the error where there is none.
 fn shown(number: u32, page: &Owner) -> Result<Page, LiquidError> {
     match number {
-        MEMORY | NO_TEXT..=TOO_MANY_LEVELS => Err(page.fault(number)),
+        MEMORY | NO_TEXT..=TOO_MANY_LEVELS | OTHER_PATHS => Err(page.fault(number)),
         0 => Ok(Page { text: page.part(TEXT)?, fault: None }),
         _ => Ok(Page { text: page.part(TEXT)?, fault: Some(page.fault(number)) }),
     }

@@ -1,5 +1,5 @@
 //! Filters of the caller's, Jekyll's language, and names.
-use bikleinu::{Data, Kind, Language, LiquidError, Partials, Value};
+use bikleinu::{Data, FilterSet, Kind, Language, LiquidError, Partials, Value};
 use std::error::Error;
 use std::sync::atomic::{AtomicUsize, Ordering};
 use std::sync::Arc;
@@ -113,5 +113,24 @@ fn ten_thousand_mails_on_four_threads() -> Result<(), LiquidError> {
     let numbers: Vec<i64> = faults.iter().map(|(number, ..)| *number).collect();
     assert_eq!(numbers, (1..=10).map(|it| it * 1000).collect::<Vec<_>>());
     assert!(faults.iter().all(|(_, column, message)| *column == Some(29) && message.contains("cents are wanted")), "{faults:?}");
+    Ok(())
+}
+
+#[test]
+fn a_set_of_filters_knows_what_the_data_of_each_page_say() -> Result<(), LiquidError> {
+    let shop = Language::with_filters(FilterSet::Shopify)?.parse("{{ 1999 | money }}")?;
+    let page = |json| shop.render_text(&Data::from_json(json)?);
+    assert_eq!(page(r#"{"shop": {"money_format": "EUR {{amount}}"}}"#)?, "EUR 19.99");
+    assert_eq!(page(r#"{"shop": {"money_format": "{{amount}} EUR"}}"#)?, "19.99 EUR");
+    assert_eq!(shop.render_text(&Data::none())?, "$ 19.99");
+    let key = |json| shop.seen_key(json, &Partials::new()?);
+    assert_ne!(key(r#"{"shop": {"money_format": "a"}}"#)?, key(r#"{"shop": {"money_format": "b"}}"#)?);
+    let site = Language::with_filters(FilterSet::Jekyll)?.parse("{{ '/t' | absolute_url }} {{ xs | where_exp: 'x', 'x.a > 1' | size }}")?;
+    let data = r#"{"xs": [{"a": 1}, {"a": 2}], "site": {"url": "https://example.org", "baseurl": "/b"}}"#;
+    assert_eq!(site.render_text(&Data::from_json(data)?)?, "https://example.org/b/t 1");
+    let mut decimals = Language::with_filters(FilterSet::Decimals)?;
+    decimals.filter("shout", |input, _| Ok(format!("{}!", input.as_text().unwrap_or_default()).into()))?;
+    decimals.autoescape()?;
+    assert_eq!(decimals.parse("{{ '19.99' | decimal_times: 3 | shout }}{{ '<' }}")?.render_text(&Data::none())?, "59.97!&lt;");
     Ok(())
 }

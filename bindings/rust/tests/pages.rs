@@ -180,7 +180,7 @@ fn data_are_read_for_a_template() -> Result<(), LiquidError> {
     let data = Data::from_json_for(json, &paths)?;
     assert_eq!(template.render(&data, &partials, 32)?.into_text()?, "green;black;");
     let other = language.parse("{{ n }}")?;
-    assert_eq!(other.render_text(&data).unwrap_err().kind(), Kind::UnknownVariable);
+    assert_eq!(other.render_text(&data).unwrap_err().kind(), Kind::OtherPaths);
     assert_eq!(other.render_text(&Data::from_json(json)?)?, "7");
     let bad = "{\"lines\": [],\n\"m\": 1.5}";
     assert_eq!(Data::from_json_for(bad, &paths).unwrap_err(), Data::from_json(bad).unwrap_err());

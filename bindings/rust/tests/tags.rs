@@ -80,3 +80,24 @@ fn names_that_no_tag_has_are_refused() -> Result<(), LiquidError> {
     }
     Ok(())
 }
+
+#[test]
+fn a_function_is_given_values_of_the_data_and_nil_where_they_have_none() -> Result<(), LiquidError> {
+    let mut language = Language::new()?;
+    language.tag_given("about", TagStyle::Items, 0..=2, &["page.title", "site.author"], |values, given| {
+        Ok(format!("{} {} {:?}", values.len(), text(&given[0]), given[1]).into())
+    })?;
+    language.block_given("frame", TagStyle::Text, 0..=1, &["site.name"], |body, values, given| {
+        Ok(format!("{}{}{}", text(&given[0]), values.len(), text(body)).into())
+    })?;
+    let template = language.parse("{% about %}|{% about 1, 2 %}|{% frame a b %}c{% endframe %}")?;
+    let data = Data::from_json(r#"{"page": {"title": "T"}, "site": {"name": "N"}}"#)?;
+    assert_eq!(template.render_text(&data)?, "0 T Nil|2 T Nil|N1c");
+    assert_eq!(template.paths(&Partials::new()?)?.texts(), ["page.title", "site.author", "site.name"]);
+    assert_eq!(language.parse("{% about 1, 2, 3 %}").unwrap_err().kind(), Kind::FilterArguments);
+    for given in ["a b", "a, b", " ", "a | size"] {
+        let refused = language.tag_given("x", TagStyle::Items, 0..=0, &[given], |_, _| Ok(Value::Nil)).unwrap_err();
+        assert_eq!((refused.kind(), refused.message.is_empty()), (Kind::NoValues, false));
+    }
+    Ok(())
+}

@@ -10,8 +10,8 @@ use liquid_commands::FilterSet;
 use liquid_core::{ErrorKind, Filter, HostFilters, Object, Result, Uses};
 use liquid_decimals::DECIMAL_FILTERS;
 use liquid_filter_sets::{
-    SiteSettings, WhereExp, decimals_language, jekyll_language, shop_of, shop_uses,
-    shopify_language, site_uses,
+    CONVERTERS, Conversion, SiteSettings, WhereExp, decimals_language, jekyll_language, shop_of,
+    shop_uses, shopify_language, site_uses,
 };
 use liquid_jekyll_host_filters::{JEKYLL_FILTERS, SiteFilter};
 use liquid_lib::{
@@ -113,6 +113,12 @@ fn with_jekyll<T: FilteredTask + Drop>(alloc: Global, task: T) -> Result<T::Answ
     for kind in &JEKYLL_FILTERS {
         let name = String::from_str(alloc, kind.name())?;
         let filter = SiteFilter::new(alloc, *kind, site.address, site.base)?;
+        let boxed: Box<dyn Filter> = Box::new(alloc, filter)?;
+        filters.push((name, boxed))?;
+    }
+    for converter in &CONVERTERS {
+        let name = String::from_str(alloc, converter.name())?;
+        let filter = Conversion::of(alloc, *converter, task.data())?;
         let boxed: Box<dyn Filter> = Box::new(alloc, filter)?;
         filters.push((name, boxed))?;
     }

@@ -15,7 +15,8 @@ use Rattle.liquid_model.specs.declared.error.ErrorKind.{ErrorKind}
 use Rattle.liquid_model.specs.declared.error.ErrorKind.TheVariants.{InvalidInput, Memory}
 use Rattle.liquid_model.specs.declared.value.Value.{Value}
 use Rattle.liquid_model.specs.FilterAnswers.{FilterAnswer}
-use Rattle.liquid_answers.specs.Sites.{site_answers, place_view}
+use Rattle.liquid_answers.specs.Sets.{set_answers}
+use Rattle.liquid_answers.specs.Sites.{place_view}
 use Rattle.liquid_answers.specs.declared.answers.Answer.{Answer}
 use Rattle.liquid_answers.specs.declared.answers.Answer.TheVariants as kept
 use Rattle.liquid_answers.specs.declared.answers.Answers.{Answers}
@@ -73,7 +74,7 @@ abbrev pub table_answer : Bool → Answers → Text → FilterAnswer
 table_answer is_asking table name input args =
     said_or (stand_in is_asking) (answer_at table (call_datum name input args))
 
--- by name, where the table has the filter;  else as a filter that needs no table, over its site
+-- by name, where the table has the filter;  else as the table's sets, which need no answers
 abbrev pub answers_by : Bool → Answers → Text → FilterAnswer
 answers_by is_asking table name input args = cond (is_listed_filter name (filter_names table))
-    (table_answer is_asking table name input args) (site_answers (site_of table) name input args)
+    (table_answer is_asking table name input args) (set_answers table name input args)

@@ -1,5 +1,5 @@
 //! Tables of answers.
-ghost use Rattle.std.specs.Prelude.{◌≡◌, [], Err, None, Some, IfErr, OnErr, OnOk, map};
+ghost use Rattle.std.specs.Prelude.{◌≡◌, [], Err, None, Some, IfErr, OnErr, OnOk, false, map, true};
 ghost use Rattle.std.specs.Prelude.{option_map, string_bytes};
 ghost use Rattle.liquid_model.specs.Answer.{Answers as Tells, Faulted, IsValueOrMemory};
 ghost use Rattle.liquid_model.specs.Data.{Datum};
@@ -10,6 +10,7 @@ ghost use Rattle.liquid_answers.specs.Tables.{filter_names, said_by, site_of, wi
 
 use crate::site::Site;
 use liquid_core::{Error, ErrorKind, Result, Value};
+use liquid_shopify_host_filters::Shop;
 use std::alloc::Global;
 use std::collections::BTreeMap;
 
@@ -46,27 +47,33 @@ fn fault_of(alloc: Global, kind: ErrorKind, message: &str) -> Error
     }
 }
 
-/// The names of filters, and answers to calls of them; and a site, over which the library itself
-/// answers as Jekyll's filters.
+/// The names of filters, and answers to calls of them; and the sets by which the library itself
+/// answers: the filters over decimals, Shopify's over a shop, and Jekyll's over a site.
 ///
 /// A call is a list of its filter's name, its input and its arguments.
 #[derive(Drop)]
 pub struct Answers {
     pub(crate) names: Vec<String>,
     pub(crate) answers: BTreeMap<Value, Answer>,
+    pub(crate) has_decimals: bool,
+    pub(crate) shop: Option<Shop>,
     pub(crate) site: Option<Site>,
 }
 
 impl Answers {
-    /// No names, no answers and no site. It takes no memory.
+    /// No names, no answers and no sets. It takes no memory.
     pub fn new(alloc: Global) -> Answers
         ensures names { filter_names result ≡ [] }
         ensures answers { (call : Datum) → answer_at result call ≡ None }
         ensures site { site_of result ≡ None }
+        ensures shop { result.shop ≡ None }
+        ensures decimals { result.has_decimals ≡ false }
     {
         Answers {
             names: Vec::new(alloc),
             answers: BTreeMap::new(alloc),
+            has_decimals: false,
+            shop: None,
             site: None,
         }
     }
@@ -80,10 +87,36 @@ impl Answers {
         ensures unchanged { OnErr result (self.new.site ≡ self.old.site) }
         ensures names { self.new.names ≡ self.old.names }
         ensures answers { self.new.answers ≡ self.old.answers }
+        ensures shop { self.new.shop ≡ self.old.shop }
+        ensures decimals { self.new.has_decimals ≡ self.old.has_decimals }
     {
         let site = Site::new(alloc, address, base)?;
         self.site = Some(site);
         Ok(())
+    }
+
+    /// Puts a shop in place of the one before: Shopify's filters whose names the table hasn't
+    /// answer over it. It takes no memory.
+    pub fn set_shop(&mut self, shop: Shop)
+        ensures shop { self.new.shop ≡ Some shop }
+        ensures names { self.new.names ≡ self.old.names }
+        ensures answers { self.new.answers ≡ self.old.answers }
+        ensures site { self.new.site ≡ self.old.site }
+        ensures decimals { self.new.has_decimals ≡ self.old.has_decimals }
+    {
+        self.shop = Some(shop);
+    }
+
+    /// Adds the filters over decimals: those whose names the table hasn't answer. It takes no
+    /// memory.
+    pub fn set_decimals(&mut self)
+        ensures decimals { self.new.has_decimals ≡ true }
+        ensures names { self.new.names ≡ self.old.names }
+        ensures answers { self.new.answers ≡ self.old.answers }
+        ensures shop { self.new.shop ≡ self.old.shop }
+        ensures site { self.new.site ≡ self.old.site }
+    {
+        self.has_decimals = true;
     }
 
     /// Adds the name of a filter, unless it is there. `Memory` where there is no room; then nothing
@@ -94,6 +127,8 @@ impl Answers {
         ensures unchanged { OnErr result (filter_names self.new ≡ filter_names self.old) }
         ensures answers { self.new.answers ≡ self.old.answers }
         ensures site { self.new.site ≡ self.old.site }
+        ensures shop { self.new.shop ≡ self.old.shop }
+        ensures decimals { self.new.has_decimals ≡ self.old.has_decimals }
     {
         if has_name(self.names.as_slice(), name.as_str()) {
             drop(name);
@@ -118,6 +153,8 @@ impl Answers {
             answer_at self.new call ≡ answer_at self.old call) }
         ensures names { self.new.names ≡ self.old.names }
         ensures site { self.new.site ≡ self.old.site }
+        ensures shop { self.new.shop ≡ self.old.shop }
+        ensures decimals { self.new.has_decimals ≡ self.old.has_decimals }
     {
         drop(self.answers.insert(call, answer)?);
         Ok(())

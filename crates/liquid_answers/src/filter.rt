@@ -6,12 +6,12 @@ ghost use Rattle.liquid_answers.specs.Tables.{answers_by, stand_in};
 
 use crate::answers::{Answers, call_of, has_name};
 use crate::missing_calls::{MissingCalls, note};
-use crate::site::answer_over;
+use crate::sets::answer_by_sets;
 use liquid_core::{Error, NamedFilters, Result, Value};
 use std::alloc::{AllocError, Global};
 use std::cell::RefCell;
 
-/// The filters of a table, and those that need none. To a call that isn't there they answer
+/// The filters of a table and of its sets. To a call that isn't there they answer
 /// `Memory`; or nil, where lacking calls are to be kept.
 #[derive(Clone, Copy, Drop)]
 pub(crate) struct TableFilters<'t, 'c> {
@@ -31,8 +31,7 @@ impl NamedFilters for TableFilters<'_, '_> {
         args: &[Value],
     ) -> Result<Value> {
         if !has_name(self.table.names.as_slice(), name) {
-            let site = self.table.site.as_ref();
-            return answer_over(alloc, site, name, input, args);
+            return answer_by_sets(alloc, self.table, name, input, args);
         }
         let call = call_of(alloc, name, input, args)?;
         match self.table.find(&call) {

@@ -1,6 +1,6 @@
 //! Filters of a host that answers between runs. Their answers stand in a table; where a run needs
 //! one that the table lacks, there is no page, and the missing calls are listed. Jekyll's
-//! `highlight` needs no table, nor do Jekyll's other filters over a site.
+//! `highlight` needs no table, nor do the filters of the table's sets.
 #![tactic(auto)]
 
 mod answered_page;
@@ -9,6 +9,7 @@ mod filter;
 mod lacking;
 mod missing_calls;
 mod own;
+mod sets;
 mod site;
 
 pub use answered_page::{Answered, render_page_answered};

@@ -3,9 +3,11 @@ ghost use Rattle.std.specs.Prelude.{map, option_map};
 ghost use Rattle.liquid_model.specs.Answer.{Answers as Tells, IsValueOrMemory};
 ghost use Rattle.liquid_model.specs.View.{view};
 ghost use Rattle.liquid_answers.specs.Sites.{jekyll_answers, site_answers, place_view};
+ghost use Rattle.liquid_answers.specs.Sites.{selecting_answers};
 
 use crate::own::OwnFilters;
 use liquid_core::{NamedFilters, Result, Value};
+use liquid_filter_sets::WhereExp;
 use liquid_jekyll_host_filters::{JekyllFilter, SiteFilter};
 use liquid_model::Filter;
 use std::alloc::Global;
@@ -59,11 +61,23 @@ fn jekyll_answer(
         (map view args.now)) }
 {
     let Some(filter) = JekyllFilter::named(name) else {
-        return OwnFilters.call_named(alloc, name, input, args);
+        return selecting_answer(alloc, name, input, args);
     };
     let filter = SiteFilter::new(alloc, filter, site.address.as_str(), site.base.as_str())?;
     if !filter.accepts(args.len()) {
         return OwnFilters.call_named(alloc, name, input, args);
     }
     filter.evaluate(alloc, input, args)
+}
+
+/// What `where_exp` answers, where it has the name and is given its two arguments; else what is
+/// answered without a site.
+fn selecting_answer(alloc: Global, name: &str, input: &Value, args: &[Value]) -> Result<Value>
+    ensures { Tells view result (selecting_answers name.now (view input.now)
+        (map view args.now)) }
+{
+    if name == "where_exp" && args.len() == 2 {
+        return WhereExp.evaluate(alloc, input, args);
+    }
+    OwnFilters.call_named(alloc, name, input, args)
 }

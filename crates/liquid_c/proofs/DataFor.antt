@@ -17,9 +17,8 @@ use Rattle.liquid_engine.specs.Pages.{fault_of, page_in}
 use Rattle.liquid_syntax.specs.Templates.{partials_of}
 use Rattle.liquid_syntax.specs.declared.partials.Partials.{Partials}
 use Rattle.liquid_uses.specs.Covered.{SeesDataAlone}
-use Rattle.liquid_c.specs.Asked.{Covers, UsesByName}
-use Rattle.liquid_c.specs.DataFor.{IsReadFor, ReadsFor, SamePages}
-use Rattle.liquid_c.specs.declared.content.Content.TheVariants as content
+use Rattle.liquid_c.specs.Served.{UsesByName}
+use Rattle.liquid_c.specs.DataFor.{IsReadFor, IsDataRead, SamePages}
 
 -- a run sees no more of its data than was read
 hosted_same : (uses : UsesByName) (p : Partials) (nodes : Nodes) (ps qs : Pairs) → AlikeKeys (uses_view uses) ps qs → SeesDataAlone (uses_view uses) p nodes
@@ -47,5 +46,5 @@ read_for uses ps qs alike = record {
   pages = λ partials nodes covers. subst (λ ts. SamePages ts nodes ps qs) covers.same (same_pages uses nodes ps qs alike covers.over covers.alone);
 }
 
-pub data_read : (uses : UsesByName) (source : List ℕ) (d : Outer) → IsAlikeData (uses_view uses) (data_of source) (pairs_view d.entries) → ReadsFor uses source (Ok (content.Data d))
+pub data_read : (uses : UsesByName) (source : List ℕ) (d : Outer) → IsAlikeData (uses_view uses) (data_of source) (pairs_view d.entries) → IsDataRead uses source d
 data_read uses source d h = (h.0, h.1, read_for uses h.0 (pairs_view d.entries) h.2)

@@ -2,5 +2,8 @@ pub mod Answered
 pub mod Blocks
 pub mod DataFor
 pub mod FreeName
+pub mod GivenTexts
 pub mod HostTags
 pub mod MachineValues
+pub mod SeenKeys
+pub mod ServedRuns

@@ -29,6 +29,7 @@ use Rattle.liquid_answers.specs.Own.{own_answers}
 use Rattle.liquid_json.specs.Json.{data_of}
 use Rattle.liquid_c.specs.Levels.{levels_in, no_levels, greater_of, most_levels}
 use Rattle.liquid_c.specs.Numbers.{number_of_refusal}
+use Rattle.liquid_c.specs.Served.{OverData}
 use Rattle.liquid_c.specs.declared.content.Content.{Content}
 use Rattle.liquid_c.specs.declared.content.Content.TheVariants as content
 use Rattle.liquid_c.specs.declared.levels.TemplateLevels.{TemplateLevels}
@@ -83,6 +84,7 @@ IsData source answer = ForUtf8Text source (ReadsData source) answer
 abbrev pub data_of_handle : Option Content → Option (Map Datum)
 data_of_handle None = Some empty
 data_of_handle (Some (content.Data d)) = Some (map_held d)
+data_of_handle (Some (content.DataPart d uses)) = Some (map_held d)
 data_of_handle (Some _) = None
 
 -- likewise the partials
@@ -145,10 +147,11 @@ has_limit bytes turns = not (nat_eq bytes any_number && nat_eq turns any_number)
 abbrev pub IsRendering : Option Content → Option Content → Option Content → Allowed
     → Result Content Refusal → Type 0
 IsRendering (Some (content.Template t levels)) «data» partials allowed answer =
-    OfBoth (data_of_handle «data») (partials_of_handle partials)
+    OverData «data» (partials_of_handle partials) (tree_of t)
+    (OfBoth (data_of_handle «data») (partials_of_handle partials)
     (ShowsUnless
     (nat_lt allowed.levels (most_levels allowed.setting.depth levels (levels_of_handle partials)))
-    (has_limit allowed.bytes allowed.turns) (tree_of t) allowed.setting)
+    (has_limit allowed.bytes allowed.turns) (tree_of t) allowed.setting))
     answer
 IsRendering _ «data» partials allowed answer = answer ≡ Err OtherHandle
 

@@ -16,6 +16,7 @@ use Rattle.liquid_answers.specs.Tables.{answers_by}
 use Rattle.liquid_answers.specs.declared.answers.Answers.{Answers}
 use Rattle.liquid_c.specs.Calls.{OfBoth, data_of_handle, levels_of_handle, partials_of_handle}
 use Rattle.liquid_c.specs.Levels.{most_levels}
+use Rattle.liquid_c.specs.Served.{OverData}
 use Rattle.liquid_c.specs.declared.content.Content.{Content}
 use Rattle.liquid_c.specs.declared.content.Content.TheVariants as content
 use Rattle.liquid_c.specs.declared.refusal.Refusal.{Refusal}
@@ -52,8 +53,9 @@ abbrev pub IsHosted : Option Content → Option Content → Option Content → O
     → Result Content Refusal → Type 0
 IsHosted (Some (content.Template t levels)) «data» partials (Some (content.Answers table)) allowed
     answer =
-    OfBoth (data_of_handle «data») (partials_of_handle partials)
+    OverData «data» (partials_of_handle partials) (tree_of t)
+    (OfBoth (data_of_handle «data») (partials_of_handle partials)
     (ShowsUnlessDeep
     (nat_lt allowed.levels (most_levels allowed.setting.depth levels (levels_of_handle partials)))
-    table (tree_of t) allowed.setting) answer
+    table (tree_of t) allowed.setting)) answer
 IsHosted template «data» partials table allowed answer = answer ≡ Err OtherHandle

@@ -1,23 +1,18 @@
 -- Jekyll's filters, which the library answers itself.
-use Rattle.std.specs.Prelude.{◌≡◌, ℕ, List, [], ◌∷◌, Option, Some}
+use Rattle.std.specs.Prelude.{◌≡◌, ℕ, List, Option, Some}
 use Rattle.std.specs.Str.{IsUtf8}
-use Rattle.liquid_model.specs.Data.{Datum}
 use Rattle.liquid_model.specs.ErrorKinds.{number_of}
-use Rattle.liquid_model.specs.Maps.{Map, insert, listed}
+use Rattle.liquid_model.specs.Maps.{listed}
 use Rattle.liquid_model.specs.Texts.{Text}
 use Rattle.liquid_model.specs.declared.error.ErrorKind.TheVariants.{Memory}
 use Rattle.liquid_language.specs.Registered.{registered_in}
 use Rattle.liquid_language.specs.declared.registry.Language.{Language}
-use Rattle.liquid_language.specs.declared.registered_filter.RegisteredFilter.{RegisteredFilter}
-use Rattle.liquid_language.specs.declared.registered_filter.RegisteredFilter.TheVariants.{Host}
-use Rattle.liquid_jekyll_host_filters.specs.Named.{each_filter}
-use Rattle.liquid_jekyll_host_filters.specs.SiteFilters.{filter_least, filter_most, filter_name}
-use Rattle.liquid_jekyll_host_filters.specs.declared.site_filter.JekyllFilter.{JekyllFilter}
-use Rattle.liquid_answers.specs.Tables.{answer_at, filter_names, site_of}
+use Rattle.liquid_filter_sets.specs.Languages.{with_jekyll_filters}
+use Rattle.liquid_answers.specs.Tables.{site_of}
 use Rattle.liquid_answers.specs.declared.answers.Answers.{Answers}
 use Rattle.liquid_c.specs.Languages.{HoldsLanguage}
 use Rattle.liquid_c.specs.Numbers.{number_of_refusal}
-use Rattle.liquid_c.specs.Tables.{ChangesTable, HoldsTable, IsSameTable}
+use Rattle.liquid_c.specs.Tables.{ChangesTable, HasSameAnswers, HoldsTable, IsSameTable}
 use Rattle.liquid_c.specs.declared.content.Content.TheVariants as content
 use Rattle.liquid_c.specs.declared.handle_content.HandleContent.{HandleContent}
 use Rattle.liquid_c.specs.declared.handle_content.HandleContent.TheVariants.{Own, Shared}
@@ -25,21 +20,16 @@ use Rattle.liquid_c.specs.declared.refusal.Refusal.TheVariants.{SharedHandle, No
 
 -- ---- their names in a language
 
-abbrev pub with_each_name : Map RegisteredFilter → List JekyllFilter → Map RegisteredFilter
-with_each_name m [] = m
-with_each_name m (f ∷ fs) =
-    with_each_name (insert m (filter_name f) (Host (filter_least f) (filter_most f))) fs
-
 -- all but the filters is as it was
 abbrev pub IsSameButFilters : Language → Language → Type 0
 IsSameButFilters old new = (new.tags ≡ old.tags) × (new.blocks ≡ old.blocks)
     × (new.host_tags ≡ old.host_tags) × (new.include_paths ≡ old.include_paths)
     × (new.drops_blanks ≡ old.drops_blanks) × (new.escapes_html ≡ old.escapes_html)
 
--- the new language has each of them at its name, and is else the old one
+-- the new language has each of them at its name, and `where_exp`, and is else the old one
 abbrev pub HasNames : Language → Language → Type 0
 HasNames old new = IsSameButFilters old new × (listed (registered_in new.filters) ≡
-    with_each_name (listed (registered_in old.filters)) each_filter)
+    with_jekyll_filters (listed (registered_in old.filters)))
 
 -- they stand in the language;  or memory ran out, and nothing but the filters changed
 pub data RegistersJekylls (old : Language) (number : ℕ) (left : Option HandleContent) : Type 0 where
@@ -57,9 +47,8 @@ IsJekyllRegistration old number left = (number ≡ number_of_refusal OtherHandle
 
 -- the new table has the site, and is else the old one
 abbrev pub HasSite : Text → Text → Answers → Answers → Type 0
-HasSite address base old new = (site_of new ≡ Some (address, base))
-    × (filter_names new ≡ filter_names old)
-    × ((call : Datum) → answer_at new call ≡ answer_at old call)
+HasSite address base old new = (site_of new ≡ Some (address, base)) × HasSameAnswers old new
+    × (new.shop ≡ old.shop) × (new.has_decimals ≡ old.has_decimals)
 
 -- the site stands in the table, or memory ran out;  or one of the two is no text
 pub data PutsSite (address base : List ℕ) (old : Answers) (number : ℕ)

@@ -3,6 +3,8 @@ pub mod CalledNames
 pub mod Calls
 pub mod DataFor
 pub mod Escaping
+pub mod FilterSets
+pub mod GivenValues
 pub mod HostTags
 pub mod Hosted
 pub mod Jekylls
@@ -13,6 +15,8 @@ pub mod Numbers
 pub mod Owned
 pub mod Parts
 pub mod ResultStored
+pub mod SeenKeys
+pub mod Served
 pub mod Shared
 pub mod Tables
 pub mod inside

@@ -1,6 +1,6 @@
 -- What calls make of tables of answers.
 use Rattle.std.specs.Prelude.{◌≡◌, ◌⊎◌, ℕ, List, [], ◌∷◌, Option, Some, None, Result, Ok, Err}
-use Rattle.std.specs.Prelude.{codes}
+use Rattle.std.specs.Prelude.{codes, false}
 use Rattle.std.specs.Prelude.{if◌then◌else◌, nat_eq, length, option_map, slice_get}
 use Rattle.std.specs.Option.{ok_or}
 use Rattle.std.specs.Str.{IsUtf8}
@@ -27,10 +27,11 @@ use Rattle.liquid_c.specs.declared.refusal.Refusal.{Refusal}
 use Rattle.liquid_c.specs.declared.refusal.Refusal.TheVariants.{NoSuchCall}
 use Rattle.liquid_c.specs.declared.refusal.Refusal.TheVariants.{SharedHandle, NoText, OtherHandle}
 
--- a table without names, answers and a site
+-- a table without names, answers and sets
 abbrev pub IsNewTable : Result Content Refusal → Type 0
 IsNewTable (Ok (content.Answers table)) = (filter_names table ≡ []) ×
     ((call : Datum) → answer_at table call ≡ None) × (site_of table ≡ None)
+    × (table.shop ≡ None) × (table.has_decimals ≡ false)
 IsNewTable _ = ⊥
 
 -- the table in the handle is such a one
@@ -38,10 +39,18 @@ abbrev pub HoldsTable : (Answers → Type 0) → Option HandleContent → Type 0
 HoldsTable P (Some (Own (content.Answers table))) = P table
 HoldsTable P _ = ⊥
 
--- the names, the answers and the site are the old ones
+-- the names and the answers are the old ones
+abbrev pub HasSameAnswers : Answers → Answers → Type 0
+HasSameAnswers old new = (filter_names new ≡ filter_names old)
+    × ((call : Datum) → answer_at new call ≡ answer_at old call)
+
+-- the sets are the old ones
+abbrev pub HasSameSets : Answers → Answers → Type 0
+HasSameSets old new = (site_of new ≡ site_of old) × (new.shop ≡ old.shop)
+    × (new.has_decimals ≡ old.has_decimals)
+
 abbrev pub IsSameTable : Answers → Answers → Type 0
-IsSameTable old new = (filter_names new ≡ filter_names old)
-    × ((call : Datum) → answer_at new call ≡ answer_at old call) × (site_of new ≡ site_of old)
+IsSameTable old new = HasSameAnswers old new × HasSameSets old new
 
 -- the table changed as R says;  or memory ran out, and nothing changed
 pub data ChangesTable (R : Answers → Answers → Type 0) (old : Answers) (number : ℕ)
@@ -55,7 +64,7 @@ pub data ChangesTable (R : Answers → Answers → Type 0) (old : Answers) (numb
 -- the table has the name too
 abbrev pub HasName : Text → Answers → Answers → Type 0
 HasName name old new = (filter_names new ≡ with_name name (filter_names old))
-    × ((call : Datum) → answer_at new call ≡ answer_at old call) × (site_of new ≡ site_of old)
+    × ((call : Datum) → answer_at new call ≡ answer_at old call) × HasSameSets old new
 
 abbrev pub IsNaming : Option HandleContent → List ℕ → ℕ → Option HandleContent → Type 0
 IsNaming (Some (Own (content.Answers table))) name number left =
@@ -108,7 +117,7 @@ kinds_of_runs = kind.UnknownVariable ∷ kind.InvalidInput ∷ kind.InvalidArgum
 abbrev pub StoresAnswer : Datum → Result Datum ErrorKind → Answers → Answers → Type 0
 StoresAnswer call said old new = (answer : Answer) × (said_by answer ≡ said) ×
     IsAnswerStored old call answer new
-    × (filter_names new ≡ filter_names old) × (site_of new ≡ site_of old)
+    × (filter_names new ≡ filter_names old) × HasSameSets old new
 
 abbrev pub IsAnswering : Option HandleContent → Result Datum Refusal
     → Result (Result Datum ErrorKind) Refusal → ℕ → Option HandleContent → Type 0

@@ -3,8 +3,9 @@ ghost use Rattle.std.specs.Prelude.{◌≡◌, IfErr, IfOk, List, Ok, option_map
 ghost use Rattle.liquid_model.specs.Texts.{Text};
 ghost use Rattle.liquid_evaluation.specs.Tree.{Nodes};
 ghost use Rattle.liquid_syntax.specs.Templates.{partials_of, tree_of};
-ghost use Rattle.liquid_c.specs.Asked.{ArePaths, Covers, IsAsking, PathsOver, TellsPaths};
+ghost use Rattle.liquid_c.specs.Asked.{ArePaths, IsAsking, PathsOver, TellsPaths};
 ghost use Rattle.liquid_c.specs.ResultStored.{ResultStored};
+ghost use Rattle.liquid_c.specs.Served.{Covers};
 ghost use Rattle.liquid_c.specs.Shared.{shared_content};
 
 use crate::content::Content;
@@ -13,11 +14,13 @@ use crate::handle_content::held_content;
 use crate::named::list_of;
 use crate::refusal::{Refusal, store_result};
 use crate::render::partials_held;
-use liquid_core::{ErrorKind, Result as Answer, Uses};
+use crate::served::asked_uses;
+use liquid_core::{Error, ErrorKind, Result as Answer, Uses};
 use liquid_json::json_of;
 use liquid_syntax::{Partials, Template};
-use liquid_uses::{data_uses, paths_of};
-use std::alloc::Global;
+use liquid_uses::paths_of;
+use std::alloc::{AllocError, Global};
+use std::sync::Arc;
 
 /// Finds what a template and the partials ask of data, as paths: a text of JSON, which is a list of
 /// texts, ascending and each once. 0, or `Memory`.
@@ -78,20 +81,16 @@ fn paths_result_over(
     }
 }
 
-fn asked_uses(alloc: Global, template: &Template, partials: &Partials) -> Answer<Uses>
-    ensures covers { IfOk result (Covers (partials_of partials.now) (tree_of template.now)) }
-    ensures memory { IfErr result (λ e. e.kind ≡ ErrorKind.Memory) }
-{
-    data_uses(alloc, template, partials)
-}
-
 /// The uses with their paths.
 fn paths_content(alloc: Global, uses: Uses) -> Content
     ensures { (partials : List (Text × Nodes)) (nodes : Nodes) → Covers partials nodes uses →
         TellsPaths partials nodes (Ok result) }
 {
     match text_of(alloc, &uses) {
-        Ok(text) => Content::Paths(uses, text),
+        Ok(text) => match Arc::new(alloc, uses) {
+            Ok(uses) => Content::Paths(uses, text),
+            Err(_) => Content::Fault(Error::from(AllocError)),
+        },
         Err(fault) => Content::Fault(fault),
     }
 }

@@ -9,6 +9,7 @@ use liquid_core::{Error, Object, Uses};
 use liquid_engine::{LimitReached, Page};
 use liquid_language::Language;
 use liquid_syntax::{Partials, Template};
+use std::sync::Arc;
 
 /// What a call makes.
 #[derive(Drop)]
@@ -19,6 +20,8 @@ pub enum Content {
     /// With the most that the templates reach which were ever put among them.
     Partials(Partials, TemplateLevels),
     Data(Object),
+    /// Data that were read as far as paths ask, with what these ask.
+    DataPart(Object, Arc<Uses>),
     Page(Page),
     /// A page that a limit of the caller's ended.
     Ended(Page, LimitReached),
@@ -29,7 +32,9 @@ pub enum Content {
     /// Names, as a list of texts in JSON.
     Names(String),
     /// What a template asks of its data, with the paths as a list of texts in JSON.
-    Paths(Uses, String),
+    Paths(Arc<Uses>, String),
+    /// A key of what a page can see, which is a text of JSON.
+    Key(String),
     /// Why there is none of these.
     Fault(Error),
 }
@@ -46,7 +51,7 @@ impl Content {
         }
     }
 
-    /// The text of a page, or of calls, names or paths in JSON.
+    /// The text of a page, or of calls, names, paths or a key in JSON.
     pub(crate) fn text(&self) -> &str
         ensures { result.now ≡ text_of_handle self.now }
     {
@@ -56,6 +61,7 @@ impl Content {
             Content::Lacking(calls) => calls.text(),
             Content::Names(text) => text.as_str(),
             Content::Paths(_, text) => text.as_str(),
+            Content::Key(text) => text.as_str(),
             _ => "",
         }
     }

@@ -14,6 +14,7 @@ use crate::refusal::{Refusal, store_result};
 use crate::render::{
     Allowed, RenderLimits, allowed_by, around, data_held, empty_data, levels_held, partials_held,
 };
+use crate::served::unserved;
 use liquid_answers::{Answered, Answers, render_page_answered};
 use liquid_core::Object;
 use liquid_engine::LimitedPage;
@@ -97,6 +98,10 @@ fn page(
     };
     let no_data = empty_data(alloc);
     let no_partials = Partials::new(alloc);
+    let others = partials_held(contents.partials, &no_partials);
+    if let Some(answer) = unserved(alloc, contents.data, template, others) {
+        return answer;
+    }
     let is_deep = levels.pass(
         levels_held(contents.partials),
         allowed.setting.depth,
@@ -107,7 +112,7 @@ fn page(
         Hosted { template, table },
         is_deep,
         data_held(contents.data, &no_data),
-        partials_held(contents.partials, &no_partials),
+        others,
         allowed,
     )
 }

@@ -1,10 +1,7 @@
 //! Jekyll's filters, which the library answers itself.
 ghost use Rattle.std.specs.Prelude.{◌≡◌, Some, option_map};
-ghost use Rattle.liquid_model.specs.Answer.{IsValueOrMemory};
-ghost use Rattle.liquid_model.specs.Maps.{listed};
-ghost use Rattle.liquid_language.specs.Registered.{registered_in};
 ghost use Rattle.liquid_c.specs.Jekylls.{IsJekyllRegistration, IsPlacing, PutsSite};
-ghost use Rattle.liquid_c.specs.Jekylls.{RegistersJekylls, with_each_name};
+ghost use Rattle.liquid_c.specs.Jekylls.{RegistersJekylls};
 ghost use Rattle.liquid_c.specs.Shared.{Regaining};
 ghost use Rattle.liquid_c.specs.declared.content.Content.TheVariants as content;
 ghost use Rattle.liquid_c.specs.declared.handle_content.HandleContent.TheVariants.{Own};
@@ -14,14 +11,13 @@ use crate::handle::Handle;
 use crate::handle_content::HandleContent;
 use crate::refusal::Refusal;
 use liquid_answers::Answers;
-use liquid_core::Result as Answer;
-use liquid_jekyll_host_filters::{JEKYLL_FILTERS, JekyllFilter};
-use liquid_language::{FilterRegistry, Language};
+use liquid_filter_sets::register_jekyll_filters;
+use liquid_language::Language;
 use std::alloc::Global;
 
-/// Registers the names of Jekyll's filters in a language, each with the least and the greatest
-/// number of its arguments; what such a name stood for before is forgotten. 0, or `Memory`; then
-/// some of them may be registered, and nothing else changed.
+/// Registers the names of Jekyll's filters and `where_exp` in a language, each with the least and
+/// the greatest number of its arguments; what such a name stood for before is forgotten. 0, or
+/// `Memory`; then some of them may be registered, and nothing else changed.
 #[unsafe(no_mangle)]
 pub extern "C" fn bikleinu_register_jekyll(alloc: Global, language: &mut Handle) -> u32
     ensures { Regaining (λ was. IsJekyllRegistration was result language.new.held)
@@ -51,25 +47,10 @@ fn register_all(alloc: Global, language: &mut Language) -> u32
     ensures { RegistersJekylls language.old result
         (Some (Own (content.Language language.new))) }
 {
-    match register_each(alloc, &mut language.filters, &JEKYLL_FILTERS) {
+    match register_jekyll_filters(alloc, &mut language.filters) {
         Ok(()) => 0,
         Err(fault) => u32::from(fault.kind.number()),
     }
-}
-
-fn register_each(
-    alloc: Global,
-    filters: &mut FilterRegistry,
-    jekylls: &[JekyllFilter],
-) -> Answer<()>
-    ensures { IsValueOrMemory (λ _. listed (registered_in filters.new)) result
-        (with_each_name (listed (registered_in filters.old)) jekylls.now) }
-{
-    for filter in jekylls {
-        let name = String::from_str(alloc, filter.name())?;
-        filters.register_host(name, filter.least(), filter.most())?;
-    }
-    Ok(())
 }
 
 /// Puts a site of this address and this base path into a table, in place of the one before: to a

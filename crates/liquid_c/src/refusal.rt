@@ -32,6 +32,12 @@ pub enum Refusal {
     TakenName,
     /// A number that stands for no style.
     NoSuchStyle,
+    /// A text of given values that is none with commas between them.
+    NoValues,
+    /// A number that stands for no set of filters.
+    NoSuchSet,
+    /// Data that were read for paths, and a run that asks for more.
+    OtherPaths,
 }
 
 impl Refusal {
@@ -50,6 +56,9 @@ impl Refusal {
             Refusal::ReservedName => 111,
             Refusal::TakenName => 112,
             Refusal::NoSuchStyle => 113,
+            Refusal::NoValues => 114,
+            Refusal::NoSuchSet => 115,
+            Refusal::OtherPaths => 116,
         }
     }
 }

@@ -16,6 +16,7 @@ use crate::handle::Handle;
 use crate::handle_content::held_content;
 use crate::levels::TemplateLevels;
 use crate::refusal::{Refusal, store_result};
+use crate::served::unserved;
 use liquid_answers::OwnFilters;
 use liquid_core::{Missing, Object};
 use liquid_engine::{LimitedPage, RunSetting, Surroundings, render_hosted_page};
@@ -62,7 +63,8 @@ pub(crate) struct Allowed {
 ///
 /// `made` then holds the page. 0, or the number of the fault that the page ended by: its text goes
 /// up to the fault. After `Memory` there is no page. A run that could reach more levels than is
-/// usual isn't begun: then the call answers 103, and there is no page either.
+/// usual isn't begun: then the call answers 103, and there is no page either. Nor is one over data
+/// that were read for paths, where it asks for more: 116.
 #[unsafe(no_mangle)]
 pub extern "C" fn bikleinu_render(
     alloc: Global,
@@ -200,13 +202,17 @@ fn page(
     };
     let no_data = empty_data(alloc);
     let no_partials = Partials::new(alloc);
+    let others = partials_held(partials, &no_partials);
+    if let Some(answer) = unserved(alloc, data, template, others) {
+        return answer;
+    }
     let is_deep = levels.pass(levels_held(partials), allowed.setting.depth, allowed.levels);
     page_within_levels(
         alloc,
         template,
         is_deep,
         data_held(data, &no_data),
-        partials_held(partials, &no_partials),
+        others,
         allowed,
     )
 }
@@ -341,6 +347,7 @@ pub(crate) fn data_held<'a>(held: Option<&'a Content>, none: &'a Object) -> Opti
     match held {
         None => Some(none),
         Some(Content::Data(data)) => Some(data),
+        Some(Content::DataPart(data, _)) => Some(data),
         Some(_) => None,
     }
 }

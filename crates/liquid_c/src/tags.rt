@@ -1,6 +1,7 @@
 //! Tags and blocks of the caller's, in a language.
-ghost use Rattle.std.specs.Prelude.{◌≡◌, Some, option_map};
-ghost use Rattle.liquid_c.specs.HostTags.{AddsTag, AsksForTag, IsTagRegistration};
+ghost use Rattle.std.specs.Prelude.{◌≡◌, [], Some, map, option_map};
+ghost use Rattle.liquid_core.specs.ExpressionView.{expression_view};
+ghost use Rattle.liquid_c.specs.HostTags.{AddsGiven, AddsTag, AsksForTag, IsTagRegistration};
 ghost use Rattle.liquid_c.specs.HostTags.{refusal_of_name, style_numbered};
 ghost use Rattle.liquid_c.specs.Shared.{Regaining};
 ghost use Rattle.liquid_c.specs.declared.content.Content.TheVariants as content;
@@ -8,6 +9,7 @@ ghost use Rattle.liquid_c.specs.declared.handle_content.HandleContent.TheVariant
 ghost use Rattle.liquid_c.specs.declared.tags.TagForm.TheVariants as form;
 
 use crate::content::Content;
+use crate::given::given_values;
 use crate::handle::Handle;
 use crate::handle_content::HandleContent;
 use crate::refusal::Refusal;
@@ -27,9 +29,9 @@ pub(crate) enum TagForm {
 /// A tag or a block, as the caller gives it.
 #[derive(Clone, Copy, Drop)]
 struct AskedTag<'c> {
-    form: TagForm,
     name: &'c [u8],
     filter: &'c [u8],
+    given: &'c [u8],
     style: u32,
 }
 
@@ -48,19 +50,16 @@ pub extern "C" fn bikleinu_register_tag(
     filter: &[u8],
     style: u32,
 ) -> u32
-    ensures { Regaining (λ was. IsTagRegistration form.Tag was name.now filter.now style result
+    ensures { Regaining (λ was. IsTagRegistration form.Tag was name.now filter.now [] style result
         language.new.held) language.old.held }
 {
-    let mut held = language.take_to_change(alloc);
-    let asked = AskedTag {
-        form: TagForm::Tag,
+    let bare = AskedTag {
         name,
         filter,
+        given: &[],
         style,
     };
-    let number = register_in_handle(alloc, &mut held, asked);
-    language.put(alloc, held);
-    number
+    register(alloc, language, TagForm::Tag, bare)
 }
 
 /// The same of a block, whose filter is given the text of the body in place of nil.
@@ -72,17 +71,72 @@ pub extern "C" fn bikleinu_register_block(
     filter: &[u8],
     style: u32,
 ) -> u32
-    ensures { Regaining (λ was. IsTagRegistration form.Block was name.now filter.now style result
+    ensures { Regaining (λ was. IsTagRegistration form.Block was name.now filter.now [] style result
         language.new.held) language.old.held }
 {
-    let mut held = language.take_to_change(alloc);
-    let asked = AskedTag {
-        form: TagForm::Block,
+    let bare = AskedTag {
         name,
         filter,
+        given: &[],
         style,
     };
-    let number = register_in_handle(alloc, &mut held, asked);
+    register(alloc, language, TagForm::Block, bare)
+}
+
+/// Registers a tag as `bikleinu_register_tag` does, whose filter is also given these values, as
+/// `page.title, site.url`, after those of the tag: nil where one is missing.
+///
+/// Beside its numbers 114, where the text is no values with commas between them.
+#[unsafe(no_mangle)]
+pub extern "C" fn bikleinu_register_tag_given(
+    alloc: Global,
+    language: &mut Handle,
+    name: &[u8],
+    filter: &[u8],
+    style: u32,
+    given: &[u8],
+) -> u32
+    ensures { Regaining (λ was. IsTagRegistration form.Tag was name.now filter.now given.now style
+        result language.new.held) language.old.held }
+{
+    let asked = AskedTag {
+        name,
+        filter,
+        given,
+        style,
+    };
+    register(alloc, language, TagForm::Tag, asked)
+}
+
+/// The same of a block, as `bikleinu_register_block` registers it.
+#[unsafe(no_mangle)]
+pub extern "C" fn bikleinu_register_block_given(
+    alloc: Global,
+    language: &mut Handle,
+    name: &[u8],
+    filter: &[u8],
+    style: u32,
+    given: &[u8],
+) -> u32
+    ensures { Regaining (λ was. IsTagRegistration form.Block was name.now filter.now given.now style
+        result language.new.held) language.old.held }
+{
+    let asked = AskedTag {
+        name,
+        filter,
+        given,
+        style,
+    };
+    register(alloc, language, TagForm::Block, asked)
+}
+
+fn register(alloc: Global, language: &mut Handle, form: TagForm, asked: AskedTag<'_>) -> u32
+    ensures { Regaining (λ was. IsTagRegistration form was asked.entry.name.now
+        asked.entry.filter.now asked.entry.given.now asked.entry.style result language.new.held)
+        language.old.held }
+{
+    let mut held = language.take_to_change(alloc);
+    let number = register_in_handle(alloc, &mut held, form, asked);
     language.put(alloc, held);
     number
 }
@@ -90,16 +144,17 @@ pub extern "C" fn bikleinu_register_block(
 fn register_in_handle(
     alloc: Global,
     held: &mut Option<Box<HandleContent>>,
+    form: TagForm,
     asked: AskedTag<'_>,
 ) -> u32
-    ensures { IsTagRegistration asked.entry.form (option_map (λ b. b.value) held.old)
-        asked.entry.name.now asked.entry.filter.now asked.entry.style result
+    ensures { IsTagRegistration form (option_map (λ b. b.value) held.old)
+        asked.entry.name.now asked.entry.filter.now asked.entry.given.now asked.entry.style result
         (option_map (λ b. b.value) held.new) }
 {
     match held {
         Some(held) => match &mut **held {
             HandleContent::Own(Content::Language(language)) => {
-                register_asked(alloc, language, asked)
+                register_asked(alloc, language, form, asked)
             }
             HandleContent::Shared(_) => Refusal::SharedHandle.number(),
             _ => Refusal::OtherHandle.number(),
@@ -108,9 +163,10 @@ fn register_in_handle(
     }
 }
 
-fn register_asked(alloc: Global, language: &mut Language, asked: AskedTag<'_>) -> u32
-    ensures { AsksForTag asked.entry.form language.old asked.entry.name.now asked.entry.filter.now
-        asked.entry.style result (Some (Own (content.Language language.new))) }
+fn register_asked(alloc: Global, language: &mut Language, form: TagForm, asked: AskedTag<'_>) -> u32
+    ensures { AsksForTag form language.old asked.entry.name.now asked.entry.filter.now
+        asked.entry.given.now asked.entry.style result
+        (Some (Own (content.Language language.new))) }
 {
     let Some(style) = style_numbered(asked.style) else {
         return Refusal::NoSuchStyle.number();
@@ -121,10 +177,15 @@ fn register_asked(alloc: Global, language: &mut Language, asked: AskedTag<'_>) -
     let Ok(filter) = str::from_utf8(asked.filter) else {
         return Refusal::NoText.number();
     };
-    match asked.form {
-        TagForm::Tag => register_tag(alloc, language, name, filter, style),
-        TagForm::Block => register_block(alloc, language, name, filter, style),
-    }
+    let Ok(given) = str::from_utf8(asked.given) else {
+        return Refusal::NoText.number();
+    };
+    let tag = NamedTag {
+        name,
+        filter,
+        style,
+    };
+    register_given(alloc, language, form, tag, given)
 }
 
 fn style_numbered(asked: u32) -> Option<Style>
@@ -139,27 +200,55 @@ fn style_numbered(asked: u32) -> Option<Style>
     if asked == 2 { Some(Style::Text) } else { None }
 }
 
+/// A tag or a block, as it stands in the language.
+#[derive(Clone, Copy, Drop)]
+struct NamedTag<'c> {
+    name: &'c str,
+    filter: &'c str,
+    style: Style,
+}
+
+fn register_given(
+    alloc: Global,
+    language: &mut Language,
+    form: TagForm,
+    tag: NamedTag<'_>,
+    given: &str,
+) -> u32
+    ensures { AddsGiven form language.old tag.entry.name.now tag.entry.filter.now tag.entry.style
+        given.now result (Some (Own (content.Language language.new))) }
+{
+    let given = match given_values(alloc, given) {
+        Ok(Some(given)) => given,
+        Ok(None) => return Refusal::NoValues.number(),
+        Err(fault) => return u32::from(fault.kind.number()),
+    };
+    match form {
+        TagForm::Tag => register_tag(alloc, language, tag, given),
+        TagForm::Block => register_block(alloc, language, tag, given),
+    }
+}
+
 fn register_tag(
     alloc: Global,
     language: &mut Language,
-    name: &str,
-    filter: &str,
-    style: Style,
+    tag: NamedTag<'_>,
+    given: Vec<Expression>,
 ) -> u32
-    ensures { AddsTag form.Tag language.old name.now filter.now style result
-        (Some (Own (content.Language language.new))) }
+    ensures { AddsTag form.Tag language.old tag.entry.name.now tag.entry.filter.now tag.entry.style
+        (map expression_view given.items) result (Some (Own (content.Language language.new))) }
 {
-    let Ok(name) = String::from_str(alloc, name) else {
+    let Ok(name) = String::from_str(alloc, tag.name) else {
         return u32::from(ErrorKind::Memory.number());
     };
-    let Ok(filter) = String::from_str(alloc, filter) else {
+    let Ok(filter) = String::from_str(alloc, tag.filter) else {
         return u32::from(ErrorKind::Memory.number());
     };
     let call = HostCall {
         filter,
         input: Expression::Literal(Value::Nil),
-        style,
-        given: Vec::new(alloc),
+        style: tag.style,
+        given,
     };
     match language.register_tag(name, call) {
         Ok(()) => 0,
@@ -171,23 +260,23 @@ fn register_tag(
 fn register_block(
     alloc: Global,
     language: &mut Language,
-    name: &str,
-    filter: &str,
-    style: Style,
+    tag: NamedTag<'_>,
+    given: Vec<Expression>,
 ) -> u32
-    ensures { AddsTag form.Block language.old name.now filter.now style result
+    ensures { AddsTag form.Block language.old tag.entry.name.now tag.entry.filter.now
+        tag.entry.style (map expression_view given.items) result
         (Some (Own (content.Language language.new))) }
 {
-    let Ok(name) = String::from_str(alloc, name) else {
+    let Ok(name) = String::from_str(alloc, tag.name) else {
         return u32::from(ErrorKind::Memory.number());
     };
-    let Ok(filter) = String::from_str(alloc, filter) else {
+    let Ok(filter) = String::from_str(alloc, tag.filter) else {
         return u32::from(ErrorKind::Memory.number());
     };
     let block = HostBlock {
         filter,
-        style,
-        given: Vec::new(alloc),
+        style: tag.style,
+        given,
     };
     match language.register_block(alloc, name, block) {
         Ok(()) => 0,

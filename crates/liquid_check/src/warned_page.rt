@@ -1,7 +1,7 @@
 //! Pages, and what they show silently.
-ghost use Rattle.std.specs.Prelude.{◌≡◌, ◌≤◌, IfErr, IfOk, None, [], length};
+ghost use Rattle.std.specs.Prelude.{◌≡◌, ◌≤◌, IfErr, IfOk, List, None, [], length, take};
 ghost use Rattle.liquid_check.specs.Findings.{SaysAll};
-ghost use Rattle.liquid_check.specs.Silence.{silent_among};
+ghost use Rattle.liquid_check.specs.Silence.{SaysSilent, silent_among};
 ghost use Rattle.liquid_core.specs.Held.{held};
 ghost use Rattle.liquid_engine.specs.LimitedPages.{PageWithin};
 ghost use Rattle.liquid_engine.specs.Limits.{unlimited};
@@ -50,6 +50,10 @@ pub fn render_warned_page<'t>(
         (partials_of around.entry.partials.now) (held «data».now)
         (tree_of read.entry.template.now)) w.page) }
     ensures free { around.entry.limits ≡ unlimited → IfOk result (λ w. w.page.limit ≡ None) }
+    // the first hundred of what it shows silently
+    ensures warned { IfOk result (λ w. (all : List Remark) ×
+        SaysSilent WrittenFor.Bikleinu around.entry.missing read.entry.template.now all
+        × (w.warnings.items ≡ take 100 all)) }
     ensures bounded { IfOk result (λ w. length w.warnings.items ≤ 100) }
     ensures memory { IfErr result (λ e. e.kind ≡ ErrorKind.Memory) }
 {
@@ -65,6 +69,9 @@ fn silent_warnings<'t>(
     missing: Missing,
     data: &'t Object,
 ) -> Result<Vec<Remark>>
+    ensures warned { IfOk result (λ ws. (all : List Remark) ×
+        SaysSilent WrittenFor.Bikleinu missing read.entry.template.now all
+        × (ws.items ≡ take 100 all)) }
     ensures bounded { IfOk result (λ ws. length ws.items ≤ 100) }
     ensures memory { IfErr result (λ e. e.kind ≡ ErrorKind.Memory) }
 {
@@ -80,10 +87,12 @@ fn silent_warnings<'t>(
         template: Some(read.template),
         is_page: true,
     };
-    let mut warnings = Vec::new(alloc);
-    for remarks in warnings_of(alloc, &[file], given)? {
-        warnings = silent_of(alloc, remarks, read.template, missing)?;
-    }
+    let mut lists = warnings_of(alloc, &[file], given)?;
+    // there is a list for the one file
+    let Some(remarks) = lists.pop() else {
+        unreachable!();
+    };
+    let mut warnings = silent_of(alloc, remarks, read.template, missing)?;
     warnings.truncate(MOST_SILENT);
     Ok(warnings)
 }

@@ -6,8 +6,8 @@
 --     are_lines source, stray_in source      whether each record is a line; the line of the first
 --                                            text after a closing quote in a table
 use Rattle.liquid_data.specs.Tables.{stray_line}
-use Rattle.std.specs.Prelude.{Bool, true, false, ◌||◌, cond, List, ℕ, [], map, Result, Ok, Err, string_bytes}
-use Rattle.std.specs.Prelude.{Option, Some, None, String}
+use Rattle.std.specs.Prelude.{Bool, true, false, ◌||◌, cond, List, ℕ, [], map, Result, Ok, Err}
+use Rattle.std.specs.Prelude.{Option, Some, None, String, string_bytes}
 use Rattle.std.specs.Str.{is_utf8}
 use Rattle.std.specs.declared.alloc.Global.{Global}
 use Rattle.csv.specs.Records.{fields_of}

@@ -7,6 +7,7 @@ mod decimal;
 mod filter;
 mod groups;
 pub mod laws;
+mod named;
 mod reading;
 mod sums;
 mod writing;

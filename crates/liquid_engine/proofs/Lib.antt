@@ -24,6 +24,7 @@ pub mod Pieces
 pub mod RenderEach
 pub mod RenderKinds
 pub mod Renderings
+pub mod Reserves
 pub mod SameKindOrMemory
 pub mod Silent
 pub mod Sinks

@@ -2,8 +2,10 @@
 --     Takes n old new      n of those left were taken; where there is no limit, there still is none
 --     is_within_limit n left      at least n are left, or there is no limit
 use Rattle.std.specs.Prelude.{◌≡◌, ℕ, ◌-◌, ◌≤◌, nat_le, Bool, true}
-use Rattle.std.specs.Prelude.{Option, Some, None, Result, Ok, Err}
+use Rattle.std.specs.Prelude.{Option, Some, None, is_some, Result, Ok, Err}
 use Rattle.liquid_engine.specs.declared.limits.Limits.{Limits}
+use Rattle.liquid_engine.specs.declared.limits.LimitReached.{LimitReached}
+use Rattle.liquid_engine.specs.declared.limits.LimitReached.TheVariants.{Bytes, Turns}
 
 -- no limit at all
 abbrev pub unlimited : Limits
@@ -12,6 +14,11 @@ unlimited = record { bytes = None; turns = None }
 abbrev pub is_within_limit : ℕ → Option ℕ → Bool
 is_within_limit n None = true
 is_within_limit n (Some left) = nat_le n left
+
+-- this one is among these
+abbrev pub is_limited_by : LimitReached → Limits → Bool
+is_limited_by Bytes limits = is_some limits.bytes
+is_limited_by Turns limits = is_some limits.turns
 
 abbrev pub Takes : ℕ → Option ℕ → Option ℕ → Type 0
 Takes n None new = new ≡ None

@@ -10,4 +10,5 @@ pub mod LoopTurns
 pub mod NodeTurns
 pub mod Partials
 pub mod Puts
+pub mod Reserves
 pub mod SameKindOrMemory

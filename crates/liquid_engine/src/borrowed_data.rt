@@ -1,9 +1,10 @@
 //! Runs over the data of a runtime, which is borrowed for the run.
-ghost use Rattle.std.specs.Prelude.{◌≡◌, length};
+ghost use Rattle.std.specs.Prelude.{◌≡◌, ◌≤◌, length};
 ghost use Rattle.liquid_core.specs.States.{layers_of, loops_of};
 ghost use Rattle.liquid_syntax.specs.Templates.{tree_of};
 ghost use Rattle.liquid_evaluation.specs.Names.{nodes_names};
 ghost use Rattle.liquid_engine.specs.inside.Engine.{setting_of, nodes_in};
+ghost use Rattle.liquid_engine.specs.inside.Reserves.{limited_in, reserve_in};
 ghost use Rattle.liquid_engine.specs.StateKept.{Keeps, LayersKept, AreRenderNodes};
 ghost use Rattle.liquid_engine.specs.Performs.{Performs, configuration_of};
 ghost use Rattle.liquid_engine.specs.Rendered.{run_in, names_in};
@@ -33,6 +34,8 @@ pub(crate) fn run_template<W: CountedWrite>(
         (configuration_of W.contents W.failure_count out.old runtime.old.state)
         (configuration_of W.contents W.failure_count out.new runtime.new.state) }
     ensures same_writer { out.new.writer.ghost_name ≡ out.old.writer.ghost_name }
+    ensures bounded { reserve_in W.left out.new ≤ reserve_in W.left out.old }
+    ensures limited { limited_in W.left out.new ≡ limited_in W.left out.old }
     ensures kept { LayersKept (names_in runtime.old (tree_of template.now)) (layers_in runtime.old)
         (layers_in runtime.new) }
     ensures alone { AreRenderNodes (tree_of template.now) → layers_in runtime.new ≡
@@ -68,6 +71,8 @@ pub(crate) fn run_with_borrowed_data<W: CountedWrite, H: NamedFilters>(
         (configuration_of W.contents W.failure_count out.old state.old)
         (configuration_of W.contents W.failure_count out.new state.new) }
     ensures same_writer { out.new.writer.ghost_name ≡ out.old.writer.ghost_name }
+    ensures bounded { reserve_in W.left out.new ≤ reserve_in W.left out.old }
+    ensures limited { limited_in W.left out.new ≡ limited_in W.left out.old }
     ensures kept { Keeps (nodes_names (tree_of template.now)) (setting_of H.named context.now)
         state.old
         state.new }

@@ -1,5 +1,5 @@
 //! Chains, of which each filter's answer takes its bytes of a limit.
-ghost use Rattle.std.specs.Prelude.{◌≡◌, OnOk, map};
+ghost use Rattle.std.specs.Prelude.{◌≡◌, ◌≤◌, OnOk, map};
 ghost use Rattle.liquid_model.specs.Cow.{cow_view};
 ghost use Rattle.liquid_core.specs.States.{environment_of};
 ghost use Rattle.liquid_evaluation.specs.ChainView.{chain_filter_view, chain_view};
@@ -8,6 +8,7 @@ ghost use Rattle.liquid_meaning.specs.Runs.{evaluate};
 ghost use Rattle.liquid_engine.specs.Limits.{TakesBytes};
 ghost use Rattle.liquid_engine.specs.Performs.{Meets, configuration_of};
 ghost use Rattle.liquid_engine.specs.inside.ChainBytes.{chain_bytes, through_bytes};
+ghost use Rattle.liquid_engine.specs.inside.Reserves.{limited_in, reserve_in};
 
 use crate::counted::CountedWrite;
 use crate::output::Output;
@@ -33,6 +34,8 @@ pub(crate) fn chain_within<'a, W: CountedWrite, H: NamedFilters>(
         (chain_bytes (answers_with (H.named host.now)) (chain_view chain.now)
         (environment_of state.now)) (W.left out.old.writer.now) (W.left out.new.writer.now)) }
     ensures same_writer { out.new.writer.ghost_name ≡ out.old.writer.ghost_name }
+    ensures bounded { reserve_in W.left out.new ≤ reserve_in W.left out.old }
+    ensures limited { limited_in W.left out.new ≡ limited_in W.left out.old }
 {
     let entry = chain.evaluate_entry(alloc, state)?;
     filters_within(alloc, &chain.filters, entry, host, out, state)
@@ -58,6 +61,8 @@ pub(crate) fn filters_within<'a, W: CountedWrite, H: NamedFilters>(
         (cow_view value.entry) (environment_of state.now))
         (W.left out.old.writer.now) (W.left out.new.writer.now)) }
     ensures same_writer { out.new.writer.ghost_name ≡ out.old.writer.ghost_name }
+    ensures bounded { reserve_in W.left out.new ≤ reserve_in W.left out.old }
+    ensures limited { limited_in W.left out.new ≡ limited_in W.left out.old }
 {
     for stored in filters {
         let input = value.as_value();

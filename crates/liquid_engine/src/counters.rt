@@ -1,5 +1,5 @@
 //! Runs of `increment` and `decrement`.
-ghost use Rattle.std.specs.Prelude.{◌≡◌, pos, ◌+ℤ◌, ◌-ℤ◌, T};
+ghost use Rattle.std.specs.Prelude.{◌≡◌, ◌≤◌, pos, ◌+ℤ◌, ◌-ℤ◌, T};
 ghost use Rattle.std.specs.Option.{ok_or};
 ghost use Rattle.liquid_model.specs.Answer.{Answers};
 ghost use Rattle.liquid_model.specs.declared.error.ErrorKind.TheVariants.{NumberRange};
@@ -9,6 +9,7 @@ ghost use Rattle.liquid_evaluation.specs.Names.{node_names};
 ghost use Rattle.liquid_evaluation.specs.Tree as tree;
 ghost use Rattle.liquid_engine.specs.inside.Counters.{in_i64, shown_and_stored};
 ghost use Rattle.liquid_engine.specs.inside.Engine.{setting_of, node_in};
+ghost use Rattle.liquid_engine.specs.inside.Reserves.{limited_in, reserve_in};
 ghost use Rattle.liquid_engine.specs.StateKept.{Keeps, LayersKept};
 ghost use Rattle.liquid_engine.specs.Performs.{Performs, configuration_of};
 ghost use Rattle.liquid_meaning.specs.Effects.{counter_number};
@@ -34,6 +35,8 @@ pub(crate) fn run_increment<W: CountedWrite, H: NamedFilters>(
         (configuration_of W.contents W.failure_count out.old state.old)
         (configuration_of W.contents W.failure_count out.new state.new) }
     ensures same_writer { out.new.writer.ghost_name ≡ out.old.writer.ghost_name }
+    ensures bounded { reserve_in W.left out.new ≤ reserve_in W.left out.old }
+    ensures limited { limited_in W.left out.new ≡ limited_in W.left out.old }
     ensures kept { Keeps (node_names (tree.increment name.now)) (setting_of H.named context.now)
         state.old
         state.new }
@@ -58,6 +61,8 @@ pub(crate) fn run_decrement<W: CountedWrite, H: NamedFilters>(
         (configuration_of W.contents W.failure_count out.old state.old)
         (configuration_of W.contents W.failure_count out.new state.new) }
     ensures same_writer { out.new.writer.ghost_name ≡ out.old.writer.ghost_name }
+    ensures bounded { reserve_in W.left out.new ≤ reserve_in W.left out.old }
+    ensures limited { limited_in W.left out.new ≡ limited_in W.left out.old }
     ensures kept { Keeps (node_names (tree.decrement name.now)) (setting_of H.named context.now)
         state.old
         state.new }
@@ -118,6 +123,8 @@ fn show_and_store<W: CountedWrite>(
         (configuration_of W.contents W.failure_count out.old state.old)
         (configuration_of W.contents W.failure_count out.new state.new) }
     ensures same_writer { out.new.writer.ghost_name ≡ out.old.writer.ghost_name }
+    ensures bounded { reserve_in W.left out.new ≤ reserve_in W.left out.old }
+    ensures limited { limited_in W.left out.new ≡ limited_in W.left out.old }
     ensures kept { (N : Names) → T (N name.now) →
         LayersKept N (layers_of state.old) (layers_of state.new) }
     ensures loops { loops_of state.new ≡ loops_of state.old }

@@ -13,6 +13,7 @@ ghost use Rattle.liquid_evaluation.specs.Names.{node_names, nodes_names};
 ghost use Rattle.liquid_evaluation.specs.Tree as tree;
 ghost use Rattle.liquid_engine.specs.inside.Choices.{NodeComesTo};
 ghost use Rattle.liquid_engine.specs.inside.Engine.{setting_of, node_in, nodes_in};
+ghost use Rattle.liquid_engine.specs.inside.Reserves.{limited_in, reserve_in};
 ghost use Rattle.liquid_engine.specs.StateKept.{Keeps, IsRenderNode, AreRenderNodes};
 ghost use Rattle.liquid_engine.specs.Performs.{Performs, configuration_of};
 ghost use Rattle.liquid_engine.specs.Silent.{AreSilent, IsDoneOrStopped, IsSilent};
@@ -59,6 +60,8 @@ pub(crate) fn run_range<'d, W: CountedWrite, H: NamedFilters>(
         (configuration_of W.contents W.failure_count out.old state.old)
         (configuration_of W.contents W.failure_count out.new state.new) }
     ensures same_writer { out.new.writer.ghost_name ≡ out.old.writer.ghost_name }
+    ensures bounded { reserve_in W.left out.new ≤ reserve_in W.left out.old }
+    ensures limited { limited_in W.left out.new ≡ limited_in W.left out.old }
     ensures kept { (f : Forest Maker) → IsForestAt nodes.now from f to →
         Keeps (nodes_names (nodes_of f)) (setting_of H.named context.now) state.old state.new }
     ensures alone { (f : Forest Maker) → IsForestAt nodes.now from f to →
@@ -114,6 +117,8 @@ fn run_node<'d, W: CountedWrite, H: NamedFilters>(
         (configuration_of W.contents W.failure_count out.old state.old)
         (configuration_of W.contents W.failure_count out.new state.new) }
     ensures same_writer { out.new.writer.ghost_name ≡ out.old.writer.ghost_name }
+    ensures bounded { reserve_in W.left out.new ≤ reserve_in W.left out.old }
+    ensures limited { limited_in W.left out.new ≡ limited_in W.left out.old }
     ensures kept { (n : tree.Node) (next : ℕ) → NodeAt nodes.now at n next →
         Keeps (node_names n) (setting_of H.named context.now) state.old state.new }
     ensures alone { (n : tree.Node) (next : ℕ) → NodeAt nodes.now at n next → IsRenderNode n →
@@ -206,6 +211,8 @@ fn run_chosen<'d, W: CountedWrite, H: NamedFilters>(
         (configuration_of W.contents W.failure_count out.old state.old)
         (configuration_of W.contents W.failure_count out.new state.new) }
     ensures same_writer { out.new.writer.ghost_name ≡ out.old.writer.ghost_name }
+    ensures bounded { reserve_in W.left out.new ≤ reserve_in W.left out.old }
+    ensures limited { limited_in W.left out.new ≡ limited_in W.left out.old }
     ensures kept { (n : tree.Node) → NodeComesTo nodes.now (environment_of state.old) n chosen →
         Keeps (node_names n) (setting_of H.named context.now) state.old state.new }
     ensures loops { loops_of state.new ≡ loops_of state.old }
@@ -233,6 +240,8 @@ fn run_include<'d, W: CountedWrite, H: NamedFilters>(
         (configuration_of W.contents W.failure_count out.old state.old)
         (configuration_of W.contents W.failure_count out.new state.new) }
     ensures same_writer { out.new.writer.ghost_name ≡ out.old.writer.ghost_name }
+    ensures bounded { reserve_in W.left out.new ≤ reserve_in W.left out.old }
+    ensures limited { limited_in W.left out.new ≡ limited_in W.left out.old }
     ensures kept { Keeps
         (node_names (tree.include (expression_view name.now) (bindings_view bindings.now)))
         (setting_of H.named context.now) state.old state.new }
@@ -262,6 +271,8 @@ fn run_jekyll_include<'d, W: CountedWrite, H: NamedFilters>(
         (configuration_of W.contents W.failure_count out.old state.old)
         (configuration_of W.contents W.failure_count out.new state.new) }
     ensures same_writer { out.new.writer.ghost_name ≡ out.old.writer.ghost_name }
+    ensures bounded { reserve_in W.left out.new ≤ reserve_in W.left out.old }
+    ensures limited { limited_in W.left out.new ≡ limited_in W.left out.old }
     ensures kept { Keeps (node_names (tree.jekyll_include name.now (bindings_view bindings.now)))
         (setting_of H.named context.now) state.old state.new }
     ensures loops { loops_of state.new ≡ loops_of state.old }

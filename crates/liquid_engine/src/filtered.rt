@@ -1,8 +1,9 @@
 //! What a block of a host does with the text of its body.
-ghost use Rattle.std.specs.Prelude.{◌≡◌, map, string_bytes};
+ghost use Rattle.std.specs.Prelude.{◌≡◌, ◌≤◌, map, string_bytes};
 ghost use Rattle.liquid_evaluation.specs.ChainView.{chain_filter_view};
 ghost use Rattle.liquid_evaluation.specs.Evaluation.{answers_with};
 ghost use Rattle.liquid_engine.specs.inside.Filtered.{written_through};
+ghost use Rattle.liquid_engine.specs.inside.Reserves.{limited_in, reserve_in};
 ghost use Rattle.liquid_engine.specs.Performs.{Performs, configuration_of};
 
 use crate::chain_within::filters_within;
@@ -30,6 +31,8 @@ pub(crate) fn write_filtered<W: CountedWrite, H: NamedFilters>(
         (configuration_of W.contents W.failure_count out.old state.now)
         (configuration_of W.contents W.failure_count out.new state.now) }
     ensures same_writer { out.new.writer.ghost_name ≡ out.old.writer.ghost_name }
+    ensures bounded { reserve_in W.left out.new ≤ reserve_in W.left out.old }
+    ensures limited { limited_in W.left out.new ≡ limited_in W.left out.old }
 {
     let input = ValueCow::Owned(Value::Text(text));
     let answer = filters_within(alloc, filters, input, context.host, out, state)?;

@@ -1,14 +1,15 @@
 //! Pages of runs with filters of a host.
-ghost use Rattle.std.specs.Prelude.{◌≡◌, [], IfErr, IfOk, None, length, string_bytes};
+ghost use Rattle.std.specs.Prelude.{◌≡◌, ◌≤◌, [], IfErr, IfOk, Some, None, length, string_bytes};
 ghost use Rattle.liquid_core.specs.Held.{held};
 ghost use Rattle.liquid_core.specs.States.{environment_of, loops_of};
 ghost use Rattle.liquid_syntax.specs.Templates.{partials_of, tree_of};
 ghost use Rattle.liquid_engine.specs.HostedPages.{EndsOtherwise, hosted_page};
-ghost use Rattle.liquid_engine.specs.LimitedPages.{PageWithin};
+ghost use Rattle.liquid_engine.specs.LimitedPages.{KeepsLimits, PageWithin};
 ghost use Rattle.liquid_engine.specs.Limits.{unlimited};
 ghost use Rattle.liquid_engine.specs.Pages.{shown};
 ghost use Rattle.liquid_engine.specs.Performs.{Performs};
 ghost use Rattle.liquid_engine.specs.inside.Engine.{with_writer, nodes_in};
+ghost use Rattle.liquid_engine.specs.inside.Reserves.{are_limited, reserve_of};
 
 use crate::borrowed_data::run_with_borrowed_data;
 use crate::context::{Places, RunContext};
@@ -24,9 +25,10 @@ use std::alloc::Global;
 /// The page of a template in a new run over this data, with filters of a host and within limits.
 /// The data is borrowed, so that nothing of it is copied.
 ///
-/// Where no limit is reached it is the whole page. Else it has a beginning of its text, and tells
-/// which limit ended it. The answer is `Memory` where a growth was refused and where a filter of
-/// the host answers that kind, and no other kind. So no page ends by `Memory`.
+/// It has no more bytes than the limit on them. Where no limit is reached it is the whole page.
+/// Else it has a beginning of its text, and says which of the limits ended it. The answer is
+/// `Memory` where a growth was refused and where a filter of the host answers that kind, and no
+/// other kind. So no page ends by `Memory`.
 pub fn render_hosted_page<H: NamedFilters>(
     alloc: Global,
     template: &Template,
@@ -37,6 +39,7 @@ pub fn render_hosted_page<H: NamedFilters>(
     ensures page { IfOk result (λ p. PageWithin (hosted_page around.entry.missing
         (H.named host.now) around.entry.depth (partials_of around.entry.partials.now)
         (held «data».now) (tree_of template.now)) p) }
+    ensures limits { IfOk result (KeepsLimits around.entry.limits) }
     // without limits none ends it
     ensures free { around.entry.limits ≡ unlimited → IfOk result (λ p. p.limit ≡ None) }
     ensures ended { IfOk result (λ p. EndsOtherwise p.page) }
@@ -71,6 +74,7 @@ fn hosted_without_limits<H: NamedFilters>(
         (shown (nodes_in H.named context.now (tree_of template.now) (environment_of state.old)))
         p) }
     ensures free { IfOk result (λ p. p.limit ≡ None) }
+    ensures limits { IfOk result (KeepsLimits unlimited) }
     ensures ended { IfOk result (λ p. EndsOtherwise p.page) }
     ensures memory { IfErr result (λ e. e.kind ≡ ErrorKind.Memory) }
 {
@@ -89,10 +93,14 @@ fn text_with<W: CountedWrite, H: NamedFilters>(
     state: &mut State<'_>,
 ) -> (String, Result<()>)
     requires plain { length (loops_of state.old) ≡ 0 }
-    ensures { Performs result.1 (nodes_in H.named context.now (tree_of template.now))
+    ensures performs { Performs result.1 (nodes_in H.named context.now (tree_of template.now))
         (with_writer W.contents W.failure_count writer.old [] (environment_of state.old))
         (with_writer W.contents W.failure_count writer.new (string_bytes result.0)
         (environment_of state.new)) }
+    // the text took its bytes
+    ensures bounded { reserve_of (Some (string_bytes result.0)) (W.left writer.new).bytes ≤
+        reserve_of (Some []) (W.left writer.old).bytes }
+    ensures limited { are_limited (W.left writer.new) ≡ are_limited (W.left writer.old) }
 {
     let mut out = Output {
         writer,

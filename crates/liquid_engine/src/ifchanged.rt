@@ -1,8 +1,9 @@
 //! What an `ifchanged` does with the text of its body.
-ghost use Rattle.std.specs.Prelude.{◌≡◌, string_bytes};
+ghost use Rattle.std.specs.Prelude.{◌≡◌, ◌≤◌, string_bytes};
 ghost use Rattle.liquid_core.specs.Environment.{Names};
 ghost use Rattle.liquid_core.specs.States.{environment_of, layers_of, loops_of};
 ghost use Rattle.liquid_engine.specs.inside.Changed.{shown_if_changed, written_unless_last};
+ghost use Rattle.liquid_engine.specs.inside.Reserves.{limited_in, reserve_in};
 ghost use Rattle.liquid_engine.specs.StateKept.{LayersKept};
 ghost use Rattle.liquid_engine.specs.Performs.{Performs, configuration_of};
 ghost use Rattle.liquid_meaning.specs.Effects.{is_last_text};
@@ -24,6 +25,8 @@ pub(crate) fn show_if_changed<W: CountedWrite>(
         (configuration_of W.contents W.failure_count out.old state.old)
         (configuration_of W.contents W.failure_count out.new state.new) }
     ensures same_writer { out.new.writer.ghost_name ≡ out.old.writer.ghost_name }
+    ensures bounded { reserve_in W.left out.new ≤ reserve_in W.left out.old }
+    ensures limited { limited_in W.left out.new ≡ limited_in W.left out.old }
     ensures kept { (N : Names) → LayersKept N (layers_of state.old) (layers_of state.new) }
     ensures loops { loops_of state.new ≡ loops_of state.old }
 {
@@ -44,6 +47,8 @@ fn write_unless_last<W: CountedWrite>(
         (configuration_of W.contents W.failure_count out.old state.now)
         (configuration_of W.contents W.failure_count out.new state.now) }
     ensures same_writer { out.new.writer.ghost_name ≡ out.old.writer.ghost_name }
+    ensures bounded { reserve_in W.left out.new ≤ reserve_in W.left out.old }
+    ensures limited { limited_in W.left out.new ≡ limited_in W.left out.old }
 {
     if is_last(text, state) {
         return Ok(());

@@ -1,12 +1,10 @@
 //! Limits on a run: how many bytes it may write and hold, and how many turns it may take.
-ghost use Rattle.std.specs.Prelude.{◌≡◌, length, IsErr, None, true, false};
+ghost use Rattle.std.specs.Prelude.{◌≡◌, ◌||◌, length, nat_eq, IsErr, None, true, false};
 ghost use Rattle.std.specs.Io.{WritesAtMost};
 ghost use Rattle.std.specs.Io.KnownBytes.{WriteAppends};
 ghost use Rattle.liquid_engine.specs.Failures.{failures_after, OneFailed};
-ghost use Rattle.liquid_engine.specs.LimitedParts.{limited_inner, limited_left, refusals};
-ghost use Rattle.liquid_engine.specs.LimitedParts.{failures_of, reached, Refuses};
-ghost use Rattle.liquid_engine.specs.Limits.{is_within_limit, Takes, TakesBytes, TakesTurns};
-ghost use Rattle.liquid_engine.specs.Limits.{unlimited, WriteTakes};
+ghost use Rattle.liquid_engine.specs.Limits.{is_limited_by, is_within_limit, Takes, TakesBytes};
+ghost use Rattle.liquid_engine.specs.Limits.{TakesTurns, unlimited, WriteTakes};
 ghost use Rattle.liquid_engine.specs.declared.limits.LimitReached.TheVariants.{Bytes, Turns};
 
 use crate::counted::CountedWrite;
@@ -28,7 +26,7 @@ pub struct Limits {
     pub turns: Option<u64>,
 }
 
-/// The limit that ended a run.
+/// The limit that ended a run, which is one of those that its caller set.
 #[derive(Clone, Copy, Debug)]
 pub enum LimitReached {
     /// A text or a value took more than the bytes that were left. Nothing of that text was written,
@@ -46,9 +44,14 @@ pub struct Limited<W> {
     refusals: u64,
     // It means nothing until something is refused.
     last: LimitReached,
+    // A limit that refused something is one that there is.
+    ghost is_given: { (nat_eq refusals 0 || is_limited_by last left) ≡ true },
 }
 
 impl<W: CountedWrite> Limited<W> {
+    ghost use Rattle.liquid_engine.specs.LimitedParts.{limited_inner, limited_left, refusals};
+    ghost use Rattle.liquid_engine.specs.LimitedParts.{reached, Refuses};
+
     /// The writer, within these limits.
     pub fn new(writer: W, limits: Limits) -> Self
         ensures writer { limited_inner result ≡ writer }
@@ -96,14 +99,18 @@ impl<W: CountedWrite> Limited<W> {
 
     /// Counts a refusal by this limit.
     fn refuse(&mut self, limit: LimitReached)
+        requires { is_limited_by limit (limited_left self.old) ≡ true }
         ensures { Refuses limit self.old self.new }
     {
-        self.refusals = self.refusals.saturating_add(1);
         self.last = limit;
+        self.refusals = self.refusals.saturating_add(1);
     }
 }
 
 impl<W: CountedWrite> CountedWrite for Limited<W> {
+    ghost use Rattle.liquid_engine.specs.LimitedParts.{failures_of, limited_inner, limited_left};
+    ghost use Rattle.liquid_engine.specs.LimitedParts.{refusals, Refuses};
+
     ghost contents = { λ c. W.contents (limited_inner c) };
 
     ghost failure_count = { λ c. failures_of W.failure_count c };
@@ -225,7 +232,8 @@ impl<W: CountedWrite> CountedWrite for Limited<W> {
 
 /// Whether there is no limit.
 pub(crate) fn are_none(limits: Limits) -> bool
-    ensures { limits ≡ unlimited → result ≡ true }
+    ensures all { limits ≡ unlimited → result ≡ true }
+    ensures only { result ≡ true → limits ≡ unlimited }
 {
     limits.bytes.is_none() && limits.turns.is_none()
 }

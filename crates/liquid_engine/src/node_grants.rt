@@ -1,10 +1,11 @@
 //! What a run asks for before a node runs: its turns, and the bytes of what it copies for the
 //! nodes that it runs in turn, which are the values of pairs and the lists of loops.
-ghost use Rattle.std.specs.Prelude.{◌≡◌, [], OnOk, OnErr};
+ghost use Rattle.std.specs.Prelude.{◌≡◌, ◌≤◌, [], OnOk, OnErr};
 ghost use Rattle.liquid_syntax.specs.Flats.{IsNode};
 ghost use Rattle.liquid_engine.specs.Failures.{OneFailed};
 ghost use Rattle.liquid_engine.specs.Performs.{Cut};
 ghost use Rattle.liquid_engine.specs.Sinks.{sink_of};
+ghost use Rattle.liquid_engine.specs.inside.Reserves.{limited_in, reserve_in};
 
 use crate::counted::CountedWrite;
 use crate::node_turns::turns_of_node;
@@ -33,6 +34,8 @@ pub(crate) fn grant_node<W: CountedWrite>(
         (sink_of W.contents W.failure_count out.old).failures
         (sink_of W.contents W.failure_count out.new).failures) }
     ensures same_writer { out.new.writer.ghost_name ≡ out.old.writer.ghost_name }
+    ensures bounded { reserve_in W.left out.new ≤ reserve_in W.left out.old }
+    ensures limited { limited_in W.left out.new ≡ limited_in W.left out.old }
 {
     match take_copies(alloc, nodes, at, out, state) {
         Ok(()) => turns_of_node(alloc, nodes, at, to, out),
@@ -57,6 +60,8 @@ fn take_copies<W: CountedWrite>(
         (sink_of W.contents W.failure_count out.old).failures
         (sink_of W.contents W.failure_count out.new).failures) }
     ensures same_writer { out.new.writer.ghost_name ≡ out.old.writer.ghost_name }
+    ensures bounded { reserve_in W.left out.new ≤ reserve_in W.left out.old }
+    ensures limited { limited_in W.left out.new ≡ limited_in W.left out.old }
 {
     if !out.counts_bytes() {
         return Ok(());
@@ -90,6 +95,8 @@ fn take_pairs<W: CountedWrite>(
         (sink_of W.contents W.failure_count out.old).failures
         (sink_of W.contents W.failure_count out.new).failures) }
     ensures same_writer { out.new.writer.ghost_name ≡ out.old.writer.ghost_name }
+    ensures bounded { reserve_in W.left out.new ≤ reserve_in W.left out.old }
+    ensures limited { limited_in W.left out.new ≡ limited_in W.left out.old }
 {
     for binding in bindings {
         match take_value_of(alloc, &binding.value, out, state) {
@@ -117,6 +124,8 @@ fn take_list<W: CountedWrite>(
         (sink_of W.contents W.failure_count out.old).failures
         (sink_of W.contents W.failure_count out.new).failures) }
     ensures same_writer { out.new.writer.ghost_name ≡ out.old.writer.ghost_name }
+    ensures bounded { reserve_in W.left out.new ≤ reserve_in W.left out.old }
+    ensures limited { limited_in W.left out.new ≡ limited_in W.left out.old }
 {
     let RangeExpression::Array(list) = source else {
         return Ok(());
@@ -144,6 +153,8 @@ fn take_value_of<W: CountedWrite>(
         (sink_of W.contents W.failure_count out.old).failures
         (sink_of W.contents W.failure_count out.new).failures) }
     ensures same_writer { out.new.writer.ghost_name ≡ out.old.writer.ghost_name }
+    ensures bounded { reserve_in W.left out.new ≤ reserve_in W.left out.old }
+    ensures limited { limited_in W.left out.new ≡ limited_in W.left out.old }
 {
     match expression.try_evaluate(alloc, state) {
         Ok(Some(value)) => out.take_value(alloc, value.as_value()),

@@ -1,5 +1,5 @@
 //! The turns of a node, which a run asks for before the node runs.
-ghost use Rattle.std.specs.Prelude.{◌≡◌, ℕ, ◌+◌, [], OnOk, OnErr};
+ghost use Rattle.std.specs.Prelude.{◌≡◌, ◌≤◌, ℕ, ◌+◌, [], OnOk, OnErr};
 ghost use Rattle.liquid_evaluation.specs.ConditionView.{condition_view};
 ghost use Rattle.liquid_evaluation.specs.Tree as tree;
 ghost use Rattle.liquid_syntax.specs.Flats.{Maker, IsForestAt, IsNode, IsNodeRange, NodeAt};
@@ -13,6 +13,7 @@ ghost use Rattle.liquid_engine.specs.Sinks.{sink_of};
 ghost use Rattle.liquid_engine.specs.inside.NodeTurns.{comparisons, counted_turns};
 ghost use Rattle.liquid_engine.specs.inside.NodeTurns.{elsif_comparisons, listed_values};
 ghost use Rattle.liquid_engine.specs.inside.NodeTurns.{node_turns};
+ghost use Rattle.liquid_engine.specs.inside.Reserves.{limited_in, reserve_in};
 
 use crate::counted::CountedWrite;
 use crate::output::{Output, Turns};
@@ -42,6 +43,8 @@ pub(crate) fn turns_of_node<W: CountedWrite>(
         (sink_of W.contents W.failure_count out.old).failures
         (sink_of W.contents W.failure_count out.new).failures) }
     ensures same_writer { out.new.writer.ghost_name ≡ out.old.writer.ghost_name }
+    ensures bounded { reserve_in W.left out.new ≤ reserve_in W.left out.old }
+    ensures limited { limited_in W.left out.new ≡ limited_in W.left out.old }
 {
     let count = if out.counts_turns() {
         turns_at(nodes, at, to)
@@ -62,6 +65,8 @@ pub(crate) fn run_no_nodes<W: CountedWrite>(alloc: Global, out: &mut Output<'_, 
         (sink_of W.contents W.failure_count out.old).failures
         (sink_of W.contents W.failure_count out.new).failures }
     ensures same_writer { out.new.writer.ghost_name ≡ out.old.writer.ghost_name }
+    ensures bounded { reserve_in W.left out.new ≤ reserve_in W.left out.old }
+    ensures limited { limited_in W.left out.new ≡ limited_in W.left out.old }
 {
     out.turns(alloc, 1)?;
     Ok(())

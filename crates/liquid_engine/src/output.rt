@@ -1,11 +1,12 @@
 //! The caller's writer, and the buffers that are open over it.
-ghost use Rattle.std.specs.Prelude.{◌≡◌, [], length, Some, None, IsSome, OnOk, OnErr, false};
+ghost use Rattle.std.specs.Prelude.{◌≡◌, ◌≤◌, [], length, Some, None, IsSome, OnOk, OnErr, false};
 ghost use Rattle.std.specs.Option.{option_map};
 ghost use Rattle.std.specs.String.{string_bytes};
 ghost use Rattle.liquid_engine.specs.Failures.{OneFailed};
 ghost use Rattle.liquid_engine.specs.Performs.{Cut, WritesText};
 ghost use Rattle.liquid_engine.specs.Limits.{TakesBytes, TakesTurns, is_within_limit};
 ghost use Rattle.liquid_engine.specs.inside.Puts.{Puts};
+ghost use Rattle.liquid_engine.specs.inside.Reserves.{limited_in, reserve_in};
 ghost use Rattle.liquid_engine.specs.Sinks.{sink_of};
 ghost use Rattle.liquid_engine.specs.declared.output.Put.TheVariants.{All};
 ghost use Rattle.liquid_model.specs.ErrorKinds.{IsKindOrMemory};
@@ -53,6 +54,8 @@ impl<'w, W: CountedWrite> Output<'w, W> {
             (sink_of W.contents W.failure_count self.old)
             (sink_of W.contents W.failure_count self.new) }
         ensures same_writer { self.new.writer.ghost_name ≡ self.old.writer.ghost_name }
+        ensures bounded { reserve_in W.left self.new ≤ reserve_in W.left self.old }
+        ensures limited { limited_in W.left self.new ≡ limited_in W.left self.old }
     {
         match self.put(text) {
             Put::All => Ok(()),
@@ -71,6 +74,8 @@ impl<'w, W: CountedWrite> Output<'w, W> {
         ensures takes { result ≡ All → TakesBytes (length text.now)
             (W.left self.old.writer.now) (W.left self.new.writer.now) }
         ensures same_writer { self.new.writer.ghost_name ≡ self.old.writer.ghost_name }
+        ensures bounded { reserve_in W.left self.new ≤ reserve_in W.left self.old }
+        ensures limited { limited_in W.left self.new ≡ limited_in W.left self.old }
     {
         match &mut self.buffer {
             Some(buffer) => {
@@ -120,6 +125,8 @@ impl<'w, W: CountedWrite> Output<'w, W> {
             (sink_of W.contents W.failure_count self.old)
             (sink_of W.contents W.failure_count self.new)) }
         ensures same_writer { self.new.writer.ghost_name ≡ self.old.writer.ghost_name }
+        ensures bounded { reserve_in W.left self.new ≤ reserve_in W.left self.old }
+        ensures limited { limited_in W.left self.new ≡ limited_in W.left self.old }
     {
         // where they aren't left, they are refused, and so nothing is taken here
         if self.has_room(bytes) || self.writer.room(bytes) {
@@ -142,8 +149,13 @@ impl<'w, W: CountedWrite> Output<'w, W> {
             (sink_of W.contents W.failure_count self.old).failures
             (sink_of W.contents W.failure_count self.new).failures) }
         ensures same_writer { self.new.writer.ghost_name ≡ self.old.writer.ghost_name }
+        ensures bounded { reserve_in W.left self.new ≤ reserve_in W.left self.old }
+        ensures limited { limited_in W.left self.new ≡ limited_in W.left self.old }
     {
-        if !self.counts_bytes() || self.writer.room(value_size(value)) {
+        if !self.counts_bytes() {
+            return Ok(());
+        }
+        if self.writer.room(value_size(value)) {
             return Ok(());
         }
         Err(refused_value(alloc))
@@ -163,6 +175,8 @@ impl<'w, W: CountedWrite> Output<'w, W> {
             (sink_of W.contents W.failure_count self.old).failures
             (sink_of W.contents W.failure_count self.new).failures) }
         ensures same_writer { self.new.writer.ghost_name ≡ self.old.writer.ghost_name }
+        ensures bounded { reserve_in W.left self.new ≤ reserve_in W.left self.old }
+        ensures limited { limited_in W.left self.new ≡ limited_in W.left self.old }
     {
         if self.writer.turns(count) {
             return Ok(Turns { granted: () });

@@ -1,5 +1,5 @@
 //! Runs of text, outputs and `assign`.
-ghost use Rattle.std.specs.Prelude.{◌≡◌, ◌+◌, IfOk, OnOk};
+ghost use Rattle.std.specs.Prelude.{◌≡◌, ◌≤◌, ◌+◌, IfOk, OnOk};
 ghost use Rattle.liquid_model.specs.ValueSizes.{counted_size, value_size};
 ghost use Rattle.liquid_core.specs.States.{environment_of, loops_of};
 ghost use Rattle.liquid_evaluation.specs.ChainView.{chain_view};
@@ -8,6 +8,7 @@ ghost use Rattle.liquid_evaluation.specs.Names.{node_names};
 ghost use Rattle.liquid_evaluation.specs.Tree as tree;
 ghost use Rattle.liquid_engine.specs.inside.ChainBytes.{chain_bytes};
 ghost use Rattle.liquid_engine.specs.inside.Engine.{setting_of, node_in};
+ghost use Rattle.liquid_engine.specs.inside.Reserves.{limited_in, reserve_in};
 ghost use Rattle.liquid_engine.specs.Limits.{Takes, TakesBytes};
 ghost use Rattle.liquid_engine.specs.StateKept.{Keeps};
 ghost use Rattle.liquid_engine.specs.Performs.{Performs, configuration_of};
@@ -36,6 +37,8 @@ pub(crate) fn run_text<W: CountedWrite, H: NamedFilters>(
     ensures takes { OnOk result (Takes 1 (W.left out.old.writer.now).turns
         (W.left out.new.writer.now).turns) }
     ensures same_writer { out.new.writer.ghost_name ≡ out.old.writer.ghost_name }
+    ensures bounded { reserve_in W.left out.new ≤ reserve_in W.left out.old }
+    ensures limited { limited_in W.left out.new ≡ limited_in W.left out.old }
     ensures kept { Keeps (node_names (tree.plain text.now)) (setting_of H.named context.now)
         state.old
         state.new }
@@ -57,6 +60,8 @@ pub(crate) fn run_raw<W: CountedWrite, H: NamedFilters>(
         (configuration_of W.contents W.failure_count out.old state.old)
         (configuration_of W.contents W.failure_count out.new state.new) }
     ensures same_writer { out.new.writer.ghost_name ≡ out.old.writer.ghost_name }
+    ensures bounded { reserve_in W.left out.new ≤ reserve_in W.left out.old }
+    ensures limited { limited_in W.left out.new ≡ limited_in W.left out.old }
     ensures kept { Keeps (node_names (tree.raw text.now)) (setting_of H.named context.now) state.old
         state.new }
     ensures loops { loops_of state.new ≡ loops_of state.old }
@@ -78,6 +83,8 @@ pub(crate) fn run_output<W: CountedWrite, H: NamedFilters>(
         (configuration_of W.contents W.failure_count out.old state.old)
         (configuration_of W.contents W.failure_count out.new state.new) }
     ensures same_writer { out.new.writer.ghost_name ≡ out.old.writer.ghost_name }
+    ensures bounded { reserve_in W.left out.new ≤ reserve_in W.left out.old }
+    ensures limited { limited_in W.left out.new ≡ limited_in W.left out.old }
     ensures kept { Keeps (node_names (tree.output (chain_view chain.now)))
         (setting_of H.named context.now)
         state.old state.new }
@@ -104,6 +111,8 @@ fn run_chain<W: CountedWrite, H: NamedFilters>(
         (configuration_of W.contents W.failure_count out.old state.old)
         (configuration_of W.contents W.failure_count out.new state.new) }
     ensures same_writer { out.new.writer.ghost_name ≡ out.old.writer.ghost_name }
+    ensures bounded { reserve_in W.left out.new ≤ reserve_in W.left out.old }
+    ensures limited { limited_in W.left out.new ≡ limited_in W.left out.old }
     ensures kept { Keeps (node_names (tree.output (chain_view chain.now)))
         (setting_of H.named context.now)
         state.old state.new }
@@ -134,6 +143,8 @@ pub(crate) fn run_assign<W: CountedWrite, H: NamedFilters>(
         (environment_of state.old) + counted_size (value_size d))
         (W.left out.old.writer.now) (W.left out.new.writer.now))) }
     ensures same_writer { out.new.writer.ghost_name ≡ out.old.writer.ghost_name }
+    ensures bounded { reserve_in W.left out.new ≤ reserve_in W.left out.old }
+    ensures limited { limited_in W.left out.new ≡ limited_in W.left out.old }
     ensures kept { Keeps (node_names (tree.assign name.now (chain_view chain.now)))
         (setting_of H.named context.now) state.old state.new }
     ensures loops { loops_of state.new ≡ loops_of state.old }

@@ -1,10 +1,11 @@
 //! The texts of values, written piece by piece.
-ghost use Rattle.std.specs.Prelude.{◌≡◌, ◌++◌, decimal};
+ghost use Rattle.std.specs.Prelude.{◌≡◌, ◌≤◌, ◌++◌, decimal};
 ghost use Rattle.liquid_model.specs.Data.{truth as truth_datum, number, text_of, items_text};
 ghost use Rattle.liquid_model.specs.Data.{pairs_text};
 ghost use Rattle.liquid_model.specs.View.{view, items_view, pairs_view};
 ghost use Rattle.liquid_engine.specs.Performs.{WritesText};
 ghost use Rattle.liquid_engine.specs.Sinks.{sink_of};
+ghost use Rattle.liquid_engine.specs.inside.Reserves.{limited_in, reserve_in};
 
 use crate::counted::CountedWrite;
 use crate::output::Output;
@@ -24,6 +25,8 @@ pub fn push_value<W: CountedWrite>(
         (sink_of W.contents W.failure_count out.old)
         (sink_of W.contents W.failure_count out.new) }
     ensures same_writer { out.new.writer.ghost_name ≡ out.old.writer.ghost_name }
+    ensures bounded { reserve_in W.left out.new ≤ reserve_in W.left out.old }
+    ensures limited { limited_in W.left out.new ≡ limited_in W.left out.old }
 {
     match value {
         Value::Nil => Ok(()),
@@ -47,6 +50,8 @@ pub fn push_number<W: CountedWrite>(alloc: Global, n: i64, out: &mut Output<'_, 
         (sink_of W.contents W.failure_count out.old)
         (sink_of W.contents W.failure_count out.new) }
     ensures same_writer { out.new.writer.ghost_name ≡ out.old.writer.ghost_name }
+    ensures bounded { reserve_in W.left out.new ≤ reserve_in W.left out.old }
+    ensures limited { limited_in W.left out.new ≡ limited_in W.left out.old }
 {
     let mut digits = Buffer::new();
     out.push_text(alloc, digits.format(n))
@@ -64,6 +69,8 @@ pub(crate) fn push_numbered<W: CountedWrite>(
         (sink_of W.contents W.failure_count out.old)
         (sink_of W.contents W.failure_count out.new) }
     ensures same_writer { out.new.writer.ghost_name ≡ out.old.writer.ghost_name }
+    ensures bounded { reserve_in W.left out.new ≤ reserve_in W.left out.old }
+    ensures limited { limited_in W.left out.new ≡ limited_in W.left out.old }
 {
     out.push_text(alloc, before)?;
     out.push_text(alloc, Buffer::new().format(number))?;
@@ -80,6 +87,8 @@ fn push_items<W: CountedWrite>(
         (sink_of W.contents W.failure_count out.old)
         (sink_of W.contents W.failure_count out.new) }
     ensures same_writer { out.new.writer.ghost_name ≡ out.old.writer.ghost_name }
+    ensures bounded { reserve_in W.left out.new ≤ reserve_in W.left out.old }
+    ensures limited { limited_in W.left out.new ≡ limited_in W.left out.old }
 {
     for item in items {
         push_value(alloc, item, out)?;
@@ -93,6 +102,8 @@ fn push_pairs<W: CountedWrite>(alloc: Global, pairs: &Object, out: &mut Output<'
         (sink_of W.contents W.failure_count out.old)
         (sink_of W.contents W.failure_count out.new) }
     ensures same_writer { out.new.writer.ghost_name ≡ out.old.writer.ghost_name }
+    ensures bounded { reserve_in W.left out.new ≤ reserve_in W.left out.old }
+    ensures limited { limited_in W.left out.new ≡ limited_in W.left out.old }
 {
     for (key, value) in pairs.iter() {
         out.push_text(alloc, key.as_str())?;

@@ -1,6 +1,6 @@
 //! Whole renderings.
-ghost use Rattle.std.specs.Prelude.{◌≡◌, ◌<◌, ◌⊎◌, T, [], false, IfErr, IsErrAnd, IsOk};
-ghost use Rattle.std.specs.Prelude.{string_bytes};
+ghost use Rattle.std.specs.Prelude.{◌≡◌, ◌<◌, ◌≤◌, ◌⊎◌, T, [], false, IfErr, IsErrAnd, IsOk};
+ghost use Rattle.std.specs.Prelude.{Some, string_bytes};
 ghost use Rattle.std.specs.Io.KnownBytes.{Appends};
 ghost use Rattle.liquid_model.specs.Answer.{Answers};
 ghost use Rattle.liquid_core.specs.Environment.{cut};
@@ -8,6 +8,7 @@ ghost use Rattle.liquid_syntax.specs.Templates.{tree_of};
 ghost use Rattle.liquid_evaluation.specs.Tree.{Nodes};
 ghost use Rattle.liquid_engine.specs.Added.{AppendsPart};
 ghost use Rattle.liquid_engine.specs.inside.Engine.{in_buffer, with_writer};
+ghost use Rattle.liquid_engine.specs.inside.Reserves.{are_limited, reserve_of};
 ghost use Rattle.liquid_engine.specs.Failures.{OneFailed, AtMostOneFailed};
 ghost use Rattle.liquid_meaning.specs.Isolation.{changes};
 ghost use Rattle.liquid_engine.specs.StateKept.{LayersKept, AreRenderNodes};
@@ -188,6 +189,10 @@ pub(crate) fn text_beside<W: CountedWrite>(
         layers_in runtime.new ≡ layers_in runtime.old }
     ensures silent { AreSilent (tree_of template.now) →
         IsDoneOrStopped result.1 (W.failure_count writer.old) (W.failure_count writer.new) }
+    // the text took its bytes
+    ensures bounded { reserve_of (Some (string_bytes result.0)) (W.left writer.new).bytes ≤
+        reserve_of (Some []) (W.left writer.old).bytes }
+    ensures limited { are_limited (W.left writer.new) ≡ are_limited (W.left writer.old) }
     ensures same { SettingKept runtime.old runtime.new }
 {
     let mut out = Output {

@@ -6,7 +6,7 @@ ghost use Rattle.liquid_core.specs.Held.{held};
 ghost use Rattle.liquid_core.specs.States.{layers_of, loops_of, new_layers, with_missing};
 ghost use Rattle.liquid_syntax.specs.Templates.{partials_of, tree_of};
 ghost use Rattle.liquid_engine.specs.HostedPages.{EndsOtherwise};
-ghost use Rattle.liquid_engine.specs.LimitedPages.{PageWithin};
+ghost use Rattle.liquid_engine.specs.LimitedPages.{KeepsLimits, PageWithin};
 ghost use Rattle.liquid_engine.specs.Limits.{unlimited};
 ghost use Rattle.liquid_engine.specs.Pages.{ended_page, page_by, page_in, page_over, page_view};
 
@@ -94,8 +94,9 @@ pub struct LimitedPage {
 /// The page of a template as of [render_page], within limits, where a missing value is what is
 /// said of it.
 ///
-/// Where no limit is reached it is the whole page. Else it has a beginning of its text, and tells
-/// which limit ended it. The answer is `Memory` where a growth was refused, and no other kind.
+/// It has no more bytes than the limit on them. Where no limit is reached it is the whole page.
+/// Else it has a beginning of its text, and says which of the limits ended it. The answer is
+/// `Memory` where a growth was refused, and no other kind.
 pub fn render_page_within(
     alloc: Global,
     template: &Template,
@@ -104,6 +105,7 @@ pub fn render_page_within(
 ) -> Result<LimitedPage>
     ensures page { IfOk result (λ p. PageWithin (page_in around.entry.missing around.entry.depth
         (partials_of around.entry.partials.now) (held «data».now) (tree_of template.now)) p) }
+    ensures limits { IfOk result (KeepsLimits around.entry.limits) }
     // without limits none ends it
     ensures free { around.entry.limits ≡ unlimited → IfOk result (λ p. p.limit ≡ None) }
     ensures memory { IfErr result (λ e. e.kind ≡ ErrorKind.Memory) }
@@ -124,15 +126,17 @@ pub fn render_page_within(
     Ok(LimitedPage { page, limit })
 }
 
-/// The page of [render_page_within], whatever the limits are.
+/// The page of [render_page_within], where there are no limits.
 fn page_without_limits(
     alloc: Global,
     template: &Template,
     around: Surroundings<'_>,
     data: &Object,
 ) -> Result<LimitedPage>
+    requires { around.limits ≡ unlimited }
     ensures page { IfOk result (λ p. PageWithin (page_in around.entry.missing around.entry.depth
         (partials_of around.entry.partials.now) (held «data».now) (tree_of template.now)) p) }
+    ensures limits { IfOk result (KeepsLimits around.entry.limits) }
     ensures free { IfOk result (λ p. p.limit ≡ None) }
     ensures memory { IfErr result (λ e. e.kind ≡ ErrorKind.Memory) }
 {

@@ -1,9 +1,10 @@
 //! Room for answers that may be far longer than what their filters are given, asked for before they
 //! are made.
-ghost use Rattle.std.specs.Prelude.{◌≡◌, [], IfErr, OnOk, OnErr};
+ghost use Rattle.std.specs.Prelude.{◌≡◌, ◌≤◌, [], IfErr, OnOk, OnErr};
 ghost use Rattle.liquid_model.specs.declared.error.ErrorKind.TheVariants.{Memory};
 ghost use Rattle.liquid_engine.specs.Performs.{Cut};
 ghost use Rattle.liquid_engine.specs.Sinks.{sink_of};
+ghost use Rattle.liquid_engine.specs.inside.Reserves.{limited_in, reserve_in};
 
 use crate::counted::CountedWrite;
 use crate::output::Output;
@@ -33,6 +34,8 @@ pub(crate) fn room_ahead<W: CountedWrite>(
         (sink_of W.contents W.failure_count out.old)
         (sink_of W.contents W.failure_count out.new)) }
     ensures same_writer { out.new.writer.ghost_name ≡ out.old.writer.ghost_name }
+    ensures bounded { reserve_in W.left out.new ≤ reserve_in W.left out.old }
+    ensures limited { limited_in W.left out.new ≡ limited_in W.left out.old }
 {
     if !out.counts_bytes() {
         return Ok(());

@@ -1,9 +1,10 @@
 //! The engine's own loop over `write`.
-ghost use Rattle.std.specs.Prelude.{◌≡◌, length, OnOk, OnErr};
+ghost use Rattle.std.specs.Prelude.{◌≡◌, ◌≤◌, length, None, OnOk, OnErr};
 ghost use Rattle.std.specs.Io.KnownBytes.{Appends};
 ghost use Rattle.liquid_engine.specs.Added.{AppendsPart};
 ghost use Rattle.liquid_engine.specs.Failures.{OneFailed};
 ghost use Rattle.liquid_engine.specs.Limits.{TakesBytes};
+ghost use Rattle.liquid_engine.specs.inside.Reserves.{are_limited, reserve_of};
 
 use crate::counted::CountedWrite;
 
@@ -22,6 +23,10 @@ pub fn write_all<W: CountedWrite>(writer: &mut W, bytes: &[u8]) -> Result<(), Wr
         (W.contents writer.new) bytes.now) }
     ensures failed { OnErr result (OneFailed (W.failure_count writer.old)
         (W.failure_count writer.new)) }
+    // also what was written before a write failed took its bytes
+    ensures bounded { reserve_of None (W.left writer.new).bytes ≤
+        reserve_of None (W.left writer.old).bytes }
+    ensures limited { are_limited (W.left writer.new) ≡ are_limited (W.left writer.old) }
 {
     let mut rest = bytes;
     while !rest.is_empty() {

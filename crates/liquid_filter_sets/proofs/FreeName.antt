@@ -41,6 +41,10 @@ feed_meta_is_free : IsFree (codes "feed_meta")
 unfolding insert listed
 feed_meta_is_free = free (codes "feed_meta") refl refl
 
+seo_is_free : IsFree (codes "seo")
+unfolding insert listed
+seo_is_free = free (codes "seo") refl refl
+
 -- so a host may register it
 pub highlight_allowed : (l : Language) → listed (kinds_of l.tags) ≡ jekyll_tags → listed (kinds_of l.blocks) ≡ bind_each standard_blocks (listed []) → name_refusal l (codes "highlight") ≡ None
 unfolding word_at in_word
@@ -57,3 +61,7 @@ post_url_allowed l tags blocks = post_url_is_free (listed (kinds_of l.tags)) (li
 pub feed_meta_allowed : (l : Language) → listed (kinds_of l.tags) ≡ jekyll_tags → listed (kinds_of l.blocks) ≡ bind_each standard_blocks (listed []) → name_refusal l (codes "feed_meta") ≡ None
 unfolding word_at in_word
 feed_meta_allowed l tags blocks = feed_meta_is_free (listed (kinds_of l.tags)) (listed (kinds_of l.blocks)) tags blocks
+
+pub seo_allowed : (l : Language) → listed (kinds_of l.tags) ≡ jekyll_tags → listed (kinds_of l.blocks) ≡ bind_each standard_blocks (listed []) → name_refusal l (codes "seo") ≡ None
+unfolding word_at in_word
+seo_allowed l tags blocks = seo_is_free (listed (kinds_of l.tags)) (listed (kinds_of l.blocks)) tags blocks

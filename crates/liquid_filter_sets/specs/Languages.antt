@@ -28,7 +28,9 @@ use Rattle.liquid_decimals.specs.declared.filter.DecimalFilter.TheVariants as d
 use Rattle.liquid_jekyll_host_filters.specs.SiteFilters.{filter_least, filter_most, filter_name}
 use Rattle.liquid_jekyll_host_filters.specs.declared.site_filter.JekyllFilter.{JekyllFilter}
 use Rattle.liquid_jekyll_host_filters.specs.declared.site_filter.JekyllFilter.TheVariants as j
+use Rattle.liquid_filter_sets.specs.Conversions.{converter_name, converters}
 use Rattle.liquid_filter_sets.specs.ShopifyTags.{HasShopifyTags}
+use Rattle.liquid_filter_sets.specs.declared.conversion.Converter.{Converter}
 use Rattle.liquid_shopify_host_filters.specs.Kinds as shopify
 use Rattle.liquid_shopify_host_filters.specs.declared.kind.ShopifyKind.{ShopifyKind}
 use Rattle.liquid_shopify_host_filters.specs.declared.kind.ShopifyKind.TheVariants as s
@@ -46,20 +48,31 @@ jekyll_filters =
     j.RelativeUrl ∷ j.AbsoluteUrl ∷ j.DateToString ∷ j.DateToLongString ∷ j.DateToXmlschema ∷
     j.DateToRfc822 ∷ j.XmlEscape ∷ j.CgiEscape ∷ j.UriEscape ∷ j.Jsonify ∷ j.NormalizeWhitespace ∷
     j.NumberOfWords ∷ j.ToInteger ∷ j.ArrayToSentenceString ∷ j.GroupBy ∷ j.Where ∷ j.Find ∷
-    j.Highlight ∷ j.Link ∷ j.PostUrl ∷ j.FeedMeta ∷ []
+    j.Highlight ∷ j.Link ∷ j.PostUrl ∷ j.FeedMeta ∷ j.Seo ∷ []
+
+-- each filter that a converter answers
+abbrev pub with_converters : Map RegisteredFilter → List Converter → Map RegisteredFilter
+with_converters m [] = m
+with_converters m (c ∷ cs) = with_converters (insert m (converter_name c) (Host 0 0)) cs
 
 abbrev pub with_jekyll_filters : Map RegisteredFilter → Map RegisteredFilter
-with_jekyll_filters m = insert (with_sites m jekyll_filters) (codes "where_exp") (Host 2 2)
+with_jekyll_filters m = insert (with_converters (with_sites m jekyll_filters) converters)
+    (codes "where_exp") (Host 2 2)
+
+-- two tags of one kind
+abbrev pub with_includes : Map TagKind → Map TagKind
+with_includes m = insert (insert m (codes "include") JekyllInclude) (codes "include_relative")
+    JekyllInclude
 
 abbrev pub jekyll_tags : Map TagKind
-jekyll_tags = insert (bind_each standard_tags (listed [])) (codes "include") JekyllInclude
+jekyll_tags = with_includes (bind_each standard_tags (listed []))
 
 -- `site.w`
 abbrev pub of_site : Text → Expression
 of_site w = variable (codes "site") (step (literal (text w)) no_steps)
 
 -- a tag that calls the filter of its name with its markup, as one text, and with these parts of the
--- site; its input is nil
+-- data; its input is nil
 abbrev pub site_call : Text → List Expression → TagCall
 site_call w parts = record {
   filter = w;
@@ -77,22 +90,27 @@ site_lists = of_site (codes "pages") ∷ of_site (codes "static_files") ∷
 abbrev pub feed_parts : List Expression
 feed_parts = of_site (codes "feed") ∷ of_site (codes "title") ∷ of_site (codes "name") ∷ []
 
+-- what `seo` writes
+abbrev pub seo_text : Expression
+seo_text = variable (codes "seo_tag") no_steps
+
 abbrev pub jekyll_calls : List TagCall
 jekyll_calls =
     site_call (codes "link") site_lists ∷
     site_call (codes "post_url") (of_site (codes "posts") ∷ []) ∷
-    site_call (codes "feed_meta") feed_parts ∷ []
+    site_call (codes "feed_meta") feed_parts ∷
+    site_call (codes "seo") (seo_text ∷ []) ∷ []
 
 -- with the names of these tags
 abbrev pub with_jekyll_tags : Map HostKind → Map HostKind
-with_jekyll_tags m = insert (insert (insert m (codes "link") (kinds.Tag 0)) (codes "post_url")
-    (kinds.Tag 1)) (codes "feed_meta") (kinds.Tag 2)
+with_jekyll_tags m = insert (insert (insert (insert m (codes "link") (kinds.Tag 0))
+    (codes "post_url") (kinds.Tag 1)) (codes "feed_meta") (kinds.Tag 2)) (codes "seo") (kinds.Tag 3)
 
 -- the filter is called with the markup, as one text, on the body's text
 abbrev pub highlight_call : BlockCall
 highlight_call = record { filter = codes "highlight"; style = styles.Text; given = [] }
 
--- the names of the host are those of three tags and of a block
+-- the names of the host are those of four tags and of a block
 pub record HasJekyllTags (l : Language) : Type 0 where
   pub names : listed (numbers_of l.host_tags) ≡
       insert (with_jekyll_tags (listed [])) (codes "highlight") (kinds.Block 0)
@@ -100,9 +118,9 @@ pub record HasJekyllTags (l : Language) : Type 0 where
   pub blocks : blocks_of l.host_tags ≡ highlight_call ∷ []
   pub ends : end_names l.host_tags ≡ codes "endhighlight" ∷ []
 
--- the standard language with Jekyll's `include`, which takes a path, `sort`, the tags `link`,
--- `post_url` and `feed_meta` and the block `highlight`, and the names of Jekyll's filters of a
--- host, without the white space of blocks that write nothing
+-- the standard language with Jekyll's `include` and `include_relative`, which take a path, `sort`,
+-- the tags `link`, `post_url`, `feed_meta` and `seo` and the block `highlight`, and the names of
+-- Jekyll's filters of a host, without the white space of blocks that write nothing
 pub record IsJekyll (l : Language) : Type 0 where
   pub tags : listed (kinds_of l.tags) ≡ jekyll_tags
   pub blocks : listed (kinds_of l.blocks) ≡ bind_each standard_blocks (listed [])

@@ -1,4 +1,5 @@
 pub mod ConditionTexts
+pub mod Conversions
 pub mod Languages
 pub mod Laws
 pub mod MoneyFormats

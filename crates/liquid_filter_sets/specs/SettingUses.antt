@@ -5,6 +5,7 @@ use Rattle.liquid_model.specs.Data.{Pairs}
 use Rattle.liquid_model.specs.Skipping.{AlikeKeys}
 use Rattle.liquid_model.specs.Texts.{Text}
 use Rattle.liquid_model.specs.Uses.{Use}
+use Rattle.liquid_filter_sets.specs.Conversions.{conversions_in}
 use Rattle.liquid_filter_sets.specs.Settings.{member_text, tags_in}
 
 -- the text at a name of a map is the same
@@ -15,6 +16,8 @@ SeesText U map name = (ps qs : Pairs) → AlikeKeys U ps qs →
 pub record SeesSite (U : Text → Use) : Type 0 where
   pub address : SeesText U (codes "site") (codes "url")
   pub base : SeesText U (codes "site") (codes "baseurl")
+  pub conversions : (name : Text) (ps qs : Pairs) → AlikeKeys U ps qs →
+      conversions_in name ps ≡ conversions_in name qs
 
 pub record SeesShop (U : Text → Use) : Type 0 where
   pub money : SeesText U (codes "shop") (codes "money_format")

@@ -11,16 +11,16 @@ ghost use Rattle.liquid_language.specs.Standard.{standard_blocks};
 ghost use Rattle.liquid_language.specs.declared.host_tags.HostKind.TheVariants as kinds;
 ghost use Rattle.liquid_filter_sets.specs.Languages.{HasJekyllTags, feed_parts};
 ghost use Rattle.liquid_filter_sets.specs.Languages.{highlight_call, jekyll_tags};
-ghost use Rattle.liquid_filter_sets.specs.Languages.{of_site, site_call, site_lists};
+ghost use Rattle.liquid_filter_sets.specs.Languages.{of_site, seo_text, site_call, site_lists};
 
 use liquid_core::{Error, ErrorKind, Expression, Result, Value, Variable};
 use liquid_language::{HostBlock, HostCall, Language, TagError};
 use liquid_lexer::Style;
 use std::alloc::{AllocError, Global};
 
-/// Registers the tags `link`, `post_url` and `feed_meta` and the block `highlight` in a language
-/// with Jekyll's own tags and none of a host. `Memory` where a growth was refused; then some of
-/// them may be registered.
+/// Registers the tags `link`, `post_url`, `feed_meta` and `seo` and the block `highlight` in a
+/// language with Jekyll's own tags and none of a host. `Memory` where a growth was refused; then
+/// some of them may be registered.
 pub(crate) fn register_jekyll_tags(alloc: Global, language: &mut Language) -> Result<()>
     requires own_tags { listed (kinds_of language.old.tags) ≡ jekyll_tags }
     requires own_blocks { listed (kinds_of language.old.blocks) ≡
@@ -44,11 +44,13 @@ pub(crate) fn register_jekyll_tags(alloc: Global, language: &mut Language) -> Re
     register_site_tag(alloc, language, "post_url", posts)?;
     let feed = feed_parts(alloc)?;
     register_site_tag(alloc, language, "feed_meta", feed)?;
+    let seo = seo_parts(alloc)?;
+    register_site_tag(alloc, language, "seo", seo)?;
     register_highlight(alloc, language)
 }
 
 /// Registers a tag that calls the filter of its name with its markup, as one text, and with these
-/// parts of the site. `Memory` where a growth was refused; then nothing changes.
+/// parts of the data. `Memory` where a growth was refused; then nothing changes.
 fn register_site_tag(
     alloc: Global,
     language: &mut Language,
@@ -141,6 +143,24 @@ fn feed_parts(alloc: Global) -> Result<Vec<Expression>>
     parts.push(of_site(alloc, "title")?)?;
     parts.push(of_site(alloc, "name")?)?;
     Ok(parts)
+}
+
+/// What `seo` is given.
+fn seo_parts(alloc: Global) -> Result<Vec<Expression>>
+    ensures { IsValueOrMemory (λ v. map expression_view v.items) result (seo_text ∷ []) }
+{
+    let mut parts = Vec::with_capacity(alloc, 1)?;
+    parts.push(seo_text(alloc)?)?;
+    Ok(parts)
+}
+
+/// What `seo` writes.
+fn seo_text(alloc: Global) -> Result<Expression>
+    ensures { IsValueOrMemory expression_view result seo_text }
+{
+    let name = String::from_str(alloc, "seo_tag")?;
+    let indexes = Vec::new(alloc);
+    Ok(Expression::Variable(Variable { name, indexes }))
 }
 
 /// A list of one part of the site.

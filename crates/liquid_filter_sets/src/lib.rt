@@ -4,6 +4,7 @@
 #![tactic(auto)]
 
 mod condition_text;
+mod conversion;
 mod jekyll_tags;
 mod json_texts;
 mod languages;
@@ -17,6 +18,7 @@ mod site;
 mod truth;
 mod where_exp;
 
+pub use conversion::{CONVERTERS, Conversion, Converter};
 pub use json_texts::is_read_back;
 pub use languages::{
     decimals_language, jekyll_language, register_decimal_filters, register_jekyll_filters,

@@ -19,7 +19,7 @@ pub(crate) fn member_text<'d>(data: &'d Object, map: &str, name: &str) -> Option
 }
 
 /// The text at a name of a value, where that is a map.
-fn text_in<'d>(value: &'d Value, name: &str) -> Option<&'d str>
+pub(crate) fn text_in<'d>(value: &'d Value, name: &str) -> Option<&'d str>
     ensures { option_map (λ t. t.now) result ≡ text_in name.now (view value.now) }
 {
     match value {

@@ -1,7 +1,7 @@
 //! What the filters of a set look at in the data.
 ghost use Rattle.std.specs.Prelude.{◌≡◌, IfErr, IfOk, OnOk, cond};
 ghost use Rattle.liquid_model.specs.Texts.{Text, same_text};
-ghost use Rattle.liquid_model.specs.Uses.{every, no_fields, parts, there, use_at};
+ghost use Rattle.liquid_model.specs.Uses.{every, everything, no_fields, parts, there, use_at};
 ghost use Rattle.liquid_model.specs.UseViews.{use_view, uses_view};
 ghost use Rattle.liquid_filter_sets.specs.SettingUses.{SeesShop, SeesSite};
 
@@ -9,13 +9,15 @@ use liquid_model::{ErrorKind, ItemUse, Result, Use, Uses};
 use std::alloc::Global;
 use std::collections::BTreeMap;
 
-/// What a site is made of, as of `SiteSettings::of`. `Memory` where there is no room for it.
+/// What a site is made of, as of `SiteSettings::of` and `Conversion::of`. `Memory` where there is
+/// no room for it.
 pub fn site_uses(alloc: Global) -> Result<Uses>
     ensures site { IfOk result (λ uses. SeesSite (uses_view uses)) }
     ensures memory { IfErr result (λ e. e.kind ≡ ErrorKind.Memory) }
 {
     let site = two_texts(alloc, "url", "baseurl")?;
     let mut uses = BTreeMap::new(alloc);
+    add(alloc, &mut uses, "conversions", whole())?;
     add(alloc, &mut uses, "site", site)?;
     Ok(uses)
 }
@@ -70,6 +72,13 @@ fn a_text(alloc: Global) -> Use
         members: BTreeMap::new(alloc),
         items: None,
     }
+}
+
+/// A whole value.
+fn whole() -> Use
+    ensures { use_view result ≡ everything }
+{
+    Use::Everything
 }
 
 /// Asks this of a name, and no more of it what was asked before.

@@ -1,5 +1,5 @@
 -- The answers of Jekyll's tags by their arguments.
-use Rattle.std.proofs.Common.{◌≡◌, ◌≤◌, ◌<◌, ◌-◌, ◌∷◌, [], List, drop, get_or, length, map, take, Bool, true, false, MatchBool, Err, arith, refl, ap, sym, subst, ◌∙◌}
+use Rattle.std.proofs.Common.{◌≡◌, ◌≤◌, ◌<◌, ◌-◌, suc, ◌∷◌, [], List, drop, get_or, length, map, take, Bool, true, false, MatchBool, Err, arith, refl, ap, sym, subst, ◌∙◌}
 use Rattle.std.specs.Bool.{⊤}
 use Rattle.std.proofs.lemmas.List.{length-drop, take_all}
 use Rattle.liquid_model.specs.Answer.{Faulted}
@@ -12,6 +12,7 @@ use Rattle.liquid_model.specs.declared.error.ErrorKind.{ErrorKind}
 use Rattle.liquid_model.specs.declared.error.ErrorKind.TheVariants.{InvalidArgument}
 use Rattle.liquid_model.specs.declared.value.Value.{Value}
 use Rattle.liquid_jekyll_host_filters.specs.FeedMeta.{feed_link, feed_meta_answer, feed_path, or_other}
+use Rattle.liquid_jekyll_host_filters.specs.Seo.{given_text, seo_answer}
 use Rattle.liquid_jekyll_host_filters.specs.Links.{link_answer, named_post_url, page_url, post_url_answer}
 
 -- what stands after the first
@@ -42,6 +43,13 @@ feed_lacking address base d [] h = refl
 feed_lacking address base d (x ∷ []) h = refl
 feed_lacking address base d (x ∷ y ∷ []) h = refl
 feed_lacking address base d (x ∷ y ∷ z ∷ zs) h = absurd (omega (arith, h))
+
+pub seo_split : (d : Datum) (xs : List Value) (x : Value) → 1 ≤ length xs → x ≡ get_or xs (length xs - 1) x → seo_answer d (map view xs) ≡ given_text (view x)
+seo_split d [] x h is = absurd (omega (arith, h))
+seo_split d (y ∷ []) x h is = ap (λ (z : Value). given_text (view z)) (sym is)
+seo_split d (y ∷ z ∷ zs) x h is =
+    let at : length (y ∷ z ∷ zs) - 1 ≡ suc (length (z ∷ zs) - 1) = omega arith in
+    seo_split d (z ∷ zs) x (omega arith) (is ∙ ap (λ n. get_or (y ∷ z ∷ zs) n x) at)
 
 pub refused_as : (kind : ErrorKind) (r : Answer) → IsKindOrMemory InvalidArgument kind → r ≡ Err InvalidArgument → Faulted kind r
 refused_as kind r h e = on (is_memory kind) refl h

@@ -11,6 +11,7 @@ pub mod Numbers
 pub mod Properties
 pub mod Searches
 pub mod Sentence
+pub mod Seo
 pub mod SiteFilters
 pub mod Urls
 pub mod Words

@@ -15,7 +15,7 @@ each_filter = each.RelativeUrl ∷ each.AbsoluteUrl ∷ each.DateToString ∷ ea
     each.DateToXmlschema ∷ each.DateToRfc822 ∷ each.XmlEscape ∷ each.CgiEscape ∷ each.UriEscape ∷
     each.Jsonify ∷ each.NormalizeWhitespace ∷ each.NumberOfWords ∷ each.ToInteger ∷
     each.ArrayToSentenceString ∷ each.GroupBy ∷ each.Where ∷ each.Find ∷ each.Highlight ∷
-    each.Link ∷ each.PostUrl ∷ each.FeedMeta ∷ []
+    each.Link ∷ each.PostUrl ∷ each.FeedMeta ∷ each.Seo ∷ []
 
 -- the filter of a name, where there is one
 abbrev pub filter_named : Text → Option JekyllFilter

@@ -1,6 +1,6 @@
 -- Jekyll's filters: the name of each, how many arguments it takes, and what it answers over a site
 -- of an address and a base path.
-use Rattle.std.specs.Prelude.{ℕ, Bool, List, codes, nat_eq, nat_le}
+use Rattle.std.specs.Prelude.{ℕ, Bool, List, codes, nat_eq, nat_le, ◌||◌}
 use Rattle.liquid_model.specs.Data.{Datum}
 use Rattle.liquid_model.specs.Texts.{Text}
 use Rattle.liquid_model.specs.Arguments.{Answer}
@@ -16,6 +16,7 @@ use Rattle.liquid_jekyll_host_filters.specs.Links.{link_answer, post_url_answer}
 use Rattle.liquid_jekyll_host_filters.specs.Numbers.{to_integer_answer}
 use Rattle.liquid_jekyll_host_filters.specs.Searches.{find_answer, jekyll_where_answer}
 use Rattle.liquid_jekyll_host_filters.specs.Sentence.{jekyll_sentence_answer}
+use Rattle.liquid_jekyll_host_filters.specs.Seo.{seo_answer}
 use Rattle.liquid_jekyll_host_filters.specs.Urls.{absolute_url_answer, cgi_escape_answer}
 use Rattle.liquid_jekyll_host_filters.specs.Urls.{relative_url_answer, uri_escape_answer}
 use Rattle.liquid_jekyll_host_filters.specs.Words.{normalize_whitespace_answer}
@@ -62,6 +63,7 @@ filter_name jekyll.TheVariants.Highlight = codes "highlight"
 filter_name jekyll.TheVariants.Link = codes "link"
 filter_name jekyll.TheVariants.PostUrl = codes "post_url"
 filter_name jekyll.TheVariants.FeedMeta = codes "feed_meta"
+filter_name jekyll.TheVariants.Seo = codes "seo"
 
 -- the least and the greatest number of arguments; each number between is taken
 abbrev pub filter_least : JekyllFilter → ℕ
@@ -72,6 +74,7 @@ filter_least jekyll.TheVariants.Highlight = 1
 filter_least jekyll.TheVariants.Link = 4
 filter_least jekyll.TheVariants.PostUrl = 2
 filter_least jekyll.TheVariants.FeedMeta = 3
+filter_least jekyll.TheVariants.Seo = 1
 filter_least f = 0
 
 abbrev pub filter_most : JekyllFilter → ℕ
@@ -85,6 +88,7 @@ filter_most jekyll.TheVariants.Highlight = 1
 filter_most jekyll.TheVariants.Link = 4
 filter_most jekyll.TheVariants.PostUrl = 2
 filter_most jekyll.TheVariants.FeedMeta = 3
+filter_most jekyll.TheVariants.Seo = 2
 filter_most f = 0
 
 abbrev pub filter_counts : JekyllFilter → ℕ → Bool
@@ -98,6 +102,7 @@ filter_counts jekyll.TheVariants.Highlight n = nat_eq n 1
 filter_counts jekyll.TheVariants.Link n = nat_eq n 4
 filter_counts jekyll.TheVariants.PostUrl n = nat_eq n 2
 filter_counts jekyll.TheVariants.FeedMeta n = nat_eq n 3
+filter_counts jekyll.TheVariants.Seo n = nat_eq n 1 || nat_eq n 2
 filter_counts f n = nat_eq n 0
 
 abbrev pub filter_answer : JekyllFilter → Text → Text → Datum → List Datum → Answer
@@ -122,3 +127,4 @@ filter_answer jekyll.TheVariants.Highlight address base = jekyll_highlight_answe
 filter_answer jekyll.TheVariants.Link address base = link_answer base
 filter_answer jekyll.TheVariants.PostUrl address base = post_url_answer base
 filter_answer jekyll.TheVariants.FeedMeta address base = feed_meta_answer address base
+filter_answer jekyll.TheVariants.Seo address base = seo_answer

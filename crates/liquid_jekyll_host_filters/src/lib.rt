@@ -16,6 +16,7 @@ mod percent;
 mod properties;
 mod searches;
 mod sentence;
+mod seo;
 mod site_filter;
 mod texts;
 mod urls;

@@ -15,6 +15,7 @@ use crate::links::{link, post_url};
 use crate::numbers::ToInteger;
 use crate::searches::{Find, Where};
 use crate::sentence::ArrayToSentenceString;
+use crate::seo::seo;
 use crate::texts::{CgiEscape, UriEscape, XmlEscape};
 use crate::urls::site_url;
 use crate::words::{NormalizeWhitespace, NumberOfWords};
@@ -45,10 +46,11 @@ pub enum JekyllFilter {
     Link,
     PostUrl,
     FeedMeta,
+    Seo,
 }
 
 /// Each of them.
-pub const JEKYLL_FILTERS: [JekyllFilter; 21] = [
+pub const JEKYLL_FILTERS: [JekyllFilter; 22] = [
     JekyllFilter::RelativeUrl,
     JekyllFilter::AbsoluteUrl,
     JekyllFilter::DateToString,
@@ -70,6 +72,7 @@ pub const JEKYLL_FILTERS: [JekyllFilter; 21] = [
     JekyllFilter::Link,
     JekyllFilter::PostUrl,
     JekyllFilter::FeedMeta,
+    JekyllFilter::Seo,
 ];
 
 impl JekyllFilter {
@@ -99,6 +102,7 @@ impl JekyllFilter {
             JekyllFilter::Link => "link",
             JekyllFilter::PostUrl => "post_url",
             JekyllFilter::FeedMeta => "feed_meta",
+            JekyllFilter::Seo => "seo",
         }
     }
 
@@ -110,7 +114,7 @@ impl JekyllFilter {
             JekyllFilter::Link => 4,
             JekyllFilter::FeedMeta => 3,
             JekyllFilter::Where | JekyllFilter::Find | JekyllFilter::PostUrl => 2,
-            JekyllFilter::GroupBy | JekyllFilter::Highlight => 1,
+            JekyllFilter::GroupBy | JekyllFilter::Highlight | JekyllFilter::Seo => 1,
             _ => 0,
         }
     }
@@ -124,6 +128,7 @@ impl JekyllFilter {
             JekyllFilter::FeedMeta => 3,
             JekyllFilter::Where | JekyllFilter::Find | JekyllFilter::PostUrl => 2,
             JekyllFilter::DateToString | JekyllFilter::DateToLongString => 2,
+            JekyllFilter::Seo => 2,
             JekyllFilter::GroupBy | JekyllFilter::Highlight => 1,
             JekyllFilter::ArrayToSentenceString => 1,
             _ => 0,
@@ -172,6 +177,7 @@ impl Filter for SiteFilter {
             JekyllFilter::GroupBy | JekyllFilter::Highlight => count == 1,
             JekyllFilter::Link => count == 4,
             JekyllFilter::FeedMeta => count == 3,
+            JekyllFilter::Seo => count == 1 || count == 2,
             JekyllFilter::Where | JekyllFilter::Find | JekyllFilter::PostUrl => count == 2,
             _ => count == 0,
         }
@@ -213,6 +219,7 @@ impl Filter for SiteFilter {
                 input,
                 args,
             ),
+            JekyllFilter::Seo => seo(alloc, input, args),
         }
     }
 }

@@ -6,6 +6,7 @@ pub mod ItemLaws
 pub mod ItemTurns
 pub mod MarkCuts
 pub mod MarkLaws
+pub mod MemberCuts
 pub mod PlainWords
 pub mod Seen
 pub mod SourceLaws

@@ -4,14 +4,20 @@ use Rattle.std.specs.Option.{option_map}
 use Rattle.liquid_model.specs.Data.{Datum, text}
 use Rattle.liquid_core.specs.Expression.{Expression, literal, Steps, step}
 use Rattle.liquid_model.specs.Bytes.{is_letter, is_digit, in_word}
-use Rattle.liquid_model.specs.Words.{passes, Blank, Word, Quoted}
-use Rattle.liquid_lexer.specs.Values.{WordKind, name, constant, state, word_kind, dotted, step_begins, IsValue, is_text, is_number, is_constant, is_variable, AreSteps, no_step, is_member, is_index}
-use Rattle.liquid_lexer.specs.ValueReading.{member_at, index_at, step_by, step_at, more_steps, steps_at, word_value, value_by, expression_at, inner_of}
+use Rattle.liquid_model.specs.Words.{passes, begins_with, Blank, Word, Quoted}
+use Rattle.liquid_lexer.specs.Values.{WordKind, name, constant, state, word_kind, dotted, step_begins, IsMemberName, without_mark, with_mark, IsValue, is_text, is_number, is_constant, is_variable, AreSteps, no_step, is_member, is_index}
+use Rattle.liquid_lexer.specs.ValueReading.{member_at, member_name, member_name_at, member_word_at, member_step, marked, index_at, step_by, step_at, more_steps, steps_at, word_value, value_by, expression_at, inner_of}
 use Rattle.liquid_model.specs.Front.{Reads, past_white, past_byte, word_at, quoted_at, integer_at, literal_by, literal_at}
 use Rattle.liquid_model.proofs.WordLaws.{opens_value, bind_some, map_some, guard_none, from_some, blank_takes, blank_again, word_takes, word_again, quoted_takes, quoted_again, number_takes, number_again, number_front, byte_some, blank_shorter, word_shorter, quoted_shorter, number_shorter, number_no_quote, number_no_word, either}
 use Rattle.std.proofs.lemmas.List.{length-append}
 use Rattle.std.proofs.lemmas.Bool.{ne_eqb, or_left, or_right, or_from, or_parts}
 use Rattle.std.proofs.Common.{append_assoc}
+
+-- ---- the names of members
+
+pub member_shorter : {w bs rest : List ℕ} → IsMemberName w bs rest → length rest ≤ length bs
+member_shorter (without_mark w h) = word_shorter w
+member_shorter (with_mark w) = omega (arith, word_shorter w)
 
 mutual
   pub value_shorter : {d : ℕ} {x : Expression} {bs rest : List ℕ} → IsValue d x bs rest → length rest ≤ length bs
@@ -22,7 +28,7 @@ mutual
 
   pub steps_shorter : {d : ℕ} {xs : Steps} {bs rest : List ℕ} → AreSteps d xs bs rest → length rest ≤ length bs
   steps_shorter (no_step h) = omega arith
-  steps_shorter (is_member w ss) = omega (arith, word_shorter w, steps_shorter ss)
+  steps_shorter (is_member w ss) = omega (arith, member_shorter w, steps_shorter ss)
   steps_shorter (is_index a v b ss) = omega (arith, blank_shorter a, value_shorter v, blank_shorter b, steps_shorter ss)
 
 -- ---- values: what is read stands in the grammar
@@ -53,10 +59,22 @@ no_letter_front : (from : List ℕ) → word_at from ≡ None → is_letter (get
 unfolding word_at
 no_letter_front from h = none_by (is_letter (get_or from 0 0)) _ h
 
-dot_takes : (d : ℕ) (from : List ℕ) (x : Option (Expression × List ℕ)) (o : Option (List ℕ × List ℕ)) → word_at from ≡ o → option_map (λ (w : List ℕ × List ℕ). (literal (text w.0), w.1)) o ≡ x → Stepped d (46 ∷ from) x
+no_mark_front : (bs : List ℕ) → past_byte 63 bs ≡ None → begins_with 63 bs ≡ false
+no_mark_front [] h = refl
+no_mark_front (b ∷ bs) h = byte_none 63 b bs h
+
+-- a word, and a `?` after it, is the name of a member
+named_by : (w bs rest : List ℕ) (o : Option (List ℕ)) → Word w bs rest → past_byte 63 rest ≡ o → IsMemberName (marked w rest o).0 bs (marked w rest o).1
+named_by w bs rest None h e = without_mark h (no_mark_front rest e)
+named_by w bs rest (Some after) h e = with_mark (subst (Word w bs) (byte_some 63 rest after e) h)
+
+member_is : (w : List ℕ × List ℕ) (bs : List ℕ) → Word w.0 bs w.1 → IsMemberName (member_name w).0 bs (member_name w).1
+member_is w bs h = named_by w.0 bs w.1 (past_byte 63 w.1) h refl
+
+dot_takes : (d : ℕ) (from : List ℕ) (x : Option (Expression × List ℕ)) (o : Option (List ℕ × List ℕ)) → word_at from ≡ o → option_map member_step (option_map member_name o) ≡ x → Stepped d (46 ∷ from) x
 unfolding Stepped
 dot_takes d from x None e h = subst (Stepped d (46 ∷ from)) h (no_letter_front from e)
-dot_takes d from x (Some w) e h = subst (Stepped d (46 ∷ from)) h ((λ vs rest s. is_member (word_takes from w e) s), omega (arith, word_shorter (word_takes from w e)))
+dot_takes d from x (Some w) e h = let m = member_is w from (word_takes from w e) in subst (Stepped d (46 ∷ from)) h ((λ vs rest s. is_member m s), omega (arith, member_shorter m))
 
 module _ (d : ℕ) (inner : Reads Expression) (inner_takes : (bs : List ℕ) (x : Expression × List ℕ) → inner bs ≡ Some x → Inside d x.0 bs x.1) where
   index_takes : (bs : List ℕ) (x : Expression × List ℕ) → index_at inner bs ≡ Some x → Stepped d (91 ∷ bs) (Some x)
@@ -69,7 +87,7 @@ module _ (d : ℕ) (inner : Reads Expression) (inner_takes : (bs : List ℕ) (x 
       (subst (Blank a.0.1) (byte_some 93 _ b.0 b.1) (blank_takes a.0.1)))
 
   member_takes : (bs : List ℕ) (x : Option (Expression × List ℕ)) (o : Option (List ℕ)) → past_byte 91 bs ≡ None → past_byte 46 bs ≡ o → member_at o ≡ x → Stepped d bs x
-  unfolding Stepped
+  unfolding Stepped member_name_at member_word_at
   member_takes [] x o k e h = subst (Stepped d []) (ap member_at e ∙ h) refl
   member_takes (b ∷ bs) x None k e h = subst (Stepped d (b ∷ bs)) h (or_from _ _ (byte_none 91 b bs k) (rw (byte_none 46 b bs e)))
   member_takes (b ∷ bs) x (Some from) k e h = subst (λ (l : List ℕ). Stepped d l x) (sym (byte_some 46 (b ∷ bs) from e)) (dot_takes d from x (word_at from) refl h)
@@ -132,7 +150,7 @@ value_takes d bs x h = value_by_takes d (inner_of d) (inner_takes d) bs (word_at
 -- ---- values: what stands in the grammar is read
 
 no_member : (t : Bool) (bs : List ℕ) → (t && is_letter (get_or bs 0 0)) ≡ false → member_at (cond t (Some bs) None) ≡ None
-unfolding word_at
+unfolding word_at member_name_at member_word_at
 no_member true bs h = rw h
 no_member false bs h = refl
 
@@ -141,9 +159,18 @@ unfolding step_at
 no_step_again inner [] h = refl
 no_step_again inner (b ∷ bs) h = let n = or_parts (eqb b 91) (eqb b 46 && is_letter (get_or bs 0 0)) h in rw (n.0, no_member (eqb b 46) bs n.1)
 
-member_again : (inner : Reads Expression) (w from after : List ℕ) → Word w from after → step_at inner (46 ∷ from) ≡ Some (Some (literal (text w), after))
+no_mark_again : (bs : List ℕ) → begins_with 63 bs ≡ false → past_byte 63 bs ≡ None
+no_mark_again [] h = refl
+no_mark_again (b ∷ bs) h = rw h
+
+name_again : (w bs rest : List ℕ) → IsMemberName w bs rest → member_name_at bs ≡ Some (literal (text w), rest)
+unfolding member_name_at member_word_at
+name_again w bs rest (without_mark h e) = rw (word_again w bs rest h, no_mark_again rest e)
+name_again _ bs rest (with_mark {w = w} h) = rw (word_again w bs (63 ∷ rest) h)
+
+member_again : (inner : Reads Expression) (w from after : List ℕ) → IsMemberName w from after → step_at inner (46 ∷ from) ≡ Some (Some (literal (text w), after))
 unfolding step_at
-member_again inner w from after h = rw (word_again w from after h)
+member_again inner w from after h = rw (name_again w from after h)
 
 index_again : (inner : Reads Expression) (v : Expression) (inside from until after : List ℕ) → Blank inside from → inner from ≡ Some (v, until) → Blank until (93 ∷ after) → step_at inner (91 ∷ inside) ≡ Some (Some (v, after))
 unfolding step_at index_at
@@ -171,7 +198,7 @@ mutual
   steps_again (no_step h) zero l = rw (no_step_again _ _ h)
   steps_again (no_step h) (suc n) l = rw (no_step_again _ _ h)
   steps_again (is_member w ss) zero l = absurd (omega arith)
-  steps_again (is_member w ss) (suc n) l = rw (member_again _ _ _ _ w, steps_again ss n (omega (arith, word_shorter w)))
+  steps_again (is_member w ss) (suc n) l = rw (member_again _ _ _ _ w, steps_again ss n (omega (arith, member_shorter w)))
   steps_again (is_index a v b ss) zero l = absurd (omega arith)
   steps_again (is_index a v b ss) (suc n) l = rw (index_again _ _ _ _ _ _ a (value_again v) b, steps_again ss n (omega (arith, blank_shorter a, value_shorter v, blank_shorter b)))
 
@@ -255,6 +282,10 @@ front_of : (front bs rest : List ℕ) → bs ≡ front ++ rest → Front bs rest
 unfolding Front
 front_of front bs rest e = (front, e)
 
+member_front : {w bs rest : List ℕ} → IsMemberName w bs rest → Front bs rest
+member_front (without_mark {w = w} {bs = bs} {rest = rest} o h) = front_of w bs rest o.joined
+member_front (with_mark {w = w} {bs = bs} {rest = rest} o) = front_join bs (63 ∷ rest) rest (front_of w bs (63 ∷ rest) o.joined) (front_cons 63 rest rest (front_none rest))
+
 mutual
   value_front : {d : ℕ} {x : Expression} {bs rest : List ℕ} → IsValue d x bs rest → Front bs rest
   value_front (is_text {s = s} {bs = bs} {rest = rest} q) = front_of (q.quote ∷ (s ++ (q.quote ∷ []))) bs rest (q.joined ∙ ap (λ (l : List ℕ). q.quote ∷ l) (sym (append_assoc s (q.quote ∷ []) rest)))
@@ -264,7 +295,7 @@ mutual
 
   steps_front : {d : ℕ} {xs : Steps} {bs rest : List ℕ} → AreSteps d xs bs rest → Front bs rest
   steps_front (no_step {rest = rest} h) = front_none rest
-  steps_front (is_member {w = w} {from = from} {after = after} {rest = rest} o ss) = front_cons 46 from rest (front_join from after rest (front_of w from after o.joined) (steps_front ss))
+  steps_front (is_member {w = w} {from = from} {after = after} {rest = rest} o ss) = front_cons 46 from rest (front_join from after rest (member_front o) (steps_front ss))
   steps_front (is_index {inside = inside} {from = from} {until = until} {after = after} {rest = rest} a v b ss) =
       front_cons 91 inside rest (front_join inside from rest (front_of a.blank inside from a.joined) (front_join from until rest (value_front v)
       (front_join until (93 ∷ after) rest (front_of b.blank until (93 ∷ after) b.joined) (front_cons 93 after rest (steps_front ss)))))

@@ -1,11 +1,12 @@
 -- What is read at the front of a text, as functions: values, and the text before an opener.
-use Rattle.std.specs.Prelude.{ℕ, zero, suc, List, [], length, take, drop, ◌-◌}
+use Rattle.std.specs.Prelude.{ℕ, zero, suc, List, [], ◌∷◌, ◌++◌, length, take, drop, ◌-◌}
 use Rattle.std.specs.Prelude.{if◌then◌else◌, Option, Some, None}
 use Rattle.std.specs.Option.{option_and_then, option_map}
 use Rattle.std.specs.List.{suffix_len}
 use Rattle.liquid_model.specs.Data.{text}
 use Rattle.liquid_core.specs.Expression.{Expression, literal, variable, Steps, no_steps, step}
 use Rattle.liquid_model.specs.Bytes.{is_white, plain, close_bracket, dot, open_bracket}
+use Rattle.liquid_model.specs.Bytes.{question_mark}
 use Rattle.liquid_model.specs.Front.{Reads, run_len, past_white, past_byte, word_at}
 use Rattle.liquid_model.specs.Front.{literal_at}
 use Rattle.liquid_lexer.specs.Values.{WordKind, name, constant, state, word_kind, dotted}
@@ -14,10 +15,28 @@ infixl 10 ◌>>=◌
 abbrev pub ◌>>=◌ : {A B : Type 0} → Option A → (A → Option B) → Option B
 o >>= f = option_and_then f o
 
--- `.` and a word, or nothing
+-- what follows the `?`, where one stands after the word w
+abbrev pub marked : List ℕ → List ℕ → Option (List ℕ) → List ℕ × List ℕ
+marked w rest None = (w, rest)
+marked w rest (Some after) = (w ++ question_mark ∷ [], after)
+
+abbrev pub member_name : List ℕ × List ℕ → List ℕ × List ℕ
+member_name w = marked w.0 w.1 (past_byte question_mark w.1)
+
+abbrev pub member_step : List ℕ × List ℕ → Expression × List ℕ
+member_step m = (literal (text m.0), m.1)
+
+-- a member's name, or nothing
+unfoldable pub member_word_at : Reads (List ℕ)
+member_word_at bs = option_map member_name (word_at bs)
+
+unfoldable pub member_name_at : List ℕ → Option (Expression × List ℕ)
+member_name_at bs = option_map member_step (member_word_at bs)
+
+-- `.` and a member's name, or nothing
 abbrev pub member_at : Option (List ℕ) → Option (Expression × List ℕ)
 member_at None = None
-member_at (Some from) = option_map (λ w. (literal (text w.0), w.1)) (word_at from)
+member_at (Some from) = member_name_at from
 
 module _ (inner : Reads Expression) where
   unfoldable pub index_at : Reads Expression

@@ -1,11 +1,12 @@
 -- The written grammar of values: literals, and variables with their steps. In each relation bs
 -- begins with the value, and rest follows it.
-use Rattle.std.specs.Prelude.{◌≡◌, ℕ, suc, ℤ, List, [], ◌∷◌, Bool, true, false, ◌==◌, ◌||◌, ◌&&◌}
+use Rattle.std.specs.Prelude.{◌≡◌, ℕ, suc, ℤ, List, [], ◌∷◌, ◌++◌, Bool, true, false, ◌==◌, ◌||◌}
+use Rattle.std.specs.Prelude.{◌&&◌}
 use Rattle.std.specs.Prelude.{slice_index, cond, bytes_eq, codes}
 use Rattle.liquid_model.specs.Data.{Datum, nil, truth, number, text}
 use Rattle.liquid_core.specs.Expression.{Expression, literal, variable, Steps, no_steps, step}
-use Rattle.liquid_model.specs.Bytes.{is_letter, close_bracket, dot, open_bracket}
-use Rattle.liquid_model.specs.Words.{Blank, Word, Quoted, Number}
+use Rattle.liquid_model.specs.Bytes.{is_letter, close_bracket, dot, open_bracket, question_mark}
+use Rattle.liquid_model.specs.Words.{Blank, Word, Quoted, Number, begins_with}
 
 -- what a word is where it opens a value: a variable's name, a literal, or one of the two that are
 -- refused
@@ -31,6 +32,13 @@ abbrev pub step_begins : List ℕ → Bool
 step_begins [] = false
 step_begins (b ∷ bs) = b == open_bracket || (b == dot && is_letter (slice_index bs 0))
 
+-- the name of a member: a word, and a `?` that stands right after it
+pub data IsMemberName : List ℕ → List ℕ → List ℕ → Type 0 where
+  without_mark : {w bs rest : List ℕ} → Word w bs rest → begins_with question_mark rest ≡ false →
+      IsMemberName w bs rest
+  with_mark : {w bs rest : List ℕ} → Word w bs (question_mark ∷ rest) →
+      IsMemberName (w ++ question_mark ∷ []) bs rest
+
 -- brackets nest at most d deep
 mutual
   pub data IsValue : ℕ → Expression → List ℕ → List ℕ → Type 0 where
@@ -45,8 +53,8 @@ mutual
 
   pub data AreSteps : ℕ → Steps → List ℕ → List ℕ → Type 0 where
     no_step : {d : ℕ} {rest : List ℕ} → step_begins rest ≡ false → AreSteps d no_steps rest rest
-    -- `.word`
-    is_member : {d : ℕ} {w from after rest : List ℕ} {steps : Steps} → Word w from after →
+    -- `.word` or `.word?`
+    is_member : {d : ℕ} {w from after rest : List ℕ} {steps : Steps} → IsMemberName w from after →
         AreSteps d steps after rest → AreSteps d (step (literal (text w)) steps) (dot ∷ from) rest
     -- `[value]`
     is_index : {d : ℕ} {x : Expression} {steps : Steps} {inside from until after rest : List ℕ} →

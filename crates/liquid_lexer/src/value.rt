@@ -7,7 +7,7 @@ ghost use Rattle.liquid_lexer.specs.inside.ValueFaults.{number_fault, value_faul
 ghost use Rattle.liquid_lexer.specs.Values.{word_kind};
 ghost use Rattle.liquid_lexer.specs.ValueReading.{word_value, inner_of, expression_at};
 ghost use Rattle.liquid_model.specs.Front.{literal_at};
-ghost use Rattle.liquid_lexer.specs.ValueReading.{step_at, steps_at};
+ghost use Rattle.liquid_lexer.specs.ValueReading.{member_word_at, step_at, steps_at};
 ghost use Rattle.liquid_lexer.specs.Readers.{Parses};
 ghost use Rattle.liquid_lexer.specs.PieceView.{word_kind_view, read_view};
 ghost use Rattle.std.specs.Option.{option_map};
@@ -17,7 +17,7 @@ use crate::fault::{Fault, FaultKind, ParseError};
 use crate::scan::is_dotted;
 use liquid_core::{Expression, Variable};
 use liquid_model::{
-    Value, number_len, past_byte, past_white, quoted, whole_number, whole_of, word,
+    Value, number_len, past_byte, past_white, push_first, quoted, whole_number, whole_of, word,
 };
 use std::alloc::Global;
 
@@ -155,15 +155,15 @@ fn read_steps(
     let mut steps = Vec::new(alloc);
     let mut rest = text;
     'steps: while let Some((step, after)) = read_step(alloc, rest, depth)? {
-        steps.push(step)?;
+        push_first(&mut steps, step)?;
         rest = after;
     }
     Ok((steps, rest))
 }
 
-/// One step, `.word` or `[value]`, where one stands at the front.
+/// One step, `.word`, `.word?` or `[value]`, where one stands at the front.
 #[cycle(read_value)]
-#[tactic(auto, unfolding(crate::specs::ValueReading::step_at, crate::specs::ValueReading::index_at), using(crate::proofs::ValueLaws::inner_is, crate::proofs::ValueLaws::inner_none))]
+#[tactic(auto, unfolding(crate::specs::ValueReading::step_at, crate::specs::ValueReading::index_at, crate::specs::ValueReading::member_name_at), using(crate::proofs::ValueLaws::inner_is, crate::proofs::ValueLaws::inner_none))]
 fn read_step(
     alloc: Global,
     text: &str,
@@ -189,11 +189,24 @@ fn read_step(
     let Some(from) = past_byte(text, b'.') else {
         return Ok(None);
     };
-    let Some((name, rest)) = word(from) else {
+    let Some((name, rest)) = member_name(from) else {
         return Ok(None);
     };
     let name = String::from_str(alloc, name)?;
     Ok(Some((Expression::Literal(Value::Text(name)), rest)))
+}
+
+/// The name of a member at the front, a word with a `?` that stands right after it, and what
+/// follows it.
+#[tactic(auto, unfolding(crate::specs::ValueReading::member_word_at))]
+fn member_name(text: &str) -> Option<(&str, &str)>
+    ensures { option_map (λ w. (w.0.now, w.1.now)) result ≡ member_word_at text.now }
+{
+    let (name, rest) = word(text)?;
+    match past_byte(rest, b'?') {
+        Some(_) => Some(text.split_at(name.len() + 1)),
+        None => Some((name, rest)),
+    }
 }
 
 /// The fault of a text that doesn't begin as it must: `Unclosed` where nothing is left, else

@@ -69,6 +69,9 @@ equals_sign = 61
 abbrev pub greater_sign : ℕ
 greater_sign = 62
 
+abbrev pub question_mark : ℕ
+question_mark = 63
+
 abbrev pub at_sign : ℕ
 at_sign = 64
 

@@ -17,6 +17,7 @@ use liquid_language::{FilterRegistry, RegisteredFilter};
 use liquid_lexer::{
     Expectation, Fault, FaultKind, Item, ParseError, Symbol, is_over, next_value, next_word, skip,
 };
+use liquid_model::push_first;
 use std::alloc::Global;
 use std::collections::VecDeque;
 
@@ -58,7 +59,7 @@ fn read_filters(
         if !skip(items, Symbol::Bar) {
             return Err(expected(at, items.len(), Expectation::FilterOrCloser));
         }
-        filters.push(read_filter(alloc, known, items, at)?)?;
+        push_first(&mut filters, read_filter(alloc, known, items, at)?)?;
     }
     Ok(filters)
 }

@@ -1,12 +1,13 @@
 -- Jobs, pages and reasons, as contracts see them.
-use Rattle.std.specs.Prelude.{ℕ, Bool, ◌||◌, Option, is_some, option_map, Result, Ok, Err}
-use Rattle.std.specs.Prelude.{String, string_bytes}
+use Rattle.std.specs.Prelude.{◌≡◌, ℕ, Bool, true, ◌||◌, length, Option, is_some, option_map}
+use Rattle.std.specs.Prelude.{Result, Ok, Err, IfOk, String, string_bytes}
 use Rattle.std.specs.Borrow.{Bor}
 use Rattle.std.specs.BTreeMap.{get_by_text}
 use Rattle.std.specs.declared.alloc.Global.{Global}
 use Rattle.liquid_core.specs.Held.{held}
 use Rattle.liquid_model.specs.FilterAnswers.{FilterAnswer}
 use Rattle.liquid_model.specs.Texts.{Text}
+use Rattle.liquid_engine.specs.Limits.{is_within_limit}
 use Rattle.liquid_engine.specs.declared.limits.Limits.{Limits}
 use Rattle.liquid_evaluation.specs.Tree.{Nodes}
 use Rattle.liquid_syntax.specs.Templates.{tree_of, partials_of}
@@ -54,6 +55,10 @@ why_view (Limited reached) = seen.limited
 abbrev pub outcome_view : {X Y : Type 0} → (X → Y) → Result X Why → Result Y seen.Reason
 outcome_view view (Ok x) = Ok (view x)
 outcome_view view (Err why) = Err (why_view why)
+
+-- a page that was made has no more bytes than the limit on them
+abbrev pub KeepsBytes : Limits → Result seen.Made seen.Reason → Type 0
+KeepsBytes limits r = IfOk r (λ m. is_within_limit (length m.text) limits.bytes ≡ true)
 
 abbrev pub failure_view : Failure → Failed
 failure_view (NoPage why) = no_page (why_view why)

@@ -1,17 +1,16 @@
 //! One template over many records.
-ghost use Rattle.std.specs.Prelude.{◌≡◌, Ok, IfErr, IfOk, None, string_bytes, true};
+ghost use Rattle.std.specs.Prelude.{◌≡◌, Ok, IfErr, IfOk, string_bytes};
 ghost use Rattle.liquid_model.specs.Answer.{IsValueOrMemory};
 ghost use Rattle.liquid_model.specs.View.{pairs_view};
 ghost use Rattle.liquid_syntax.specs.Templates.{tree_of};
-ghost use Rattle.liquid_engine.specs.LimitedPages.{PageWithin};
-ghost use Rattle.liquid_engine.specs.Limits.{unlimited};
+ghost use Rattle.liquid_engine.specs.LimitedPages.{KeepsLimits, PageWithin};
 ghost use Rattle.liquid_engine.specs.Pages.{page_view};
 ghost use Rattle.liquid_json.specs.Json.{data_of};
 ghost use Rattle.liquid_records.specs.Records.{RecordComesTo, checked_name, made_by, made_page};
 ghost use Rattle.liquid_records.specs.Records.{record_outcome};
 ghost use Rattle.liquid_records.specs.Records.{record_file_name};
 ghost use Rattle.liquid_records.specs.Records.{page_name, pattern_page, record_page};
-ghost use Rattle.liquid_records.specs.Views.{has_page_limit, job_view, made_view, outcome_view};
+ghost use Rattle.liquid_records.specs.Views.{KeepsBytes, job_view, made_view, outcome_view};
 ghost use Rattle.liquid_records.specs.Views.{pattern_view};
 
 use crate::data::{lay_over, take_off};
@@ -70,7 +69,8 @@ impl<H: NamedFilters> Job<H> {
     /// in the pattern is a fault, whatever becomes of it in the page, no limit ends the name, and
     /// it calls no filter of the host.
     ///
-    /// Where a limit ends the page, the record comes to that. Without one no page ends so.
+    /// Where a limit ends the page, the record comes to that. Without one no page ends so. No page
+    /// has more bytes than the limit on them.
     ///
     /// The answer is `Memory` where a growth was refused, and no other kind. The job is as it was,
     /// on every answer.
@@ -83,6 +83,7 @@ impl<H: NamedFilters> Job<H> {
         ensures made { IfOk result (λ r. RecordComesTo (job_view H.named self.old)
             (record_outcome (job_view H.named self.old) (pattern_view pattern.entry)
             (Ok (pairs_view «data».entries))) (outcome_view made_view r)) }
+        ensures bytes { IfOk result (λ r. KeepsBytes self.old.limits (outcome_view made_view r)) }
         ensures memory { IfErr result (λ e. e.kind ≡ ErrorKind.Memory) }
         ensures same { job_view H.named self.new ≡ job_view H.named self.old }
     {
@@ -102,6 +103,7 @@ impl<H: NamedFilters> Job<H> {
         ensures made { IfOk result (λ r. RecordComesTo (job_view H.named self.old)
             (record_outcome (job_view H.named self.old) (pattern_view pattern.entry)
             (data_of text.now)) (outcome_view made_view r)) }
+        ensures bytes { IfOk result (λ r. KeepsBytes self.old.limits (outcome_view made_view r)) }
         ensures memory { IfErr result (λ e. e.kind ≡ ErrorKind.Memory) }
         ensures same { job_view H.named self.new ≡ job_view H.named self.old }
     {
@@ -120,6 +122,7 @@ impl<H: NamedFilters> Job<H> {
         ensures made { IfOk result (λ r. RecordComesTo (job_view H.named self.now)
             (made_by (job_view H.named self.now) (pattern_view pattern.entry))
             (outcome_view made_view r)) }
+        ensures bytes { IfOk result (λ r. KeepsBytes self.now.limits (outcome_view made_view r)) }
         ensures memory { IfErr result (λ e. e.kind ≡ ErrorKind.Memory) }
     {
         match self.name_over(alloc, pattern)? {
@@ -129,67 +132,32 @@ impl<H: NamedFilters> Job<H> {
     }
 
     /// The page under its name. Without a limit none ends it.
+    #[tactic(auto, using(crate::proofs::Making::whole_is, crate::proofs::Making::ended_is, crate::proofs::Making::made_keeps))]
     fn made_under(&self, alloc: Global, name: String) -> Result<RecordResult<Made>>
         ensures made { IfOk result (λ r. RecordComesTo (job_view H.named self.now)
             (made_page (string_bytes name) (record_page (job_view H.named self.now)))
             (outcome_view made_view r)) }
+        ensures bytes { IfOk result (λ r. KeepsBytes self.now.limits (outcome_view made_view r)) }
         ensures memory { IfErr result (λ e. e.kind ≡ ErrorKind.Memory) }
     {
-        if self.has_page_limit() {
-            return self.made_within(alloc, name);
-        }
-        self.made_whole(alloc, name)
-    }
-
-    /// The page under its name, without limits.
-    #[tactic(auto, using(crate::proofs::Making::whole_is))]
-    fn made_whole(&self, alloc: Global, name: String) -> Result<RecordResult<Made>>
-        ensures made { IfOk result (λ r. RecordComesTo (job_view H.named self.now)
-            (made_page (string_bytes name) (record_page (job_view H.named self.now)))
-            (outcome_view made_view r)) }
-        ensures memory { IfErr result (λ e. e.kind ≡ ErrorKind.Memory) }
-    {
-        let limits = Limits {
-            bytes: None,
-            turns: None,
-        };
-        let shown = self.shown_within(alloc, limits)?;
-        Ok(page_named(name, shown.page))
-    }
-
-    fn has_page_limit(&self) -> bool
-        ensures { result ≡ has_page_limit self.now.limits }
-    {
-        self.limits.bytes.is_some() || self.limits.turns.is_some()
-    }
-
-    /// The page under its name, within limits.
-    #[tactic(auto, using(crate::proofs::Making::page_is, crate::proofs::Making::page_whole))]
-    fn made_within(&self, alloc: Global, name: String) -> Result<RecordResult<Made>>
-        requires { has_page_limit self.now.limits ≡ true }
-        ensures made { IfOk result (λ r. RecordComesTo (job_view H.named self.now)
-            (made_page (string_bytes name) (record_page (job_view H.named self.now)))
-            (outcome_view made_view r)) }
-        ensures memory { IfErr result (λ e. e.kind ≡ ErrorKind.Memory) }
-    {
-        let shown = self.shown_within(alloc, self.limits)?;
+        let shown = self.shown(alloc)?;
         match shown.limit {
             Some(reached) => Ok(Err(Why::Limited(reached))),
             None => Ok(page_named(name, shown.page)),
         }
     }
 
-    /// The page within these limits.
-    fn shown_within(&self, alloc: Global, limits: Limits) -> Result<LimitedPage>
-        ensures page { IfOk result (λ p. PageWithin (record_page (job_view H.named self.now)) p) }
-        ensures free { limits ≡ unlimited → IfOk result (λ p. p.limit ≡ None) }
+    /// The page within the limits.
+    fn shown(&self, alloc: Global) -> Result<LimitedPage>
+        ensures page { IfOk result (PageWithin (record_page (job_view H.named self.now))) }
+        ensures limits { IfOk result (KeepsLimits self.now.limits) }
         ensures memory { IfErr result (λ e. e.kind ≡ ErrorKind.Memory) }
     {
         let around = Surroundings {
             partials: &self.partials,
             depth: self.depth,
             missing: self.missing,
-            limits,
+            limits: self.limits,
         };
         render_hosted_page(alloc, &self.template, &self.host, around, &self.shared)
     }

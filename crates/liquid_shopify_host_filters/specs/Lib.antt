@@ -9,6 +9,7 @@ pub mod Last
 pub mod Laws
 pub mod Lookups
 pub mod Money
+pub mod Named
 pub mod Pagination
 pub mod Sections
 pub mod Styles

@@ -33,12 +33,42 @@ impl Filter for ShopifyFilter {
     ghost answer = { λ f. shopify_answer f.kind f.shop.value };
 
     fn accepts(&self, count: usize) -> bool {
-        self.kind.least() <= count && count <= self.kind.most()
+        takes(self.kind, count)
     }
 
     fn evaluate(&self, alloc: Global, input: &Value, args: &[Value]) -> Result<Value> {
         answered(alloc, self.kind, &self.shop, input, args)
     }
+}
+
+/// The same filter over a shop that it borrows.
+#[derive(Clone, Copy, Drop)]
+pub struct ShopFilter<'s> {
+    /// Which filter it is.
+    pub kind: ShopifyKind,
+    /// What it knows of the shop.
+    pub shop: &'s Shop,
+}
+
+impl Filter for ShopFilter<'_> {
+    ghost counts = { λ f n. takes_arguments f.kind n };
+
+    ghost answer = { λ f. shopify_answer f.kind f.shop.now };
+
+    fn accepts(&self, count: usize) -> bool {
+        takes(self.kind, count)
+    }
+
+    fn evaluate(&self, alloc: Global, input: &Value, args: &[Value]) -> Result<Value> {
+        answered(alloc, self.kind, self.shop, input, args)
+    }
+}
+
+/// Whether a filter takes so many arguments.
+fn takes(kind: ShopifyKind, count: usize) -> bool
+    ensures { result ≡ takes_arguments kind count }
+{
+    kind.least() <= count && count <= kind.most()
 }
 
 /// What the filter answers.

@@ -11,6 +11,7 @@ mod kind;
 pub mod laws;
 mod lists;
 mod money;
+mod named;
 mod pagination;
 mod sections;
 mod shop;
@@ -22,7 +23,7 @@ mod weight;
 mod wording;
 mod words;
 
-pub use filter::ShopifyFilter;
+pub use filter::{ShopFilter, ShopifyFilter};
 pub use kind::{SHOPIFY_FILTERS, ShopifyKind};
 pub use money::{MoneyFormat, MoneyStyle};
 pub use shop::Shop;

@@ -11,6 +11,7 @@ use Rattle.liquid_syntax.specs.Called.{Gathered, has_any_name, is_of_any_name, m
 use Rattle.liquid_syntax.specs.NameSets.{added, mentioned_in_set}
 use Rattle.liquid_syntax.specs.Templates.{template_nodes, tree_of}
 use Rattle.liquid_syntax.specs.inside.Calls.{list_calls, own_calls}
+use Rattle.liquid_syntax.specs.inside.OwnNodes.{own_nodes}
 use Rattle.liquid_syntax.specs.declared.called.Called.{Called}
 use Rattle.liquid_syntax.specs.declared.node.Node.{Node}
 use Rattle.liquid_syntax.specs.declared.template.Template.{Template}
@@ -35,7 +36,7 @@ pub some_template_calls : (t : Template) (f : PartialCall → Bool) → list_any
 some_template_calls t f = some_by_all f (nodes_calls (tree_of t)) ∙ ap other (template_calls t (λ c. other (f c))) ∙ sym (some_by_all f (list_calls (template_nodes t)))
 
 some_each : (f : PartialCall → Bool) (ns : List Node) → list_any (λ n. list_any f (own_calls n)) ns ≡ list_any f (list_calls ns)
-unfolding list_calls
+unfolding nodes_calls own_nodes
 some_each f [] = refl
 some_each f (n ∷ ns) = ap (λ r. list_any f (own_calls n) || r) (some_each f ns) ∙ sym (list_any-append f (own_calls n) (list_calls ns))
 

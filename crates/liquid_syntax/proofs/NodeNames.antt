@@ -1,19 +1,20 @@
 -- The names of nodes, part after part.
 use Rattle.std.proofs.Common.{◌≡◌, List, [], ◌∷◌, length, map, string_bytes, codes, refl}
 use Rattle.liquid_core.specs.ExpressionView.{expression_view}
-use Rattle.liquid_evaluation.specs.Names.{all_names, bound_names, expression_names, include_name, target_names}
+use Rattle.liquid_evaluation.specs.Names.{all_names, bound_names, expression_names, include_name, nodes_names, target_names, whens_names}
 use Rattle.liquid_evaluation.proofs.Telling.{IsEach}
 use Rattle.liquid_syntax.specs.Flats.{arm_values, bindings_view}
 use Rattle.liquid_syntax.specs.inside.Mentions.{arms_names, held_names, list_names, own_names, partials_list_names}
+use Rattle.liquid_syntax.specs.inside.OwnNodes.{own_nodes, own_whens}
 use Rattle.liquid_syntax.specs.declared.node.Arm.{Arm}
 use Rattle.liquid_syntax.specs.declared.node.Binding.{Binding}
 
 pub each_node : IsEach own_names list_names
-unfolding list_names
+unfolding nodes_names own_nodes
 each_node = record { none = refl; more = λ n ns. refl }
 
 pub each_arm : IsEach (λ (arm : Arm). all_names (map expression_view arm.values.items)) (λ arms. arms_names (arm_values arms))
-unfolding arms_names
+unfolding whens_names own_whens
 each_arm = record { none = refl; more = λ arm arms. refl }
 
 pub each_target : IsEach (λ (pair : Binding). string_bytes pair.name ∷ []) (λ pairs. target_names (bindings_view pairs))

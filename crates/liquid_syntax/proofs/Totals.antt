@@ -1,16 +1,23 @@
 -- What the nodes of a tree come to together is what those of its list do, each without its bodies.
-use Rattle.std.specs.Prelude.{◌≡◌, ℕ, suc, ◌+◌, List, [], ◌∷◌, ◌++◌, length, map}
+use Rattle.std.specs.Prelude.{◌≡◌, ℕ, suc, ◌+◌, List, [], ◌∷◌, ◌++◌, length, map, Option, Some, None, option_map, string_bytes}
 use Rattle.std.specs.List.{AllByRecursion}
 use Rattle.std.proofs.Common.{refl, sym, ap, subst, ◌∙◌}
 use Rattle.std.proofs.lemmas.List.{length-map}
 use Rattle.liquid_core.specs.Expression.{Expression}
+use Rattle.liquid_core.specs.ExpressionView.{expression_view}
+use Rattle.liquid_evaluation.specs.ChainView.{chain_filter_view, chain_view}
+use Rattle.liquid_evaluation.specs.ConditionView.{condition_view}
+use Rattle.liquid_evaluation.specs.SourceView.{source_view}
 use Rattle.liquid_evaluation.specs.Tree as tree
+use Rattle.liquid_model.specs.Texts.{Text}
 use Rattle.liquid_syntax.specs.Forest.{Forest, Bodies, empty, node, no_bodies, body, forest_size, sizes}
 use Rattle.liquid_syntax.specs.Laid.{Flat, laid, laid_bodies, ends_of}
-use Rattle.liquid_syntax.specs.Flats.{Maker, leaf, one_body, two_bodies, case_flat, with_arms, values_in, arm_values, arm_ends, flat_of, flats, nodes_of, bodies_of}
+use Rattle.liquid_syntax.specs.Flats.{Maker, leaf, one_body, two_bodies, case_flat, with_arms, values_in, arm_values, arm_ends, flat_of, flats, nodes_of, bodies_of, bindings_view, each_view, window_view}
+use Rattle.liquid_syntax.specs.inside.OwnNodes.{own_node, own_nodes}
 use Rattle.liquid_syntax.specs.Templates.{template_nodes, forest_of, tree_of}
 use Rattle.liquid_syntax.specs.declared.node.Arm.{Arm}
 use Rattle.liquid_syntax.specs.declared.node.Node.{Node}
+use Rattle.liquid_syntax.specs.declared.node.Node.TheVariants.{Text as Plain, Output, Assign, Raw, Comment, If, Unless, Capture, Case, For, TableRow, Break, Continue, Increment, Decrement, Cycle, IfChanged, Filtered, Include, JekyllInclude, Render, RenderEach}
 use Rattle.liquid_syntax.specs.declared.node.BodyEnds.{BodyEnds}
 use Rattle.liquid_syntax.specs.declared.template.Template.{Template}
 use Rattle.liquid_syntax.proofs.Whole.{template_laid, tree_is}
@@ -24,6 +31,28 @@ pub record IsTotal {R : Type 0} (none : R) (plus : R → R → R) (of_node : tre
   pub nothing : of_nodes tree.no_nodes ≡ none
   pub more : (n : tree.Node) (ns : tree.Nodes) → of_nodes (tree.node n ns) ≡ plus (of_node n) (of_nodes ns)
 
+-- what a node with bodies comes to: itself, and its bodies
+pub record Splits {R : Type 0} (none : R) (plus : R → R → R) (of_node : tree.Node → R) (of_nodes : tree.Nodes → R) : Type 0 where
+  pub an_if : tree.Condition → R
+  pub if_is : (c : tree.Condition) (b o : tree.Nodes) → of_node (tree.if_true c b o) ≡ plus (an_if c) (plus (of_nodes b) (of_nodes o))
+  pub unless_is : (c : tree.Condition) (b o : tree.Nodes) → of_node (tree.unless c b o) ≡ plus (an_if c) (plus (of_nodes b) (of_nodes o))
+  pub a_for : Text → tree.Source → tree.Window → R
+  pub for_is : (v : Text) (s : tree.Source) (w : tree.Window) (b o : tree.Nodes) → of_node (tree.for_each v s w b o) ≡ plus (a_for v s w) (plus (of_nodes b) (of_nodes o))
+  pub a_row : Text → tree.Source → tree.Window → Option Expression → R
+  pub row_is : (v : Text) (s : tree.Source) (w : tree.Window) (c : Option Expression) (b : tree.Nodes) → of_node (tree.tablerow v s w c b) ≡ plus (a_row v s w c) (of_nodes b)
+  pub a_capture : Text → R
+  pub capture_is : (v : Text) (b : tree.Nodes) → of_node (tree.capture v b) ≡ plus (a_capture v) (of_nodes b)
+  pub a_changed : R
+  pub changed_is : (b : tree.Nodes) → of_node (tree.ifchanged b) ≡ plus a_changed (of_nodes b)
+  pub a_filtered : List tree.FilterCall → R
+  pub filtered_is : (f : List tree.FilterCall) (b : tree.Nodes) → of_node (tree.filtered f b) ≡ plus (a_filtered f) (of_nodes b)
+  pub a_case : Expression → R
+  pub of_whens : Expression → tree.Whens → R
+  pub of_values : Expression → List Expression → R
+  pub case_is : (t : Expression) (ws : tree.Whens) (o : tree.Nodes) → of_node (tree.case_of t ws o) ≡ plus (a_case t) (plus (of_whens t ws) (of_nodes o))
+  pub no_when : (t : Expression) → of_whens t tree.no_whens ≡ none
+  pub when_is : (t : Expression) (vs : List Expression) (b : tree.Nodes) (ws : tree.Whens) → of_whens t (tree.when vs b ws) ≡ plus (of_values t vs) (plus (of_nodes b) (of_whens t ws))
+
 module _ {R : Type 0} (none : R) (plus : R → R → R) (of_node : tree.Node → R) (of_nodes : tree.Nodes → R) where
   -- of the bodies of a node
   pub total : List tree.Nodes → R
@@ -33,11 +62,6 @@ module _ {R : Type 0} (none : R) (plus : R → R → R) (of_node : tree.Node →
   -- a node of the list comes to own, and to what its bodies do
   abbrev pub Makes : R → Flat Maker → Type 0
   Makes own x = (bodies : List tree.Nodes) → length bodies ≡ length x.ends → of_node (x.head bodies) ≡ plus own (total bodies)
-
-  -- of a list, whose nodes come to own without their bodies
-  unfoldable pub list_total : (Node → R) → List Node → R
-  list_total own [] = none
-  list_total own (n ∷ ns) = plus (own n) (list_total own ns)
 
   -- a node of the list with nothing in its bodies
   itself : Flat Maker → R
@@ -169,19 +193,70 @@ module _ {R : Type 0} (none : R) (plus : R → R → R) (of_node : tree.Node →
 
     -- ---- templates
 
-    module _ (own : Node → R) (makes : (n : Node) → Makes (own n) (flat_of n)) where
+    module _ (splits : Splits none plus of_node of_nodes) where
+      leaf_made : (n : tree.Node) → IsMade (leaf n)
+      leaf_made n = is_made (of_node n) (leaf n) (leaf_makes (of_node n) n refl)
+
+      case_made : (t : Expression) (arms : List Arm) (z : ℕ) → IsMade (case_flat t (arm_values arms) (arm_ends arms) z)
+      case_made t arms z =
+          let values = of_arms (splits.of_whens t) (splits.of_values t) (splits.no_when t) (splits.when_is t) (arm_values arms) in
+          is_made (plus (splits.a_case t) values) (case_flat t (arm_values arms) (arm_ends arms) z)
+          (case_makes (splits.of_whens t) (splits.of_values t) (splits.no_when t) (splits.when_is t) (splits.a_case t) t arms z (splits.case_is t))
+
+      -- one case for each kind of node
+      made : (n : Node) → IsMade (flat_of n)
+      made (Plain t) = leaf_made (tree.plain (string_bytes t))
+      made (Output chain) = leaf_made (tree.output (chain_view chain))
+      made (Assign target chain) = leaf_made (tree.assign (string_bytes target) (chain_view chain))
+      made (Raw t) = leaf_made (tree.raw (string_bytes t))
+      made Comment = leaf_made tree.comment
+      made (If condition ends) =
+          let c = condition_view condition in
+          is_made (splits.an_if c) (two_bodies (tree.if_true c) ends) (two_makes (splits.an_if c) (tree.if_true c) ends (splits.if_is c))
+      made (Unless condition ends) =
+          let c = condition_view condition in
+          is_made (splits.an_if c) (two_bodies (tree.unless c) ends) (two_makes (splits.an_if c) (tree.unless c) ends (splits.unless_is c))
+      made (Capture target end) =
+          let v = string_bytes target in
+          is_made (splits.a_capture v) (one_body (tree.capture v) end) (one_makes (splits.a_capture v) (tree.capture v) end (splits.capture_is v))
+      made (Case target arms end) = case_made (expression_view target) arms.items end
+      made (For f ends) =
+          let v = string_bytes f.value.variable in
+          let s = source_view f.value.source in
+          let w = window_view f.value.window in
+          is_made (splits.a_for v s w) (two_bodies (tree.for_each v s w) ends) (two_makes (splits.a_for v s w) (tree.for_each v s w) ends (splits.for_is v s w))
+      made (TableRow r end) =
+          let v = string_bytes r.value.variable in
+          let s = source_view r.value.source in
+          let w = window_view r.value.window in
+          let c = option_map expression_view r.value.cols in
+          is_made (splits.a_row v s w c) (one_body (tree.tablerow v s w c) end) (one_makes (splits.a_row v s w c) (tree.tablerow v s w c) end (splits.row_is v s w c))
+      made Break = leaf_made tree.break_loop
+      made Continue = leaf_made tree.continue_loop
+      made (Increment target) = leaf_made (tree.increment (string_bytes target))
+      made (Decrement target) = leaf_made (tree.decrement (string_bytes target))
+      made (Cycle group values) = leaf_made (tree.cycle (string_bytes group) (map expression_view values.items))
+      made (IfChanged end) = is_made splits.a_changed (one_body tree.ifchanged end) (one_makes splits.a_changed tree.ifchanged end splits.changed_is)
+      made (Filtered filters end) =
+          let calls = map chain_filter_view filters.items in
+          is_made (splits.a_filtered calls) (one_body (tree.filtered calls) end) (one_makes (splits.a_filtered calls) (tree.filtered calls) end (splits.filtered_is calls))
+      made (Include partial pairs) = leaf_made (tree.include (expression_view partial) (bindings_view pairs.items))
+      made (JekyllInclude partial pairs) = leaf_made (tree.jekyll_include (string_bytes partial) (bindings_view pairs.items))
+      made (Render partial pairs) = leaf_made (tree.render (expression_view partial) None (bindings_view pairs.items))
+      made (RenderEach partial each pairs) = leaf_made (tree.render (expression_view partial) (Some (each_view each)) (bindings_view pairs.items))
+
       all_made : (ns : List Node) → AllByRecursion IsMade (flats ns)
       all_made [] = tt
-      all_made (n ∷ ns) = (is_made (own n) (flat_of n) (makes n), all_made ns)
+      all_made (n ∷ ns) = (made n, all_made ns)
 
-      list_themselves : (ns : List Node) → all_themselves (flats ns) ≡ list_total own ns
-      unfolding all_themselves list_total
-      list_themselves [] = refl
-      list_themselves (n ∷ ns) = (λ i. plus (itself_is (own n) (flat_of n) (makes n) i) (list_themselves ns i))
+      own_total : (ns : List Node) → all_themselves (flats ns) ≡ of_nodes (own_nodes ns)
+      unfolding all_themselves itself own_nodes
+      own_total [] = sym sum.nothing
+      own_total (n ∷ ns) = ap (plus (itself (flat_of n))) (own_total ns) ∙ sym (sum.more (own_node n) (own_nodes ns))
 
-      pub tree_total : (t : Template) → of_nodes (tree_of t) ≡ list_total own (template_nodes t)
+      pub tree_total : (t : Template) → of_nodes (tree_of t) ≡ of_nodes (own_nodes (template_nodes t))
       tree_total t =
           ap of_nodes (tree_is t)
           ∙ forest_total 0 (forest_of t) (subst (AllByRecursion IsMade) (sym (template_laid t)) (all_made (template_nodes t)))
           ∙ ap all_themselves (template_laid t)
-          ∙ list_themselves (template_nodes t)
+          ∙ own_total (template_nodes t)

@@ -12,6 +12,7 @@ use Rattle.liquid_syntax.specs.NameSets.{mentioned_in_set, added}
 use Rattle.liquid_syntax.specs.Reached.{AllFoundOrAsked, StaysAsked, Spreads, Widens, are_settled, found_or_asked, had, is_settled, known_in, partials_settled, waits_in}
 use Rattle.liquid_syntax.specs.Templates.{template_nodes, tree_of}
 use Rattle.liquid_syntax.specs.inside.Calls.{list_calls, own_calls}
+use Rattle.liquid_syntax.specs.inside.OwnNodes.{own_nodes}
 use Rattle.liquid_syntax.specs.declared.node.Node.{Node}
 use Rattle.liquid_syntax.specs.declared.template.Template.{Template}
 use Rattle.liquid_syntax.specs.declared.wanted.Asked.{Asked}
@@ -170,7 +171,7 @@ next_settled w v nodes i n widens h own is lt found =
     ∙ holds _ (both_of (list_all (λ n. are_settled v found (own_calls n)) (take i nodes)) _ (held _ (first_still w v nodes i widens h found)) (held _ (ap (λ m. are_settled v found (own_calls m)) (sym is) ∙ own found)))
 
 each_call : (f : PartialCall → Bool) (ns : List Node) → list_all (λ n. list_all f (own_calls n)) ns ≡ list_all f (list_calls ns)
-unfolding list_calls
+unfolding nodes_calls own_nodes
 each_call f [] = refl
 each_call f (n ∷ ns) = ap (λ r. list_all f (own_calls n) && r) (each_call f ns) ∙ sym (list_all-append f (own_calls n) (list_calls ns))
 

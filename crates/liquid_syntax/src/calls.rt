@@ -22,6 +22,7 @@ pub enum PartialCall<'t> {
 
 /// What a node itself looks up, and not its bodies: none where it runs no partial. It takes no
 /// memory.
+#[tactic(auto, unfolding(liquid_evaluation::specs::PartialCalls::node_calls))]
 pub fn partial_call(node: &Node) -> Option<PartialCall<'_>>
     ensures { calls_view result ≡ own_calls node.now }
 {
@@ -30,6 +31,7 @@ pub fn partial_call(node: &Node) -> Option<PartialCall<'_>>
         Node::JekyllInclude(name, _) => Some(PartialCall::Name(name.as_str())),
         Node::Render(name, _) => Some(rendered(name)),
         Node::RenderEach(name, _, _) => Some(rendered(name)),
+        Node::Case(..) => None,
         _ => None,
     }
 }

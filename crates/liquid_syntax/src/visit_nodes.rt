@@ -7,13 +7,15 @@ ghost use Rattle.liquid_syntax.specs.inside.Mentions.{arms_names, each_names, fo
 ghost use Rattle.liquid_syntax.specs.inside.Mentions.{head_names, jekyll_names, list_names};
 ghost use Rattle.liquid_syntax.specs.inside.Mentions.{own_names, pairs_names, row_names};
 ghost use Rattle.liquid_evaluation.specs.ChainView.{chain_view};
-ghost use Rattle.liquid_evaluation.specs.Names.{bound_names, chain_names, include_name};
+ghost use Rattle.liquid_evaluation.specs.Names.{bound_names, chain_names, expression_names};
+ghost use Rattle.liquid_evaluation.specs.Names.{include_name};
 ghost use Rattle.liquid_evaluation.specs.Names.{optional_names, source_names, target_names};
 ghost use Rattle.liquid_evaluation.specs.Names.{window_names};
 ghost use Rattle.liquid_evaluation.specs.SourceView.{source_view};
 
 use crate::loop_nodes::{Each, For, TableRow, WindowExpression};
 use crate::node::{Arm, Binding, Node};
+use liquid_core::Expression;
 use liquid_evaluation::{
     FilterChain, NameVisitor, RangeExpression, visit_chain, visit_condition, visit_expression,
     visit_expressions, visit_filters, visit_optional, visit_source,
@@ -32,6 +34,7 @@ pub fn visit_nodes<V: NameVisitor>(nodes: &[Node], visitor: &mut V) -> bool
 }
 
 /// The names of a node itself, and not of its bodies, which follow it in the list.
+#[tactic(auto, unfolding(liquid_evaluation::specs::Names::node_names, crate::specs::inside::Mentions::head_names))]
 fn visit_node<V: NameVisitor>(node: &Node, visitor: &mut V) -> bool
     ensures { V.tells visitor.old (own_names node.now) result visitor.new }
 {
@@ -43,9 +46,7 @@ fn visit_node<V: NameVisitor>(node: &Node, visitor: &mut V) -> bool
         Node::Assign(name, chain) => visit_assign(name, chain, visitor),
         Node::If(condition, _) => visit_condition(condition, visitor),
         Node::Unless(condition, _) => visit_condition(condition, visitor),
-        Node::Case(target, arms, _) => {
-            visit_expression(target, visitor) || visit_arms(arms, visitor)
-        }
+        Node::Case(target, arms, _) => visit_case(target, arms, visitor),
         Node::For(head, _) => visit_for(head, visitor),
         Node::TableRow(head, _) => visit_table_row(head, visitor),
         Node::Capture(name, _) => visitor.visit(name.as_str()),
@@ -74,6 +75,14 @@ fn visit_assign<V: NameVisitor>(name: &String, chain: &FilterChain, visitor: &mu
     visitor.visit(name.as_str()) || visit_chain(chain, visitor)
 }
 
+/// The names in the target of a `case`, and in the values of its `when` parts.
+fn visit_case<V: NameVisitor>(target: &Expression, arms: &[Arm], visitor: &mut V) -> bool
+    ensures { V.tells visitor.old (expression_names (expression_view target.now) ++
+        arms_names (arm_values arms.now)) result visitor.new }
+{
+    visit_expression(target, visitor) || visit_arms(arms, visitor)
+}
+
 /// The names in the values of the `when` parts of a `case`.
 pub fn visit_arms<V: NameVisitor>(arms: &[Arm], visitor: &mut V) -> bool
     ensures { V.tells visitor.old (arms_names (arm_values arms.now)) result visitor.new }
@@ -87,7 +96,6 @@ pub fn visit_arms<V: NameVisitor>(arms: &[Arm], visitor: &mut V) -> bool
 }
 
 /// The names of a `for`: `forloop`, those of its head, and those of the items that are asked for.
-#[tactic(auto, unfolding(crate::specs::inside::Mentions::for_names))]
 fn visit_for<V: NameVisitor>(head: &For, visitor: &mut V) -> bool
     ensures { V.tells visitor.old (for_names head.now) result visitor.new }
 {
@@ -97,7 +105,6 @@ fn visit_for<V: NameVisitor>(head: &For, visitor: &mut V) -> bool
 
 /// The names of a `tablerow`: `tablerow`, those of its head, of its columns and of the items that
 /// are asked for.
-#[tactic(auto, unfolding(crate::specs::inside::Mentions::row_names))]
 fn visit_table_row<V: NameVisitor>(head: &TableRow, visitor: &mut V) -> bool
     ensures { V.tells visitor.old (row_names head.now) result visitor.new }
 {
@@ -113,7 +120,6 @@ pub fn visit_layout<V: NameVisitor>(head: &TableRow, visitor: &mut V) -> bool
 }
 
 /// The names of the `for` of a `render`, and those of its pairs.
-#[tactic(auto, unfolding(crate::specs::inside::Mentions::each_names))]
 fn visit_each<V: NameVisitor>(each: &Each, pairs: &[Binding], visitor: &mut V) -> bool
     ensures { V.tells visitor.old (each_names each.now ++ pairs_names (bindings_view pairs.now))
         result
@@ -157,7 +163,6 @@ pub fn visit_window<V: NameVisitor>(window: &WindowExpression, visitor: &mut V) 
 }
 
 /// The names that pairs bind, and those in their values.
-#[tactic(auto, unfolding(crate::specs::inside::Mentions::pairs_names))]
 fn visit_pairs<V: NameVisitor>(pairs: &[Binding], visitor: &mut V) -> bool
     ensures { V.tells visitor.old (pairs_names (bindings_view pairs.now)) result visitor.new }
 {
@@ -165,7 +170,6 @@ fn visit_pairs<V: NameVisitor>(pairs: &[Binding], visitor: &mut V) -> bool
 }
 
 /// The name under which a jekyll `include` binds its pairs, and those in their values.
-#[tactic(auto, unfolding(crate::specs::inside::Mentions::jekyll_names))]
 fn visit_jekyll_pairs<V: NameVisitor>(pairs: &[Binding], visitor: &mut V) -> bool
     ensures { V.tells visitor.old (jekyll_names (bindings_view pairs.now)) result visitor.new }
 {

@@ -2,7 +2,7 @@
 use crate::given::option;
 use crate::hosts::called_in_turn;
 use liquid_core::{Filter, HostFilters, Result, Value};
-use liquid_filter_sets::WhereExp;
+use liquid_filter_sets::{CONVERTERS, Conversion, WhereExp};
 use liquid_jekyll_host_filters::{JEKYLL_FILTERS, SiteFilter};
 use liquid_test_refusals::{Reporter, WorkedRow, text_of};
 use std::alloc::Global;
@@ -20,6 +20,16 @@ pub(crate) fn jekyll_called<R: Print>(reporter: &Reporter<'_, R>, row: &WorkedRo
         let name = String::from_str(alloc, filter.name())?;
         let site = SiteFilter::new(alloc, *filter, address, base)?;
         let boxed: Box<dyn Filter> = Box::new(alloc, site)?;
+        filters.push((name, boxed))?;
+    }
+    for converter in &CONVERTERS {
+        let name = String::from_str(alloc, converter.name())?;
+        let table = option(&row.on, converter.name()).map_or(&Value::Nil, |table| table);
+        let filter = Conversion {
+            converter: *converter,
+            table: table.copy(alloc)?,
+        };
+        let boxed: Box<dyn Filter> = Box::new(alloc, filter)?;
         filters.push((name, boxed))?;
     }
     called_in_turn(reporter, &HostFilters::new(filters), &row.with)

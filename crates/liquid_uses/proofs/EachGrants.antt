@@ -11,13 +11,14 @@ use Rattle.liquid_evaluation.specs.declared.comparison.ComparisonOperator.{Compa
 use Rattle.liquid_evaluation.specs.declared.comparison.ComparisonOperator.TheVariants.{Equals}
 use Rattle.liquid_evaluation.specs.declared.condition.Atom.{Atom}
 use Rattle.liquid_syntax.specs.Flats.{arm_values, bindings_view}
+use Rattle.liquid_syntax.specs.inside.OwnNodes.{own_nodes, own_whens}
 use Rattle.liquid_syntax.specs.declared.node.Arm.{Arm}
 use Rattle.liquid_syntax.specs.declared.node.Binding.{Binding}
 use Rattle.liquid_syntax.specs.declared.node.Node.{Node}
 use Rattle.std.specs.Prelude.{Vec, string_bytes}
 use Rattle.std.specs.declared.alloc.Global.{Global}
 use Rattle.liquid_model.specs.Uses.{everything}
-use Rattle.liquid_meaning.specs.Reading.{Uses, all_of, bound_use, grants, grants_all, grants_atom, grants_atoms, grants_bindings, grants_compared, grants_condition, grants_filters, grants_values, use_beside}
+use Rattle.liquid_meaning.specs.Reading.{Uses, all_of, bound_use, grants, grants_all, grants_atom, grants_atoms, grants_bindings, grants_compared, grants_condition, grants_filters, grants_nodes, grants_values, grants_whens, use_beside}
 use Rattle.liquid_uses.specs.inside.OwnGrants.{arms_granted, held_grants, list_grants, own_grants, slots_grant}
 
 pub record IsEach {X : Type 0} (one : X → Bool) (all : List X → Bool) : Type 0 where
@@ -74,11 +75,11 @@ module _ (U : Uses) where
   each_value target = record { none = refl; more = λ x xs. refl }
 
   pub each_arm : (target : tree.Expression) → IsEach (λ (arm : Arm). grants_values U target (map expression_view arm.values.items)) (λ arms. arms_granted U target (arm_values arms))
-  unfolding arms_granted
+  unfolding grants_whens own_whens
   each_arm target = record { none = refl; more = λ arm arms. refl }
 
   pub each_node : IsEach (own_grants U) (list_grants U)
-  unfolding list_grants
+  unfolding grants_nodes own_nodes
   each_node = record { none = refl; more = λ n ns. refl }
 
   pub each_slot : IsEach (held_grants U) (slots_grant U)

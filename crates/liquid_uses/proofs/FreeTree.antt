@@ -8,13 +8,14 @@ use Rattle.liquid_core.specs.Expression.{Expression}
 use Rattle.liquid_core.specs.Environment.{Names}
 use Rattle.liquid_core.specs.ExpressionView.{expression_view}
 use Rattle.liquid_evaluation.specs.Tree as tree
-use Rattle.liquid_evaluation.specs.Names.{all_names, expression_names, mentioned}
+use Rattle.liquid_evaluation.specs.Names.{all_names, expression_names, mentioned, whens_names}
 use Rattle.liquid_meaning.specs.FreeNames.{PartialsRead, unbound, binds, node_reads, nodes_reads, whens_read}
 use Rattle.liquid_syntax.specs.Forest.{Forest, Bodies, empty, node, no_bodies, body}
 use Rattle.liquid_syntax.specs.Laid.{Flat, IsLaidOut, StandBodies, last_end}
 use Rattle.liquid_syntax.specs.Flats.{Maker, arm_values, flat_of, flats, nodes_of, bodies_of, with_arms, with_one}
 use Rattle.liquid_syntax.specs.Templates.{forest_of, template_nodes, tree_of}
 use Rattle.liquid_syntax.specs.inside.Mentions.{arms_names}
+use Rattle.liquid_syntax.specs.inside.OwnNodes.{own_whens}
 use Rattle.liquid_syntax.specs.inside.NameVisitors.{mentioned_both}
 use Rattle.liquid_syntax.specs.declared.template.Template.{Template}
 use Rattle.liquid_syntax.specs.declared.node.Node.{Node}
@@ -89,7 +90,7 @@ module _ (R : PartialsRead) (q : Text) where
   arms_split : (make : tree.Whens → tree.Nodes → tree.Node) (c : Bool)
       → ((ws : tree.Whens) (o : tree.Nodes) → T (node_reads R (make ws o) q) → T (c || (whens_read R ws q || nodes_reads R o q)))
       → (vss : List (List Expression)) (bs : List tree.Nodes) → T (node_reads R (with_arms make vss bs) q) → T (c || (mentioned (arms_names vss) q || any_reads R bs q))
-  unfolding arms_names node_reads
+  unfolding whens_names own_whens node_reads
   arms_split make c k [] [] h = absurd h
   arms_split make c k [] (o ∷ []) h = subst (λ b. T (c || b)) (last (nodes_reads R o q)) (k tree.no_whens o h)
     where

@@ -1,12 +1,13 @@
 //! Whether the uses of names grant what the nodes of a list ask for.
-ghost use Rattle.std.specs.Prelude.{◌≡◌, true, map, string_bytes};
+ghost use Rattle.std.specs.Prelude.{◌≡◌, ◌&&◌, true, map, string_bytes};
 ghost use Rattle.liquid_core.specs.ExpressionView.{expression_view};
-ghost use Rattle.liquid_syntax.specs.Flats.{bindings_view, each_view};
-ghost use Rattle.liquid_model.specs.Uses.{asks_whether};
+ghost use Rattle.liquid_syntax.specs.Flats.{arm_values, bindings_view, each_view};
+ghost use Rattle.liquid_model.specs.Uses.{asks_whether, there};
 ghost use Rattle.liquid_model.specs.UseViews.{uses_view};
-ghost use Rattle.liquid_meaning.specs.Reading.{is_flat};
-ghost use Rattle.liquid_uses.specs.inside.OwnGrants.{each_grants, for_grants, list_grants};
-ghost use Rattle.liquid_uses.specs.inside.OwnGrants.{own_grants, pairs_grants, row_grants};
+ghost use Rattle.liquid_meaning.specs.Reading.{grants, is_flat};
+ghost use Rattle.liquid_uses.specs.inside.OwnGrants.{arms_granted, each_grants, for_grants};
+ghost use Rattle.liquid_uses.specs.inside.OwnGrants.{list_grants, own_grants, pairs_grants};
+ghost use Rattle.liquid_uses.specs.inside.OwnGrants.{row_grants};
 
 use crate::comparisons::arms_granted;
 use crate::grants::{
@@ -15,7 +16,7 @@ use crate::grants::{
 };
 use crate::windows::seen_limit;
 use liquid_core::{Expression, Use, Uses, member_of};
-use liquid_syntax::{Binding, Each, For, Node, TableRow};
+use liquid_syntax::{Arm, Binding, Each, For, Node, TableRow};
 
 /// The nodes of a list, in all depths.
 pub(crate) fn nodes_granted(uses: &Uses, nodes: &[Node]) -> bool
@@ -30,6 +31,7 @@ pub(crate) fn nodes_granted(uses: &Uses, nodes: &[Node]) -> bool
 }
 
 /// A node itself, and not its bodies, which follow it in the list.
+#[tactic(auto, unfolding(liquid_meaning::specs::Reading::grants_node))]
 fn node_granted(uses: &Uses, node: &Node) -> bool
     ensures { result ≡ true → own_grants (uses_view uses.now) node.now ≡ true }
 {
@@ -41,7 +43,7 @@ fn node_granted(uses: &Uses, node: &Node) -> bool
         Node::Assign(name, chain) => assigned(uses, name.as_str(), chain),
         Node::If(condition, _) => condition_granted(uses, condition),
         Node::Unless(condition, _) => condition_granted(uses, condition),
-        Node::Case(target, arms, _) => present(uses, target) && arms_granted(uses, target, arms),
+        Node::Case(target, arms, _) => case_granted(uses, target, arms),
         Node::For(head, _) => for_granted(uses, head),
         Node::TableRow(head, _) => row_granted(uses, head),
         Node::Increment(name) => is_asked(uses, name.as_str()),
@@ -52,6 +54,15 @@ fn node_granted(uses: &Uses, node: &Node) -> bool
         Node::Render(name, pairs) => pairs_granted(uses, name, pairs),
         Node::RenderEach(name, each, pairs) => each_granted(uses, name, each, pairs),
     }
+}
+
+/// The target of a `case`, and the values of its `when` parts.
+fn case_granted(uses: &Uses, target: &Expression, arms: &[Arm]) -> bool
+    ensures { result ≡ true → (grants (uses_view uses.now) (expression_view target.now) there
+        && arms_granted (uses_view uses.now) (expression_view target.now) (arm_values arms.now)) ≡
+        true }
+{
+    present(uses, target) && arms_granted(uses, target, arms)
 }
 
 /// Whether it is asked if there is a value of that name.
@@ -80,7 +91,6 @@ fn is_whole_or_unasked(uses: &Uses, name: &str) -> bool
     }
 }
 
-#[tactic(auto, unfolding(crate::specs::inside::OwnGrants::for_grants))]
 fn for_granted(uses: &Uses, head: &For) -> bool
     ensures { result ≡ true → for_grants (uses_view uses.now) head.now ≡ true }
 {
@@ -94,7 +104,6 @@ fn for_granted(uses: &Uses, head: &For) -> bool
         && window_granted(uses, &head.window)
 }
 
-#[tactic(auto, unfolding(crate::specs::inside::OwnGrants::row_grants))]
 fn row_granted(uses: &Uses, head: &TableRow) -> bool
     ensures { result ≡ true → row_grants (uses_view uses.now) head.now ≡ true }
 {
@@ -108,7 +117,6 @@ fn row_granted(uses: &Uses, head: &TableRow) -> bool
 }
 
 /// The name of a partial, and pairs.
-#[tactic(auto, unfolding(crate::specs::inside::OwnGrants::pairs_grants))]
 fn pairs_granted(uses: &Uses, name: &Expression, pairs: &[Binding]) -> bool
     ensures { result ≡ true → pairs_grants (uses_view uses.now) (expression_view name.now)
         (bindings_view pairs.now) ≡ true }
@@ -117,7 +125,6 @@ fn pairs_granted(uses: &Uses, name: &Expression, pairs: &[Binding]) -> bool
 }
 
 /// The name of a partial, the `for` of a `render`, and pairs.
-#[tactic(auto, unfolding(crate::specs::inside::OwnGrants::each_grants))]
 fn each_granted(uses: &Uses, name: &Expression, each: &Each, pairs: &[Binding]) -> bool
     ensures { result ≡ true → each_grants (uses_view uses.now) (expression_view name.now)
         (each_view each.now) (bindings_view pairs.now) ≡ true }

@@ -8,7 +8,7 @@ use Rattle.liquid_model.specs.Texts.{Text}
 use Rattle.liquid_model.specs.View.{view, items_view}
 use Rattle.liquid_model.specs.declared.value.Value.{Value}
 use Rattle.liquid_yaml.specs.Bytes.{first_part_view, left_view, state_len}
-use Rattle.liquid_yaml.specs.Flows.{bare, first_flow_part, first_spot, flow_value, flow_with, flow_len, flow_parts, flow_parts_left, items_by, member_put, members_by, spot_after, stops_flow, with_item}
+use Rattle.liquid_yaml.specs.Flows.{trimmed_around, first_flow_part, first_spot, flow_value, flow_with, flow_len, flow_parts, flow_parts_left, flow_items_of, member_put, members_by, spot_after, stops_flow, with_item}
 use Rattle.liquid_yaml.specs.Lines.{SaidMember, member_of}
 use Rattle.liquid_yaml.specs.declared.flow_parts.Spot.{Spot}
 use Rattle.liquid_yaml.proofs.Items.{before, before_next, before_none, before_refused, none_with}
@@ -76,31 +76,31 @@ module _ (left : Option (Bor Text)) (text : Bor Text) (p : Cut) (is : left ≡ S
       omega (arith, small, same, big)
 
   module _ (value : Text → Option Datum) where
-    pub items_turn : (vs new : List Value) (v : Value) (whole : Option Items) → Some (view v) ≡ value (bare p.0.now) → new ≡ vs ++ v ∷ []
-        → before vs (items_by value (flow_parts_left (left_view left))) ≡ whole → before new (items_by value (flow_parts_left (left_view p.1))) ≡ whole
+    pub items_turn : (vs new : List Value) (v : Value) (whole : Option Items) → Some (view v) ≡ value (trimmed_around p.0.now) → new ≡ vs ++ v ∷ []
+        → before vs (flow_items_of value (flow_parts_left (left_view left))) ≡ whole → before new (flow_items_of value (flow_parts_left (left_view p.1))) ≡ whole
     items_turn vs new v whole entry push inv =
-        ap (λ ws. before ws (items_by value (flow_parts_left (left_view p.1)))) push
-        ∙ sym (before_next vs v (items_by value (flow_parts_left (left_view p.1))))
-        ∙ ap (λ d. before vs (with_item d (items_by value (flow_parts_left (left_view p.1))))) entry
-        ∙ ap (λ ps. before vs (items_by value ps)) (sym flow_cut_parts)
+        ap (λ ws. before ws (flow_items_of value (flow_parts_left (left_view p.1)))) push
+        ∙ sym (before_next vs v (flow_items_of value (flow_parts_left (left_view p.1))))
+        ∙ ap (λ d. before vs (with_item d (flow_items_of value (flow_parts_left (left_view p.1))))) entry
+        ∙ ap (λ ps. before vs (flow_items_of value ps)) (sym flow_cut_parts)
         ∙ inv
 
-    pub items_refused : (vs : List Value) (whole : Option Items) → None ≡ value (bare p.0.now) → before vs (items_by value (flow_parts_left (left_view left))) ≡ whole → None ≡ whole
+    pub items_refused : (vs : List Value) (whole : Option Items) → None ≡ value (trimmed_around p.0.now) → before vs (flow_items_of value (flow_parts_left (left_view left))) ≡ whole → None ≡ whole
     items_refused vs whole entry inv =
         sym (before_refused vs)
-        ∙ ap (before vs) (sym (none_with (items_by value (flow_parts_left (left_view p.1)))))
-        ∙ ap (λ d. before vs (with_item d (items_by value (flow_parts_left (left_view p.1))))) entry
-        ∙ ap (λ ps. before vs (items_by value ps)) (sym flow_cut_parts)
+        ∙ ap (before vs) (sym (none_with (flow_items_of value (flow_parts_left (left_view p.1)))))
+        ∙ ap (λ d. before vs (with_item d (flow_items_of value (flow_parts_left (left_view p.1))))) entry
+        ∙ ap (λ ps. before vs (flow_items_of value ps)) (sym flow_cut_parts)
         ∙ inv
 
-    pub members_turn : (ps qs : Pairs) (whole : Option Pairs) → member_put value ps (member_of true 0 (bare p.0.now)) ≡ Some qs
+    pub members_turn : (ps qs : Pairs) (whole : Option Pairs) → member_put value ps (member_of true 0 (trimmed_around p.0.now)) ≡ Some qs
         → members_by value ps (flow_parts_left (left_view left)) ≡ whole → members_by value qs (flow_parts_left (left_view p.1)) ≡ whole
     members_turn ps qs whole put inv =
         ap (λ o. option_and_then (λ rs. members_by value rs (flow_parts_left (left_view p.1))) o) (sym put)
         ∙ ap (members_by value ps) (sym flow_cut_parts)
         ∙ inv
 
-    pub members_refused : (ps : Pairs) (whole : Option Pairs) → member_put value ps (member_of true 0 (bare p.0.now)) ≡ None
+    pub members_refused : (ps : Pairs) (whole : Option Pairs) → member_put value ps (member_of true 0 (trimmed_around p.0.now)) ≡ None
         → members_by value ps (flow_parts_left (left_view left)) ≡ whole → None ≡ whole
     members_refused ps whole put inv =
         ap (λ o. option_and_then (λ rs. members_by value rs (flow_parts_left (left_view p.1))) o) (sym put)
@@ -119,8 +119,8 @@ flow_more d may_note s h =
     ap (λ n. flow_value n may_note s) one
 
 -- a member that is stored
-pub members_stored : (value : Text → Option Datum) (ps qs : Pairs) (s part key : Text) (m : SaidMember) (d : Datum) → s ≡ bare part → Some m ≡ member_of true 0 s → Some d ≡ value m.value → key ≡ m.key → qs ≡ put key d ps
-    → member_put value ps (member_of true 0 (bare part)) ≡ Some qs
+pub members_stored : (value : Text → Option Datum) (ps qs : Pairs) (s part key : Text) (m : SaidMember) (d : Datum) → s ≡ trimmed_around part → Some m ≡ member_of true 0 s → Some d ≡ value m.value → key ≡ m.key → qs ≡ put key d ps
+    → member_put value ps (member_of true 0 (trimmed_around part)) ≡ Some qs
 members_stored value ps qs s part key m d b e v k st =
     ap (λ t. member_put value ps (member_of true 0 t)) (sym b)
     ∙ ap (member_put value ps) (sym e)
@@ -128,19 +128,19 @@ members_stored value ps qs s part key m d b e v k st =
     ∙ ap (λ k. Some (put k d ps)) (sym k)
     ∙ ap Some (sym st)
 
-pub none_stored : (value : Text → Option Datum) (ps : Pairs) (s part : Text) (m : SaidMember) → s ≡ bare part → Some m ≡ member_of true 0 s → None ≡ value m.value
-    → member_put value ps (member_of true 0 (bare part)) ≡ None
+pub none_stored : (value : Text → Option Datum) (ps : Pairs) (s part : Text) (m : SaidMember) → s ≡ trimmed_around part → Some m ≡ member_of true 0 s → None ≡ value m.value
+    → member_put value ps (member_of true 0 (trimmed_around part)) ≡ None
 none_stored value ps s part m b e v =
     ap (λ t. member_put value ps (member_of true 0 t)) (sym b)
     ∙ ap (member_put value ps) (sym e)
     ∙ ap (option_map (λ d. put m.key d ps)) (sym v)
 
-pub no_member : (value : Text → Option Datum) (ps : Pairs) (s part : Text) → s ≡ bare part → None ≡ member_of true 0 s → member_put value ps (member_of true 0 (bare part)) ≡ None
+pub no_member : (value : Text → Option Datum) (ps : Pairs) (s part : Text) → s ≡ trimmed_around part → None ≡ member_of true 0 s → member_put value ps (member_of true 0 (trimmed_around part)) ≡ None
 no_member value ps s part b e = ap (λ t. member_put value ps (member_of true 0 t)) (sym b) ∙ ap (member_put value ps) (sym e)
 
 pub items_end : (value : Text → Option Datum) (vs : List Value) (left : Option (Bor Text)) (whole : Option Items) → left ≡ None
-    → before vs (items_by value (flow_parts_left (left_view left))) ≡ whole → Some (items_view vs) ≡ whole
-items_end value vs left whole e inv = sym (before_none vs) ∙ ap (λ o. before vs (items_by value (flow_parts_left (left_view o)))) (sym e) ∙ inv
+    → before vs (flow_items_of value (flow_parts_left (left_view left))) ≡ whole → Some (items_view vs) ≡ whole
+items_end value vs left whole e inv = sym (before_none vs) ∙ ap (λ o. before vs (flow_items_of value (flow_parts_left (left_view o)))) (sym e) ∙ inv
 
 pub members_end : (value : Text → Option Datum) (ps : Pairs) (left : Option (Bor Text)) (whole : Option Pairs) → left ≡ None
     → members_by value ps (flow_parts_left (left_view left)) ≡ whole → Some ps ≡ whole

@@ -115,8 +115,8 @@ abbrev pub flow_scalar_at : Text → Option Datum
 flow_scalar_at [] = None
 flow_scalar_at (b ∷ bs) = flow_scalar b bs
 
-abbrev pub bare : Text → Text
-bare s = end_trimmed (without_spaces s)
+abbrev pub trimmed_around : Text → Text
+trimmed_around s = end_trimmed (without_spaces s)
 
 -- ---- values
 
@@ -124,9 +124,9 @@ abbrev pub with_item : Option Datum → Option Items → Option Items
 with_item (Some d) (Some ds) = Some (item d ds)
 with_item _ _ = None
 
-abbrev pub items_by : (Text → Option Datum) → List Text → Option Items
-items_by value [] = Some no_items
-items_by value (s ∷ rest) = with_item (value (bare s)) (items_by value rest)
+abbrev pub flow_items_of : (Text → Option Datum) → List Text → Option Items
+flow_items_of value [] = Some no_items
+flow_items_of value (s ∷ rest) = with_item (value (trimmed_around s)) (flow_items_of value rest)
 
 abbrev pub member_put : (Text → Option Datum) → Pairs → Option SaidMember → Option Pairs
 member_put value ps None = None
@@ -135,7 +135,7 @@ member_put value ps (Some m) = option_map (λ d. put m.key d ps) (value m.value)
 abbrev pub members_by : (Text → Option Datum) → Pairs → List Text → Option Pairs
 members_by value ps [] = Some ps
 members_by value ps (s ∷ rest) = option_and_then (λ qs. members_by value qs rest)
-    (member_put value ps (member_of true 0 (bare s)))
+    (member_put value ps (member_of true 0 (trimmed_around s)))
 
 -- spaces alone have no parts
 abbrev pub text_with_parts : Text → Option Text
@@ -147,7 +147,7 @@ flow_parts_left (Some s) = flow_parts first_spot s
 
 -- nothing, or values with commas between them
 abbrev pub flow_items : (Text → Option Datum) → Text → Option Items
-flow_items value s = items_by value (flow_parts_left (text_with_parts s))
+flow_items value s = flow_items_of value (flow_parts_left (text_with_parts s))
 
 abbrev pub flow_members : (Text → Option Datum) → Text → Option Pairs
 flow_members value s = members_by value no_pairs (flow_parts_left (text_with_parts s))

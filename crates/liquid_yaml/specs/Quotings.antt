@@ -14,7 +14,7 @@ use Rattle.liquid_yaml.specs.declared.quoting.Escape.TheVariants.{Outside, Sign,
 use Rattle.liquid_yaml.specs.declared.quoting.Digits.{Digits as HexDigits}
 use Rattle.liquid_yaml.specs.declared.quoting.Shown.{Shown}
 
--- the byte b, before bs, begins an escape: in double quotes a `\`, in single ones a `'` before a `'`
+-- the byte b, before bs, begins an escape: in double quotes a `\`, in single ones a `'` before one
 abbrev pub begins_escape : ℕ → ℕ → Text → Bool
 begins_escape q b bs = cond (q == double_quote) (b == backslash) (b == q && begins_with_byte q bs)
 
@@ -51,8 +51,8 @@ named_escape c = cond (c == double_quote || (c == backslash || c == slash)) (sho
 abbrev pub escaped_as : ℕ → ℕ → Option Shown
 escaped_as q c = cond (q == double_quote) (named_escape c) (cond (c == q) (shown_as c) None)
 
-abbrev pub hex_digit : ℕ → Option ℕ
-hex_digit c = cond (nat_le 48 c && nat_le c 57) (Some (c - 48))
+abbrev pub escape_digit : ℕ → Option ℕ
+escape_digit c = cond (nat_le 48 c && nat_le c 57) (Some (c - 48))
     (cond (nat_le 97 c && nat_le c 102) (Some (c - 87))
     (cond (nat_le 65 c && nat_le c 70) (Some (c - 55)) None))
 
@@ -76,7 +76,7 @@ abbrev pub after_character : ℕ → Escape → ℕ → Option Shown
 after_character q Outside c =
     cond (c == escape_sign q) (shown_later Sign) (shown_as c)
 after_character q Sign c = escaped_as q c
-after_character q (Digits h) c = after_digit h (hex_digit c)
+after_character q (Digits h) c = after_digit h (escape_digit c)
 
 abbrev pub is_outside_escapes : Escape → Bool
 is_outside_escapes Outside = true

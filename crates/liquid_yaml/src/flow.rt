@@ -6,7 +6,7 @@ ghost use Rattle.liquid_model.specs.Data.{array, object, no_pairs};
 ghost use Rattle.liquid_model.specs.View.{view, items_view, pairs_view};
 ghost use Rattle.liquid_yaml.specs.Flows as spec;
 
-use crate::flow_parts::{bare, closed_flow, first_flow_part, opens_flow};
+use crate::flow_parts::{closed_flow, first_flow_part, opens_flow, trimmed_around};
 use crate::line::member_of;
 use crate::scan::without_spaces;
 use crate::value::{plain, quoted, scalar_of};
@@ -72,7 +72,7 @@ fn flow_list(alloc: Global, depth: usize, text: &str) -> Result<Option<Value>>
     let mut left = parts_of(text);
     while let Some(text) = left {
         let (part, rest) = first_flow_part(text);
-        match flow_value(alloc, depth, false, bare(part))? {
+        match flow_value(alloc, depth, false, trimmed_around(part))? {
             Some(value) => values.push(value)?,
             None => return Ok(None),
         }
@@ -91,7 +91,7 @@ fn flow_map(alloc: Global, depth: usize, text: &str) -> Result<Option<Value>>
     let mut left = parts_of(text);
     while let Some(text) = left {
         let (part, rest) = first_flow_part(text);
-        let Some(member) = member_of(true, 0, bare(part)) else {
+        let Some(member) = member_of(true, 0, trimmed_around(part)) else {
             return Ok(None);
         };
         match flow_value(alloc, depth, false, member.value)? {

@@ -214,8 +214,8 @@ pub(crate) fn closed_flow(may_note: bool, sign: u8, text: &str) -> Option<&str>
 }
 
 /// A text without spaces around it.
-pub(crate) fn bare(text: &str) -> &str
-    ensures { result.now ≡ spec.bare text.now }
+pub(crate) fn trimmed_around(text: &str) -> &str
+    ensures { result.now ≡ spec.trimmed_around text.now }
 {
     trimmed(without_spaces(text))
 }

@@ -119,7 +119,7 @@ impl Escape {
             Escape::Outside if letter == escape_sign(quote) => shown_later(Escape::Sign),
             Escape::Outside => shown_as(letter),
             Escape::Sign => escaped_as(quote, letter),
-            Escape::Digits(digits) => match hex_digit(letter) {
+            Escape::Digits(digits) => match escape_digit(letter) {
                 Some(digit) => digits.with(digit),
                 None => None,
             },
@@ -211,8 +211,8 @@ fn named_escape(letter: char) -> Option<Shown>
     }
 }
 
-fn hex_digit(letter: char) -> Option<u32>
-    ensures { result ≡ spec.hex_digit letter }
+fn escape_digit(letter: char) -> Option<u32>
+    ensures { result ≡ spec.escape_digit letter }
 {
     match letter {
         '0'..='9' => Some(letter as u32 - 48),

@@ -60,11 +60,18 @@ same('data that are read once', %w[1 3 1-2-3]) do
   data = made.data('n' => [1, 2, 3])
   ['{{ n[0] }}', '{{ n.last }}', "{{ n | join: '-' }}"].map { |source| made.parse(source).render!(data, bytes: 10) }
 end
-same('data for a template', ['2;', :unknown_variable]) do
+same('data for a template', ['2;', :other_paths]) do
   template = made.parse('{% for l in ls %}{{ l.n }};{% endfor %}')
   data = template.data('{"ls": [{"n": 2, "of": "Assam"}], "m": 7}')
   [template.render!(data), made.parse('{{ m }}').page(data).fault.kind]
 end
+same('keys of what is seen', [true, true, false, '2;']) do
+  template = made.parse('{% for l in ls %}{{ l.n }};{% endfor %}')
+  key = template.seen_key(ls: [{ n: 2, of: 'Assam' }], m: 7)
+  [key == template.seen_key('{"ls": [{"n": 2}]}'), key == template.seen_key(ls: [{ n: 2 }]), key == template.seen_key(ls: [{ n: 3 }]), template.render!(key)]
+end
+same('no key of Data', /\ATypeError: a key is of a Hash or of a text of JSON/) { made.parse('{{ m }}').seen_key(made.data(m: 1)) }
+same('no key of a fraction', /\ABikleinu::DataError: Float/) { template('{{ m }}').seen_key('{"m": 1.5}') }
 same('names', %w[a b c forloop]) { template('{{ a }}{% for c in b %}{% endfor %}').names }
 same('paths', ['a.b', 'c?']) { template('{{ a.b }}{% if c %}{% endif %}').paths }
 same('a SyntaxError', [:unknown_filter, 27, 2, 8, nil]) do

@@ -107,6 +107,26 @@ same('few for a call', /after 2 rounds/) { environment(count).parse(source).page
 late = Bikleinu::Environment.new(partials: { 'price' => '{{ cents | money }}' }).register_filter(Prices)
 same('in a partial', '2.50 EUR') { late.parse("{% render 'price', cents: 250 %}").render! }
 
+# The sets of filters that the library has itself, over what the data of each page say.
+shop = Bikleinu::Environment.new(filters: :shopify).filter('own') { |it| "#{it}!" }
+money = shop.parse('{{ 1999 | money | own }}')
+same('a shop', ['EUR 19.99!', '19.99 EUR!', '$ 19.99!']) do
+  [money.render!(shop: { money_format: 'EUR {{amount}}' }), money.render!('{"shop": {"money_format": "{{amount}} EUR"}}'), money.render!]
+end
+same('keys of shops', false) { money.seen_key(shop: { money_format: 'a' }) == money.seen_key(shop: { money_format: 'b' }) }
+rows = { 'xs' => [{ 'a' => 1 }, { 'a' => 2 }], 'site' => { 'url' => 'https://example.org', 'baseurl' => '/b' } }
+urls = Bikleinu::Environment.new(filters: 'jekyll').parse("{{ '/t' | absolute_url }} {{ xs | where_exp: 'x', 'x.a > 1' | size }}")
+same('a site of the data', 'https://example.org/b/t 1') { urls.render!(rows) }
+same('data for its template', 'https://example.org/b/t 1') { urls.render!(urls.data(JSON.generate(rows))) }
+same('decimals', '59.97&lt;') { Bikleinu::Environment.new(filters: :decimals, escape: true).parse("{{ p | decimal_times: 3 }}{{ '<' }}").render!(p: '19.99') }
+same('no such set', /\AArgumentError: filters: is :shop, and :decimals, :jekyll or :shopify is wanted/) { Bikleinu::Environment.new(filters: :shop) }
+
+# Escaping.
+safe = Bikleinu::Environment.new(escape: true, partials: { 'p' => '{{ a }}' })
+same('escaped', '&lt;<&lt;&lt;') { safe.parse("{{ a }}{{ a | raw }}{% cycle a %}{% include 'p' %}").render!(a: '<') }
+same('as it is', '<') { Bikleinu::Environment.new(escape: false).parse('{{ a }}').render!(a: '<') }
+same('no raw', /UnknownFilter/) { template('{{ a | raw }}') }
+
 # Jekyll's filters over a site, which the library answers, but for those of the caller's.
 urls = "{{ '/a b' | absolute_url }} {{ '/t' | relative_url }} {{ xs | where: 'a', 1 | jsonify }}"
 things = { 'xs' => [{ 'a' => 1 }, { 'a' => 2 }] }

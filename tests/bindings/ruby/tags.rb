@@ -54,6 +54,26 @@ same('a style', /\AArgumentError: style: is :words, and :items, :path or :text i
 same('no function', 'ArgumentError: the tag `x` has no function') { made.register_tag('x') }
 same('a class', 'TypeError: the tag `x` is a value of the class Class') { made.register_tag('x', Class.new) }
 same('a block without its text', /\AArgumentError: the tag `x` takes its input/) { made.register_block('x') { 'x' } }
+
+# Values that a function is given by keywords: nil where the data have nothing there, which is no fault.
+given_tags = Bikleinu::Environment.new.register_tag('about', given: { title: 'page.title', 'name' => 'site.author' }) do |*values, title:, name:|
+  "#{values} #{title} #{name.inspect}"
+end
+given_tags.register_block('frame', ->(body, word = '-', name:) { "#{name}#{word}#{body}" }, given: { name: 'site.name' })
+same('given values', '[] T nil|["x", 2] T nil|-b') do
+  given_tags.parse("{% about %}|{% about 'x', 2 %}|{% frame %}b{% endframe %}").render!('page' => { 'title' => 'T', 'text' => -> { raise 'not asked' } })
+end
+same('their paths', ['page.title', 'site.author', 'site.name']) { given_tags.parse('{% about %}{% frame %}{% endframe %}').paths }
+same('too many values', /FilterArguments/) { given_tags.parse('{% frame 1 2 %}{% endframe %}') }
+same('a keyword that nobody gives', /\AArgumentError: the tag `x`/) { given_tags.register_tag('x') { |title:| title } }
+same('no Hash', 'TypeError: given: is a Hash, not a value of the class String') { given_tags.register_tag('x', given: 'a') { 'x' } }
+same('two values', /\AArgumentError: the given value :a is one value/) { given_tags.register_tag('x', given: { a: 'b, c' }) { |a:| a } }
+same('a value that is none', :no_values) do
+  given_tags.register_tag('x', given: { a: 'b c' }) { |a:| a }
+rescue Bikleinu::Error => e
+  e.kind unless e.reason.empty?
+end
+
 code = '<figure class="highlight"><pre><code class="language-ruby" data-lang="ruby">&lt;1&gt;</code></pre></figure>'
 same("Jekyll's highlight", code) { template('{% highlight ruby %} <{{ n }}> {% endhighlight %}', jekyll: true).render!(n: 1) }
 same('none elsewhere', /UnknownTag/) { template('{% highlight ruby %}{% endhighlight %}') }

@@ -267,7 +267,11 @@ class Nodes:
         if not self.is_jekyll:
             return self.value(depth)
         markup = self.rng.choice(("about.md", "/about.md", "a.md", "_posts/2020-01-31-tea.md", "2020-01-31-tea", "a/2020-01-31-tea", "/a/2020-01-31-tea", "2020-01-31", "{{ x }}", ""))
-        return self.tag(self.rng.choice(("link", "post_url")), markup) if self.chance(0.7) else self.tag("feed_meta", *([markup] if self.chance(0.1) else []))
+        if self.chance(0.7):
+            return self.tag(self.rng.choice(("link", "post_url")), markup)
+        if self.chance(0.3):
+            return self.tag("seo", *(["title=false"] if self.chance(0.2) else []))
+        return self.tag("feed_meta", *([markup] if self.chance(0.1) else []))
 
 
 LEAVES = (

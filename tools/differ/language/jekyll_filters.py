@@ -267,6 +267,27 @@ def feed_meta(site, feed, title, name):
     return f'<link type="application/atom+xml" rel="alternate"{shown} />'
 
 
+def seo(_, *args):
+    """The last of the markup and the text that the tag is given."""
+    if not isinstance(args[-1], str):
+        raise Fault("InvalidArgument")
+    return args[-1]
+
+
+def converted(data, name):
+    """A filter that answers by the data's table of its name."""
+    tables = data.get("conversions")
+    table = tables.get(name) if isinstance(tables, dict) else None
+
+    def answer(value):
+        found = table.get(text_of(value)) if isinstance(table, dict) else None
+        if not isinstance(found, str):
+            raise Fault("InvalidInput")
+        return found
+
+    return answer
+
+
 def xml_escaped(text):
     return re.sub("[\"&'<>]", lambda found: XML[found[0]], text)
 
@@ -289,6 +310,9 @@ def filters_over(data):
         "link": (4, 4, lambda _, markup, *lists: link(site, markup, lists)),
         "post_url": (2, 2, lambda _, markup, *lists: post_url(site, markup, lists)),
         "feed_meta": (3, 3, lambda _, *parts: feed_meta(site, *parts)),
+        "seo": (1, 2, seo),
+        "markdownify": (0, 0, converted(data, "markdownify")),
+        "smartify": (0, 0, converted(data, "smartify")),
         **FILTERS,
     }
 

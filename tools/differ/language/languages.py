@@ -44,6 +44,7 @@ JEKYLL_TAGS = {
     "link": of_site("pages", "static_files", "documents"),
     "post_url": of_site("posts"),
     "feed_meta": of_site("feed", "title", "name"),
+    "seo": [Variable("seo_tag", [])],
 }
 
 
@@ -56,12 +57,15 @@ def language_with(tags, filters_over, path_tags=(), text_blocks=None, given=None
     return Language({**TAGS, **tags}, counts, functions, path_tags, True, text_blocks or {}, text_tags, given=given or {})
 
 
+JEKYLL_INCLUDES = {"include": jekyll_include, "include_relative": jekyll_include}
+
+
 STANDARD = Language(TAGS, counts_of(FILTERS), lambda data: STANDARD_FUNCTIONS)
 STANDARD_FUNCTIONS = functions_of(FILTERS)
 LANGUAGES = {
     None: STANDARD,
     "escaped": replace(STANDARD, escapes=True),
-    "jekyll": language_with({"include": jekyll_include}, jekyll_filters.filters_over, ("include",), {"highlight": "highlight"}, JEKYLL_TAGS),
+    "jekyll": language_with(JEKYLL_INCLUDES, jekyll_filters.filters_over, tuple(JEKYLL_INCLUDES), {"highlight": "highlight"}, JEKYLL_TAGS),
     "shopify": replace(
         language_with({}, shopify_filters.filters_over),
         text_blocks=shopify_blocks.TEXT_BLOCKS,

@@ -215,7 +215,7 @@ class Reader:
             word = WORD.match(self.source, self.at + 1) if self.source.startswith(".", self.at) else None
             if word:
                 self.at = word.end()
-                yield Literal(word[0])
+                yield Literal(word[0] + ("?" if self.skip("?") else ""))
             elif self.skip("["):
                 yield self.bracketed(depth + 1)
             else:

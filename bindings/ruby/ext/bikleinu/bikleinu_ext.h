@@ -51,6 +51,7 @@ void init_stack(void);
 
 /* calls.c */
 VALUE data_of(const char *json, size_t length, VALUE asked);
+VALUE key_of(const char *json, size_t length, VALUE paths);
 void init_calls(void);
 
 /* render.c */

@@ -268,11 +268,13 @@ static void put_value(writer *to, VALUE value, VALUE plan, const step *up) {
 typedef struct {
     writer to;
     VALUE value, plan;
+    VALUE paths; /* of a key, or nil for data */
 } encoding;
 
 static VALUE encode(VALUE given) {
     encoding *it = (encoding *)given;
     put_value(&it->to, it->value, it->plan, NULL);
+    if (!NIL_P(it->paths)) return key_of(it->to.at, it->to.length, it->paths);
     return data_of(it->to.at, it->to.length, Qnil);
 }
 
@@ -281,12 +283,18 @@ static VALUE free_text(VALUE given) {
     return Qnil;
 }
 
-/* Data of a value, as far as a plan asks for it, with an object that converts what JSON doesn't have. */
-static VALUE encoded(VALUE class, VALUE value, VALUE plan, VALUE converter) {
-    encoding it = {{NULL, 0, 0, converter, 0}, value, plan};
+/* What is made of a value, as far as a plan asks for it, with an object that converts what JSON doesn't have. */
+static VALUE made_of(VALUE value, VALUE plan, VALUE converter, VALUE paths) {
+    encoding it = {{NULL, 0, 0, converter, 0}, value, plan, paths};
     if (!NIL_P(plan)) Check_Type(plan, T_ARRAY);
-    return (void)class, rb_ensure(encode, (VALUE)&it, free_text, (VALUE)&it);
+    return rb_ensure(encode, (VALUE)&it, free_text, (VALUE)&it);
 }
+
+/* Data of such a value. */
+static VALUE encoded(VALUE class, VALUE value, VALUE plan, VALUE converter) { return (void)class, made_of(value, plan, converter, Qnil); }
+
+/* The key of what paths ask of such a value. */
+static VALUE encoded_key(VALUE self, VALUE value, VALUE plan, VALUE converter) { return made_of(value, plan, converter, self); }
 
 void init_encode(VALUE module) {
     refusal_class = rb_const_get(module, rb_intern("Refusal"));
@@ -296,6 +304,7 @@ void init_encode(VALUE module) {
     convert_id = rb_intern("convert");
     refuse_id = rb_intern("refuse");
     rb_define_singleton_method(handle_class, "encoded", encoded, 3);
+    rb_define_method(handle_class, "encoded_key", encoded_key, 3);
 }
 
 void Init_bikleinu_ext(void) {

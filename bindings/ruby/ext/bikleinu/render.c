@@ -25,13 +25,13 @@ static void render_once(void *given) {
     else it->number = bikleinu_render_with(template_, data, partials, it->depth, &it->limits, used(&it->uses[ANSWERS]), page);
 }
 
-/* Renders with as many levels as this stack has room for, and where that isn't enough, in a thread with a larger one: up to the levels
+/* Renders with as many levels as this stack has room for, if it has enough for a call that finds what a template asks of data, and where that isn't enough, in a thread with a larger one: up to the levels
  * that are allowed. */
 static void render_on_some_stack(void *given) {
     rendering *it = given;
     size_t room = it->left > BIKLEINU_REST_STACK ? (it->left - BIKLEINU_REST_STACK) / BIKLEINU_LEVEL_STACK : 0;
     it->number = BIKLEINU_TOO_MANY_LEVELS;
-    if (room) {
+    if (room && it->left >= BIKLEINU_CALL_STACK) {
         it->limits.levels = room < it->levels ? (uint32_t)room : it->levels;
         render_once(it);
     }

@@ -14,6 +14,14 @@ module Bikleinu
       Fault.check(Handle.encoded(map(data, conversions, plan), plan, conversions))
     end
 
+    # The key of what paths ask of a Hash or of a text of JSON.
+    def self.key(data, conversions, plan, paths)
+      return Fault.check(paths.seen_key(Text.utf8(data, 'JSON'))) if data.is_a?(String)
+      raise TypeError, 'a key is of a Hash or of a text of JSON, not of Data' if data.is_a?(Data)
+
+      Fault.check(paths.encoded_key(map(data, conversions, plan), plan, conversions))
+    end
+
     def self.of(handle)
       made = allocate
       made.instance_variable_set(:@handle, handle.lend)

@@ -8,17 +8,26 @@ module Bikleinu
   #   environment.parse("{{ 1999 | money }}, {% render 'end' %}").render
   #
   # partials: is a Hash of sources, the path of a folder, or an object that has read_template_file(name). filters: is a Hash of
-  # functions, or a module. missing: is :fault or :nil. jekyll: takes the include, the highlight and the sort of Jekyll, and drops the
-  # white space of blocks that write nothing. site: is the address and the base path of a site of Jekyll's, as
-  # ['https://example.org', '/blog']: the library then has Jekyll's own filters over it, but for those that filters: names. depth: says how many partials may stand in one another, levels: how many blocks and partials;
-  # bytes: and turns: bound a page, and rounds: how often it may ask its filters. decimals: :text makes texts of floats, and
-  # times: true, or an offset, of times and dates.
+  # functions, a module, or a set that the library has itself, :decimals, :jekyll or :shopify, with the language of that set; what its
+  # filters know of a site or a shop is what the data of each page have. missing: is :fault or :nil. escape: true escapes for HTML
+  # what outputs and cycle write, but not an output that ends with `| raw`. jekyll: takes the include, the highlight and the sort of
+  # Jekyll, and drops the white space of blocks that write nothing. site: is the address and the base path of a site of Jekyll's, as
+  # ['https://example.org', '/blog']: the library then has Jekyll's own filters over it, but for those that filters: names. depth:
+  # says how many partials may stand in one another, levels: how many blocks and partials; bytes: and turns: bound a page, and rounds:
+  # how often it may ask its filters. decimals: :text makes texts of floats, and times: true, or an offset, of times and dates.
   #
   # The partials are parsed with the first template, so they know the filters that were added until then.
   class Environment
     # How what stands after the name of a tag is read, by the numbers of the library for C.
     STYLES = { items: 0, path: 1, text: 2 }.freeze
-    private_constant :STYLES
+    # The sets of filters that the library has itself, by its numbers for C.
+    SETS = { decimals: 1, jekyll: 2, shopify: 3 }.freeze
+    # What such filters know of the data of a page, as a template that shows it.
+    KNOWN = {
+      jekyll: '{{ site.url }}{{ site.baseurl }}',
+      shopify: '{{ shop.money_format }}{{ shop.money_with_currency_format }}{{ collection.handle }}{{ current_tags }}'
+    }.freeze
+    private_constant :STYLES, :SETS, :KNOWN
 
     # The environment of templates that are parsed without one.
     def self.default
@@ -34,17 +43,22 @@ module Bikleinu
     end
     private_class_method :check_ractor
 
-    attr_reader :settings, :filters, :near_plans # :nodoc:
+    attr_reader :settings, :filters, :near_plans, :known # :nodoc:
 
     # A host is an object of the plugin for Jekyll, which says what is known of its documents and its sources.
-    def initialize(partials: nil, filters: nil, jekyll: false, site: nil, decimals: nil, times: nil, host: nil, **options)
+    def initialize(partials: nil, filters: nil, jekyll: false, site: nil, escape: false, decimals: nil, times: nil, host: nil, **options)
       @settings = Settings.new(Conversions.new(decimals, times, host ? host.documents : []), **options)
       @near_plans = NearPlans.new(self, host) if host
-      @jekyll = jekyll ? true : false
-      @language = Fault.check(Handle.language(@jekyll))
-      @filters = Filters.new(site_of(site))
+      set = set_of(filters)
+      @jekyll = jekyll || set == :jekyll ? true : false
+      @language = Fault.check(set ? Handle.set_language(SETS[set]) : Handle.language(@jekyll))
+      @known = Fault.check(@language.parse(KNOWN[set])).paths(nil).lend if KNOWN.key?(set)
+      @filters = Filters.new(site_of(site), set && SETS[set])
+      escape_html if escape
       @given = partials
       @lock = Monitor.new
+      return if set
+
       filters.is_a?(Module) ? register_filter(filters) : filters&.each { |name, function| filter(name, function) }
     end
 
@@ -63,16 +77,17 @@ module Bikleinu
     # filter, but without an input: `{% name a, b %}` writes what it returns for the values a and b.
     #
     # With style: :items there are commas between values, or none; with :path the first one is a path without quotes, and with :text
-    # all that stands there is one text, and no value where nothing does. A name is refused that is no word, that blocks have a use of
-    # (as else, and what begins with end), or that is a tag or a block of the language.
-    def register_tag(name, function = nil, style: :items, &block)
-      add_tag(:register_tag, name, function || block, style)
+    # all that stands there is one text, and no value where nothing does. given: is a Hash of values that the function gets too, as
+    # { title: 'page.title' }: its keyword title: is what the page's data have there, or nil. A name is refused that is no word, that
+    # blocks have a use of (as else, and what begins with end), or that is a tag or a block of the language.
+    def register_tag(name, function = nil, style: :items, given: nil, &block)
+      add_tag(:register_tag, name, function || block, style, given)
     end
 
     # Registers a block in the same way, which ends with `end` and its name. Its function gets the text of the body, and then the
     # values.
-    def register_block(name, function = nil, style: :items, &block)
-      add_tag(:register_block, name, function || block, style)
+    def register_block(name, function = nil, style: :items, given: nil, &block)
+      add_tag(:register_block, name, function || block, style, given)
     end
 
     # Makes filters of the public methods of a module.
@@ -121,6 +136,13 @@ module Bikleinu
 
     private
 
+    # The set that filters: names, or nil where it is none.
+    def set_of(filters)
+      return unless filters.is_a?(Symbol) || filters.is_a?(String)
+
+      SETS.key(SETS[filters.to_sym]) || raise(::ArgumentError, "filters: is #{filters.inspect}, and :decimals, :jekyll or :shopify is wanted")
+    end
+
     # The address and the base path of a site, whose filters the language then has.
     def site_of(site)
       return if site.nil?
@@ -132,6 +154,11 @@ module Bikleinu
       site.map { |text| Text.utf8(text, 'a part of site:').dup.freeze }.freeze
     end
 
+    def escape_html
+      number = @language.escape_html
+      raise Error.new('the language escapes nothing', number:) unless number.zero?
+    end
+
     def add(name, function)
       least, most = Filters.arity("the filter `#{name}`", function)
       number = @language.register(name, least, most)
@@ -140,22 +167,24 @@ module Bikleinu
       @filters.add(name, function)
     end
 
-    def add_tag(how, name, function, style)
+    def add_tag(how, name, function, style, given)
       name = name_of(name, 'tag')
       number = STYLES.fetch(style) { raise ::ArgumentError, "style: is #{style.inspect}, and :items, :path or :text is wanted" }
       what = "the tag `#{name}`"
       function = function_of(what, function)
+      given = GivenValues.new(given || {})
       has_input = how == :register_block
-      settle(name, how, number, Filters.arity(what, function, inputs: has_input ? 1 : 0))
-      @filters.add(Filters.of_tag(name), has_input ? function : ->(_input, *values) { function.call(*values) })
+      counts = Filters.arity(what, function, inputs: has_input ? 1 : 0, keys: given.keys)
+      settle(name, how, number, counts.map { |it| it + given.count }, given.text)
+      @filters.add(Filters.of_tag(name), given.passed_to(function, inputs: has_input ? 0 : 1))
       self
     end
 
-    # Registers a tag or a block in the language, with its filter.
-    def settle(name, how, style, counts)
+    # Registers a tag or a block in the language, with its filter and its given values.
+    def settle(name, how, style, counts, given)
       filter = Filters.of_tag(name)
       number = @language.register(filter, *counts)
-      number = @language.public_send(how, name, filter, style) if number.zero?
+      number = @language.public_send(how, name, filter, style, given) if number.zero?
       raise Error.new(Fault.refusal(number) || "the tag `#{name}` is not taken", number:) unless number.zero?
     end
 

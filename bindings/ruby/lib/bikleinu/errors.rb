@@ -10,7 +10,8 @@ module Bikleinu
     16 => :unsupported, 21 => :unclosed, 22 => :bad_item, 23 => :number_literal, 24 => :float_literal, 25 => :state_word,
     26 => :unknown_tag, 27 => :unknown_filter, 28 => :filter_arguments, 29 => :expected, 30 => :missing_end,
     31 => :too_nested, 101 => :no_text, 103 => :too_many_levels, 104 => :bytes_reached, 105 => :turns_reached,
-    106 => :rounds_reached, 110 => :no_word, 111 => :reserved_name, 112 => :taken_name
+    106 => :rounds_reached, 110 => :no_word, 111 => :reserved_name, 112 => :taken_name, 114 => :no_values,
+    116 => :other_paths
   }.freeze
 
   # Why there is no page, or why it ends early: its kind, where it stands, and what is said about it. In message all of that
@@ -97,13 +98,15 @@ module Bikleinu
     103 => 'blocks and partials could stand in one another deeper than levels: allows; allow fewer partials by depth:, ' \
            'or more by levels:',
     104 => 'the page is longer than bytes: allows',
-    105 => 'the page takes more turns than turns: allows'
+    105 => 'the page takes more turns than turns: allows',
+    116 => 'the data were read for another template, and this one uses more of them; read them for this one'
   }.freeze
   # Why a name is none of a tag.
   REFUSALS = {
     110 => "a tag's name is a word: a letter or `_`, then letters, digits, `_` and `-`",
     111 => 'blocks have a use of `else`, `elsif`, `when` and what begins with `end`, so no tag has such a name',
-    112 => 'the language has a tag or a block of this name; give yours another'
+    112 => 'the language has a tag or a block of this name; give yours another',
+    114 => "a given value is a value as it stands in a tag, as 'page.title'"
   }.freeze
   ORIGINS = { 1 => :template, 2 => :partial, 3 => :data }.freeze
   private_constant :ERRORS, :LIMITS, :REFUSALS, :ORIGINS

@@ -14,15 +14,17 @@ module Bikleinu
     # Answers of filters, each to one input and its arguments.
     Table = Struct.new(:handle, :version, :answers)
 
-    # A site is an address and a base path, over which the library itself answers Jekyll's filters.
-    def initialize(site = nil)
+    # A site is an address and a base path, over which the library itself answers Jekyll's filters; a set is the number of one that it
+    # answers over what the data of each page say.
+    def initialize(site = nil, set = nil)
       @site = site
+      @set = set
       @functions = {}
       @tables = []
     end
 
     def empty?
-      @functions.empty? && @site.nil?
+      @functions.empty? && @site.nil? && @set.nil?
     end
 
     # Adds a function, in place of the one of that name.
@@ -34,31 +36,42 @@ module Bikleinu
       @functions.fetch(name).call(*values)
     end
 
-    # Lends a table, which holds answers of the functions as they are now.
-    def lend_table
+    # Lends a table, which holds answers of the functions as they are now, for a page over data.
+    def lend_table(data = nil)
       functions = @functions
       table = @tables.pop
-      return table if table && table.version.equal?(functions) && table.answers < ANSWERS
-
-      table&.handle&.release
-      handle = Fault.check(Handle.answers)
-      handle.set_site(*@site) if @site
-      functions.each_key { |name| handle.add_filter(name) }
-      Table.new(handle, functions, 0)
+      unless table && table.version.equal?(functions) && table.answers < ANSWERS
+        table&.handle&.release
+        table = Table.new(Fault.check(Handle.answers), functions, 0)
+        functions.each_key { |name| table.handle.add_filter(name) }
+      end
+      settle(table.handle, data)
+      table
     end
 
     def give_back(table)
       @tables.push(table)
     end
 
+    # Lets a table answer the library's own filters.
+    def settle(handle, data)
+      if @set
+        empty = Data.read('{}', nil) if data.nil?
+        number = handle.use_set(@set, data || empty)
+        raise Error.new('the set of filters is not taken', number:) unless number.zero?
+      end
+      handle.set_site(*@site) if @site
+    end
+    private :settle
+
     # The name of the filter that a tag calls. It is no word, so no template calls it otherwise, and a fault shows the tag by it.
     def self.of_tag(name)
       "{% #{name} %}"
     end
 
-    # How many arguments a function takes, beside its input where it has one: at least, and at most.
-    def self.arity(what, function, inputs: 1)
-      parameters = parameters_of(function)
+    # How many arguments a function takes, beside its input where it has one and keywords that are given: at least, and at most.
+    def self.arity(what, function, inputs: 1, keys: [])
+      parameters = parameters_of(function).reject { |kind, name| kind == :keyreq && keys.include?(name) }
       required, optional = %i[req opt].map { |kind| parameters.count { |it, _| it == kind } }
       takes_any = parameters.any? { |kind, _| kind == :rest }
       if parameters.any? { |kind, _| kind == :keyreq } || (required + optional < inputs && !takes_any)
@@ -93,8 +106,8 @@ module Bikleinu
     end
 
     # The page by a block that renders with a table, when each call that it lacked is answered.
-    def page
-      table = @filters.lend_table
+    def page(data = nil)
+      table = @filters.lend_table(data)
       (0..@settings.rounds).each do |round|
         made = yield table.handle
         return explained(made) if made.number != LACKING

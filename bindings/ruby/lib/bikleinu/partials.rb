@@ -64,6 +64,12 @@ module Bikleinu
       [first, found]
     end
 
+    # The partials with those that a source and they name, as far as they can be read.
+    def reach(source)
+      load_all(static_names(source)) if @files
+      @state
+    end
+
     # Nil where a page that ended by a fault may be another one now, since the partial that it lacked was read, and else the fault.
     # What kept the partial from being read is the fault's cause; where the language refuses its source, that error is raised.
     def read_for(fault, source, round)

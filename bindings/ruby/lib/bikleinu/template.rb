@@ -3,8 +3,9 @@
 module Bikleinu
   # What a template shows: the text up to the fault, and the fault that the run ended by, or nil.
   class Page
-    TOO_MANY_LEVELS = 103
-    private_constant :TOO_MANY_LEVELS
+    # Runs that weren't begun: one that could reach too many levels, and one that asks more of data than was read of them.
+    NOT_BEGUN = [103, 116].freeze
+    private_constant :NOT_BEGUN
 
     attr_reader :text, :fault
 
@@ -16,7 +17,7 @@ module Bikleinu
 
     def self.of(made)
       fault = Fault.of(made) unless made.number.zero?
-      new(made.number == TOO_MANY_LEVELS ? '' : made.text(Fault::TEXT), fault)
+      new(NOT_BEGUN.include?(made.number) ? '' : made.text(Fault::TEXT), fault)
     ensure
       made.release
     end
@@ -101,14 +102,23 @@ module Bikleinu
 
     # What the template and its partials use of their data, as "products[].title".
     def paths
-      JSON.parse(found(@environment.partials.state)[1].text(Fault::TEXT))
+      texts_of(found(@environment.partials.reach(@source))[1])
+    end
+
+    # A key of what this template and its partials see of data, a Hash or a text of JSON: pages over data of one key are the same. So
+    # it, or a digest of it, is an ETag, or drops equal jobs of a queue.
+    def seen_key(data)
+      _, paths, plan = found(@environment.partials.reach(@source))
+      [paths, @environment.known].compact.map do |asked|
+        Data.key(data, @environment.settings.conversions, plan, asked).text(Fault::TEXT)
+      end.join("\n")
     end
 
     # Data of which no more is read than this template and its partials use.
     def data(data)
-      state = @environment.partials.state
-      _, paths, plan = found(state)
+      _, paths, plan = found(@environment.partials.reach(@source))
       conversions = @environment.settings.conversions
+      paths = nil if @environment.known
       Data.of(data.is_a?(String) ? Data.read(data, conversions, nil, paths) : Data.read(data, conversions, plan))
     end
 
@@ -128,7 +138,7 @@ module Bikleinu
       filters = @environment.filters
       return Page.of(@handle.render(ready, partials.handle, nil, settings.depth, settings.limits)) if filters.empty?
 
-      Run.new(filters, settings).page do |answers|
+      Run.new(filters, settings).page(ready) do |answers|
         @handle.render(ready, partials.handle, answers, settings.depth, settings.limits)
       end
     ensure
@@ -151,7 +161,12 @@ module Bikleinu
       return known if known && known[0].equal?(partials)
 
       paths = Fault.check(@handle.paths(partials.handle)).lend
-      @found = [partials, paths, plan(JSON.parse(paths.text(Fault::TEXT)), partials)].freeze
+      @found = [partials, paths, plan(texts_of(paths) | texts_of(@environment.known), partials)].freeze
+    end
+
+    # The paths behind a handle, or none.
+    def texts_of(paths)
+      paths ? JSON.parse(paths.text(Fault::TEXT)) : []
     end
 
     def plan(paths, partials)

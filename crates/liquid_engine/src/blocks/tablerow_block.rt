@@ -5,6 +5,7 @@ ghost use Rattle.liquid_core.specs.Loops.{is_last_column};
 ghost use Rattle.liquid_engine.specs.Performs.{WritesText};
 ghost use Rattle.liquid_engine.specs.Sinks.{sink_of};
 ghost use Rattle.liquid_meaning.specs.Loops.{cell_end, cell_start};
+ghost use Rattle.liquid_engine.specs.inside.Reserves.{limited_in, reserve_in};
 
 use crate::counted::CountedWrite;
 use crate::output::Output;
@@ -32,6 +33,8 @@ impl Row {
             (sink_of W.contents W.failure_count out.old)
             (sink_of W.contents W.failure_count out.new) }
         ensures same_writer { out.new.writer.ghost_name ≡ out.old.writer.ghost_name }
+        ensures bounded { reserve_in W.left out.new ≤ reserve_in W.left out.old }
+        ensures limited { limited_in W.left out.new ≡ limited_in W.left out.old }
     {
         self.open_row(alloc, place, out)?;
         let column = place % self.columns.count + 1;
@@ -52,6 +55,8 @@ impl Row {
             (sink_of W.contents W.failure_count out.old)
             (sink_of W.contents W.failure_count out.new) }
         ensures same_writer { out.new.writer.ghost_name ≡ out.old.writer.ghost_name }
+        ensures bounded { reserve_in W.left out.new ≤ reserve_in W.left out.old }
+        ensures limited { limited_in W.left out.new ≡ limited_in W.left out.old }
     {
         if place % self.columns.count == 0 {
             let row = place / self.columns.count + 1;
@@ -72,6 +77,8 @@ impl Row {
             (sink_of W.contents W.failure_count out.old)
             (sink_of W.contents W.failure_count out.new) }
         ensures same_writer { out.new.writer.ghost_name ≡ out.old.writer.ghost_name }
+        ensures bounded { reserve_in W.left out.new ≤ reserve_in W.left out.old }
+        ensures limited { limited_in W.left out.new ≡ limited_in W.left out.old }
     {
         out.push_text(alloc, "</td>")?;
         if self.ends_row(place) {

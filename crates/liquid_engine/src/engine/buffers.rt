@@ -1,5 +1,5 @@
 //! Runs of blocks whose body is written into a buffer: `capture`, `ifchanged` and a host's.
-ghost use Rattle.std.specs.Prelude.{◌≡◌, ◌+◌, map};
+ghost use Rattle.std.specs.Prelude.{◌≡◌, ◌≤◌, ◌+◌, map};
 ghost use Rattle.liquid_core.specs.States.{loops_of};
 ghost use Rattle.liquid_evaluation.specs.ChainView.{chain_filter_view};
 ghost use Rattle.liquid_evaluation.specs.Names.{node_names};
@@ -7,6 +7,7 @@ ghost use Rattle.liquid_evaluation.specs.Tree as tree;
 ghost use Rattle.liquid_syntax.specs.Flats.{Maker, IsForestAt, IsNodeRange, nodes_of};
 ghost use Rattle.liquid_syntax.specs.Forest.{Forest};
 ghost use Rattle.liquid_engine.specs.inside.Engine.{setting_of, node_in};
+ghost use Rattle.liquid_engine.specs.inside.Reserves.{limited_in, reserve_in};
 ghost use Rattle.liquid_engine.specs.StateKept.{Keeps};
 ghost use Rattle.liquid_engine.specs.Performs.{Performs, configuration_of};
 
@@ -39,6 +40,8 @@ pub(super) fn run_capture<'d, W: CountedWrite, H: NamedFilters>(
         (configuration_of W.contents W.failure_count out.old state.old)
         (configuration_of W.contents W.failure_count out.new state.new) }
     ensures same_writer { out.new.writer.ghost_name ≡ out.old.writer.ghost_name }
+    ensures bounded { reserve_in W.left out.new ≤ reserve_in W.left out.old }
+    ensures limited { limited_in W.left out.new ≡ limited_in W.left out.old }
     ensures kept { (b : Forest Maker) → IsForestAt nodes.now (at + 1) b end →
         Keeps (node_names (tree.capture name.now (nodes_of b))) (setting_of H.named context.now)
         state.old state.new }
@@ -70,6 +73,8 @@ pub(super) fn run_ifchanged<'d, W: CountedWrite, H: NamedFilters>(
         (configuration_of W.contents W.failure_count out.old state.old)
         (configuration_of W.contents W.failure_count out.new state.new) }
     ensures same_writer { out.new.writer.ghost_name ≡ out.old.writer.ghost_name }
+    ensures bounded { reserve_in W.left out.new ≤ reserve_in W.left out.old }
+    ensures limited { limited_in W.left out.new ≡ limited_in W.left out.old }
     ensures kept { (b : Forest Maker) → IsForestAt nodes.now (at + 1) b end →
         Keeps (node_names (tree.ifchanged (nodes_of b))) (setting_of H.named context.now) state.old
         state.new }
@@ -102,6 +107,8 @@ pub(super) fn run_filtered<'d, W: CountedWrite, H: NamedFilters>(
         (configuration_of W.contents W.failure_count out.old state.old)
         (configuration_of W.contents W.failure_count out.new state.new) }
     ensures same_writer { out.new.writer.ghost_name ≡ out.old.writer.ghost_name }
+    ensures bounded { reserve_in W.left out.new ≤ reserve_in W.left out.old }
+    ensures limited { limited_in W.left out.new ≡ limited_in W.left out.old }
     ensures kept { (b : Forest Maker) → IsForestAt nodes.now (at + 1) b end →
         Keeps (node_names (tree.filtered (map chain_filter_view filters.now) (nodes_of b)))
         (setting_of H.named context.now) state.old state.new }

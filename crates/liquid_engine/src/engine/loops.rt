@@ -1,5 +1,5 @@
 //! Runs of `for` and `tablerow`.
-ghost use Rattle.std.specs.Prelude.{◌≡◌, ◌+◌, List, option_map, string_bytes};
+ghost use Rattle.std.specs.Prelude.{◌≡◌, ◌≤◌, ◌+◌, List, option_map, string_bytes};
 ghost use Rattle.liquid_core.specs.ExpressionView.{expression_view};
 ghost use Rattle.liquid_core.specs.States.{loops_of};
 ghost use Rattle.liquid_core.specs.LoopFrames.{without_innermost};
@@ -15,6 +15,7 @@ ghost use Rattle.liquid_engine.specs.StateKept.{Keeps};
 ghost use Rattle.liquid_engine.specs.inside.LoopRuns.{KeepsEnclosing, StartsAt, cells_meant};
 ghost use Rattle.liquid_engine.specs.inside.LoopRuns.{enclosing_configuration, enclosing_names};
 ghost use Rattle.liquid_engine.specs.inside.LoopRuns.{turns_meant};
+ghost use Rattle.liquid_engine.specs.inside.Reserves.{limited_in, reserve_in};
 ghost use Rattle.liquid_engine.specs.Performs.{Performs, configuration_of};
 
 use super::run_range;
@@ -50,6 +51,8 @@ pub(super) fn run_for<'d, W: CountedWrite, H: NamedFilters>(
         (configuration_of W.contents W.failure_count out.old state.old)
         (configuration_of W.contents W.failure_count out.new state.new) }
     ensures same_writer { out.new.writer.ghost_name ≡ out.old.writer.ghost_name }
+    ensures bounded { reserve_in W.left out.new ≤ reserve_in W.left out.old }
+    ensures limited { limited_in W.left out.new ≡ limited_in W.left out.old }
     ensures kept { (b d : Forest Maker) → IsForestAt nodes.now (at + 1) b bodies.first_end →
         IsForestAt nodes.now bodies.first_end d bodies.last_end →
         Keeps (node_names (tree.for_each (string_bytes head.now.variable)
@@ -106,6 +109,8 @@ fn run_turns<'d, W: CountedWrite, H: NamedFilters>(
         (enclosing_configuration W.contents W.failure_count out.old state.old)
         (enclosing_configuration W.contents W.failure_count out.new state.new) }
     ensures same_writer { out.new.writer.ghost_name ≡ out.old.writer.ghost_name }
+    ensures bounded { reserve_in W.left out.new ≤ reserve_in W.left out.old }
+    ensures limited { limited_in W.left out.new ≡ limited_in W.left out.old }
     ensures kept { (f : Forest Maker) → IsForestAt nodes.now from f to →
         KeepsEnclosing (nodes_names (nodes_of f)) (setting_of H.named context.now) state.old
         state.new }
@@ -147,6 +152,8 @@ pub(super) fn run_tablerow<'d, W: CountedWrite, H: NamedFilters>(
         (configuration_of W.contents W.failure_count out.old state.old)
         (configuration_of W.contents W.failure_count out.new state.new) }
     ensures same_writer { out.new.writer.ghost_name ≡ out.old.writer.ghost_name }
+    ensures bounded { reserve_in W.left out.new ≤ reserve_in W.left out.old }
+    ensures limited { limited_in W.left out.new ≡ limited_in W.left out.old }
     ensures kept { (b : Forest Maker) → IsForestAt nodes.now (at + 1) b end →
         Keeps (node_names (tree.tablerow (string_bytes head.now.variable)
         (source_view head.now.source) (window_view head.now.window)
@@ -190,6 +197,8 @@ fn run_cells<'d, W: CountedWrite, H: NamedFilters>(
         (enclosing_configuration W.contents W.failure_count out.old state.old)
         (enclosing_configuration W.contents W.failure_count out.new state.new) }
     ensures same_writer { out.new.writer.ghost_name ≡ out.old.writer.ghost_name }
+    ensures bounded { reserve_in W.left out.new ≤ reserve_in W.left out.old }
+    ensures limited { limited_in W.left out.new ≡ limited_in W.left out.old }
     ensures kept { (f : Forest Maker) → IsForestAt nodes.now from f to →
         KeepsEnclosing (nodes_names (nodes_of f)) (setting_of H.named context.now) state.old
         state.new }

@@ -5,6 +5,7 @@ ghost use Rattle.liquid_syntax.specs.Flats.{bindings_view, each_view};
 ghost use Rattle.liquid_evaluation.specs.Tree as tree;
 ghost use Rattle.liquid_engine.specs.inside.Engine.{setting_of, node_in};
 ghost use Rattle.liquid_engine.specs.inside.Partials.{item_scope};
+ghost use Rattle.liquid_engine.specs.inside.Reserves.{limited_in, reserve_in};
 ghost use Rattle.liquid_engine.specs.Performs.{Meets, Performs, configuration_of};
 ghost use Rattle.liquid_meaning.specs.Meaning.{deeper_meaning, render_apart};
 
@@ -37,6 +38,8 @@ pub(super) fn run_render<'d, W: CountedWrite, H: NamedFilters>(
         (configuration_of W.contents W.failure_count out.old state.now)
         (configuration_of W.contents W.failure_count out.new state.now) }
     ensures same_writer { out.new.writer.ghost_name ≡ out.old.writer.ghost_name }
+    ensures bounded { reserve_in W.left out.new ≤ reserve_in W.left out.old }
+    ensures limited { limited_in W.left out.new ≡ limited_in W.left out.old }
 {
     let (called, apart) = enter_render(alloc, context, name, bindings, state)?;
     let inner = apart.inner;
@@ -66,6 +69,8 @@ pub(super) fn run_render_each<'d, W: CountedWrite, H: NamedFilters>(
         (configuration_of W.contents W.failure_count out.old state.now)
         (configuration_of W.contents W.failure_count out.new state.now) }
     ensures same_writer { out.new.writer.ghost_name ≡ out.old.writer.ghost_name }
+    ensures bounded { reserve_in W.left out.new ≤ reserve_in W.left out.old }
+    ensures limited { limited_in W.left out.new ≡ limited_in W.left out.old }
 {
     let called = partial_name(alloc, name, state)?;
     let source = each.source.items(alloc, state)?;
@@ -120,6 +125,8 @@ fn run_item<'d, W: CountedWrite, H: NamedFilters>(
         (configuration_of W.contents W.failure_count out.old state.now)
         (configuration_of W.contents W.failure_count out.new state.now) }
     ensures same_writer { out.new.writer.ghost_name ≡ out.old.writer.ghost_name }
+    ensures bounded { reserve_in W.left out.new ≤ reserve_in W.left out.old }
+    ensures limited { limited_in W.left out.new ≡ limited_in W.left out.old }
 {
     out.turns(alloc, bindings.len() as u64)?;
     let apart = enter_render_item(alloc, context, name, bindings, item, state)?;

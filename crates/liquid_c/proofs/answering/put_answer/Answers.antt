@@ -12,4 +12,6 @@ returns-in-Ok-put c said fits =
     let put : IsAnswerStored c.args.table.now (view c.in-Ok.call) c.in-Some.answer c.put.new.self = search rules in
     let names : filter_names c.put.new.self ≡ filter_names c.args.table.now = search rules in
     let site : site_of c.put.new.self ≡ site_of c.args.table.now = search rules in
-    done refl (c.in-Some.answer, given, subst (λ d. IsAnswerStored c.args.table.now d c.in-Some.answer c.put.new.self) same put, names, site)
+    let shop : c.put.new.self.shop ≡ c.args.table.now.shop = search rules in
+    let decimals : c.put.new.self.has_decimals ≡ c.args.table.now.has_decimals = search rules in
+    done refl (c.in-Some.answer, given, subst (λ d. IsAnswerStored c.args.table.now d c.in-Some.answer c.put.new.self) same put, names, (site, shop, decimals))

@@ -14,6 +14,7 @@ use Rattle.liquid_engine.specs.Performs.{configuration_of}
 use Rattle.liquid_engine.specs.inside.ChainBytes.{through_bytes}
 use Rattle.liquid_engine.proofs.ChainBytes.{chain_taken}
 use Rattle.liquid_engine.proofs.Joined.{evaluated_as, no_value_met}
+use Rattle.liquid_engine.proofs.Reserves.{no_less}
 use Rattle.liquid_engine.proofs.chain_within.chain_within.Goals as goal
 
 pub returns-in_err-entry-clause-value : goal.returns-in_err-entry-clause-value
@@ -42,3 +43,9 @@ returns-clause-takes g c =
     let d = cow_view c.in_ok-entry.entry in
     chain_taken c.filters_within.result answers (chain_view c.args.chain.now) e d _ _ c.in_ok-entry.ensures.value
     (subst (λ (xs : List ChainFilter). OnOk c.filters_within.result (TakesBytes (through_bytes answers (map chain_filter_view xs) d e) (g.W.CountedWrite.left c.args.out.now.writer.now) (g.W.CountedWrite.left c.filters_within.new.out.writer.now))) c.deref.ensures.value c.filters_within.ensures.takes)
+
+pub returns-in_err-entry-clause-bounded : goal.returns-in_err-entry-clause-bounded
+returns-in_err-entry-clause-bounded g c = no_less
+
+pub returns-clause-bounded : goal.returns-clause-bounded
+returns-clause-bounded g c = c.filters_within.ensures.bounded

@@ -12,6 +12,7 @@ use Rattle.liquid_engine.specs.Performs.{configuration_of}
 use Rattle.liquid_engine.proofs.ChainBytes.{taken_all, taken_more, taken_none}
 use Rattle.liquid_engine.proofs.Joined.{no_value_met, value_met}
 use Rattle.liquid_engine.proofs.Turns.{may_not_meet, meets_from}
+use Rattle.liquid_engine.proofs.Reserves.{less_then, no_less}
 use Rattle.liquid_engine.proofs.chain_within.filters_within.Goals as goal
 
 pub loop-stored-init : goal.loop-stored-init
@@ -23,6 +24,8 @@ loop-stored-init g c =
       same_sink = refl;
       taken = taken_none answers chain_filter_view e c.args.filters.now (cow_view c.args.value) _;
       same_writer = refl;
+      bounded = no_less;
+      limited = refl;
     }
 
 pub returns-in_err-room_ahead-clause-value : goal.returns-in_err-room_ahead-clause-value
@@ -73,6 +76,8 @@ loop-stored-preserved g c =
       taken = taken_more _ (answers_in e.missing answers) chain_filter_view e c.args.filters.now c.loop-stored.stored-index c.stored-item.result d a _ _ _ _
           c.loop-stored-test.true c.stored-item.is is c.in_ok-room_ahead.ensures.kept c.in_ok-take_value.ensures.takes c.loop-stored.invariant.taken;
       same_writer = search rules;
+      bounded = less_then c.take_value.ensures.bounded (less_then c.room_ahead.ensures.bounded c.loop-stored.invariant.bounded);
+      limited = search rules;
     }
 
 pub returns-clause-value : goal.returns-clause-value
@@ -91,3 +96,15 @@ returns-clause-takes g c =
     let e = environment_of c.args.state.now in
     let answers = answers_in e.missing (answers_with (g.H.NamedFilters.named c.args.host.now)) in
     taken_all _ answers chain_filter_view e c.args.filters.now c.loop-stored.stored-index (cow_view c.loop-stored.value) _ _ c.loop-stored-test.false c.loop-stored.invariant.taken
+
+pub returns-in_err-room_ahead-clause-bounded : goal.returns-in_err-room_ahead-clause-bounded
+returns-in_err-room_ahead-clause-bounded g c = less_then c.room_ahead.ensures.bounded c.loop-stored.invariant.bounded
+
+pub returns-in_err-next-clause-bounded : goal.returns-in_err-next-clause-bounded
+returns-in_err-next-clause-bounded g c = less_then c.room_ahead.ensures.bounded c.loop-stored.invariant.bounded
+
+pub returns-in_err-take_value-clause-bounded : goal.returns-in_err-take_value-clause-bounded
+returns-in_err-take_value-clause-bounded g c = less_then c.take_value.ensures.bounded (less_then c.room_ahead.ensures.bounded c.loop-stored.invariant.bounded)
+
+pub returns-clause-bounded : goal.returns-clause-bounded
+returns-clause-bounded g c = c.loop-stored.invariant.bounded

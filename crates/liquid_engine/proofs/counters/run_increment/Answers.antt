@@ -9,6 +9,7 @@ use Rattle.liquid_engine.specs.Performs.{Performs, configuration_of}
 use Rattle.liquid_engine.proofs.Counting.{counts, counts_too_far}
 use Rattle.liquid_engine.proofs.Joined.{by_rule}
 use Rattle.liquid_meaning.proofs.Rules.{increment_rule}
+use Rattle.liquid_engine.proofs.Reserves.{no_less}
 use Rattle.liquid_engine.proofs.counters.run_increment.Goals as goal
 
 pub returns-in_err-more-clause-performs : goal.returns-in_err-more-clause-performs
@@ -37,3 +38,9 @@ returns-clause-performs g c =
 pub returns-clause-kept : goal.returns-clause-kept
 unfolding node_names
 returns-clause-kept g c N within inside = c.show_and_store.ensures.kept N within.0
+
+pub returns-in_err-more-clause-bounded : goal.returns-in_err-more-clause-bounded
+returns-in_err-more-clause-bounded g c = no_less
+
+pub returns-clause-bounded : goal.returns-clause-bounded
+returns-clause-bounded g c = c.show_and_store.ensures.bounded

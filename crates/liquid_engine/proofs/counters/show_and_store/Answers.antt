@@ -55,3 +55,12 @@ returns-clause-kept g c N inside =
     let stored : IsValueOrMemory (λ _. layers_of c.set_index.new.self) c.set_index.result (with_counter c.args.name.now (number c.args.stored) old) =
     subst (λ n. IsValueOrMemory (λ _. layers_of c.set_index.new.self) c.set_index.result (with_counter n (number c.args.stored) old)) c.in_ok-from_str.ensures.ok seen in
     kept_counter N c.args.name.now (number c.args.stored) old (layers_of c.set_index.new.self) c.set_index.result inside stored c.set_index.ensures.unchanged
+
+pub returns-in_err-push_number-clause-bounded : goal.returns-in_err-push_number-clause-bounded
+returns-in_err-push_number-clause-bounded g c = c.push_number.ensures.bounded
+
+pub returns-in_err-from_str-clause-bounded : goal.returns-in_err-from_str-clause-bounded
+returns-in_err-from_str-clause-bounded g c = c.push_number.ensures.bounded
+
+pub returns-clause-bounded : goal.returns-clause-bounded
+returns-clause-bounded g c = c.push_number.ensures.bounded

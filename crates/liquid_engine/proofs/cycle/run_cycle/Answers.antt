@@ -16,6 +16,7 @@ use Rattle.liquid_engine.proofs.Pieces.{writes_as}
 use Rattle.liquid_meaning.specs.Effects.{cycle_index, cycled_to}
 use Rattle.liquid_meaning.specs.Runs.{write}
 use Rattle.liquid_meaning.proofs.Rules.{cycle_rule}
+use Rattle.liquid_engine.proofs.Reserves.{no_less}
 use Rattle.liquid_engine.proofs.cycle.run_cycle.Goals as goal
 
 pub returns-then-is_empty-clause-performs : goal.returns-then-is_empty-clause-performs
@@ -83,3 +84,18 @@ returns-in-None-clause-performs g c =
     let past = seen_past expression_view xs i c.in-None.ensures.lookup.3 in
     by_rule (cycle_rule _ _ c.args.group.now values) (cycle_met c.args.group.now values (Err c.out_of_bounds-in-None.result) i (sink c.args.out.now) (sink c.args.out.now) e (environment_of c.move_on.new.state) (environment_of c.move_on.new.state) some c.in_ok-index.ensures.index moved
     (none_there (slice_get values i) c.out_of_bounds-in-None.result (place c.args.out.now c.move_on.new.state) past c.out_of_bounds-in-None.ensures))
+
+pub returns-then-is_empty-clause-bounded : goal.returns-then-is_empty-clause-bounded
+returns-then-is_empty-clause-bounded g c = no_less
+
+pub returns-in_err-index-clause-bounded : goal.returns-in_err-index-clause-bounded
+returns-in_err-index-clause-bounded g c = no_less
+
+pub returns-in_err-value-in-Some-clause-bounded : goal.returns-in_err-value-in-Some-clause-bounded
+returns-in_err-value-in-Some-clause-bounded g c = no_less
+
+pub returns-in_ok-value-in-Some-clause-bounded : goal.returns-in_ok-value-in-Some-clause-bounded
+returns-in_ok-value-in-Some-clause-bounded g c = c.push_value.ensures.bounded
+
+pub returns-in-None-clause-bounded : goal.returns-in-None-clause-bounded
+returns-in-None-clause-bounded g c = no_less

@@ -67,6 +67,7 @@ use Rattle.liquid_meaning.specs.Loops.{cell_end}
 use Rattle.liquid_engine.proofs.Turns.{may_not_begin, may_not_meet, meets_from, no_nodes_met}
 use Rattle.liquid_engine.proofs.Turning.{TurnsLead, CellsLead, enclosing_after_advance, at_goes_on, at_kept, at_next, at_off, at_pushed, at_start, cell_fault, cell_faulted, cell_on, cell_ran, cell_unopened, cells_end, cells_start, for_within, from_enclosing, row_within, kept_cell, kept_from_enclosing, kept_turn, turn_break, turn_fault, turn_faulted, turn_on, turn_ran, turns_end, turns_start}
 use Rattle.liquid_engine.proofs.LoopMeanings.{for_none, for_refused, for_some, row_none, row_refused, row_some}
+use Rattle.liquid_engine.proofs.Reserves.{around_bounded, around_limited, less_then, no_less}
 use Rattle.liquid_engine.proofs.engine.+run.Goals as goal
 
 -- ---- a list without nodes
@@ -176,6 +177,8 @@ run_range-loop-at-preserved-in-Text g t c =
           (subst (λ x. Performs (Ok c.in_ok-run_text.field-0) (node_meant (setting_of g.H.NamedFilters.named c.args.context.now) c.args.context.now.depth (tree.plain x)) (place c.loop-at.out c.loop-at.state) (place c.run_text.new.out c.run_text.new.state)) c.as_str.ensures.value c.in_ok-run_text.ensures.performs)) ∙ c.loop-at.invariant.quiet;
       loops = c.run_text.ensures.loops ∙ c.loop-at.invariant.loops;
       same_writer = c.run_text.ensures.same_writer ∙ c.loop-at.invariant.same_writer;
+      bounded = less_then c.run_text.ensures.bounded c.loop-at.invariant.bounded;
+      limited = c.run_text.ensures.limited ∙ c.loop-at.invariant.limited;
     }
 
 -- ---- the turns of another node
@@ -266,6 +269,8 @@ run_range-loop-at-preserved g t c =
           (node_from (setting_of g.H.NamedFilters.named c.args.context.now) c.args.context.now.depth c.args.nodes.now c.loop-at.at _ _ _ (environment_of c.loop-at.state) _ c.in_ok-turns.ensures.goes_on c.in_default-run_node.ensures.performs) ∙ c.loop-at.invariant.quiet;
       loops = c.run_node.ensures.loops ∙ c.loop-at.invariant.loops;
       same_writer = c.run_node.ensures.same_writer ∙ c.grant_node.ensures.same_writer ∙ c.loop-at.invariant.same_writer;
+      bounded = less_then c.run_node.ensures.bounded (less_then c.grant_node.ensures.bounded c.loop-at.invariant.bounded);
+      limited = c.run_node.ensures.limited ∙ c.grant_node.ensures.limited ∙ c.loop-at.invariant.limited;
     }
 
 pub run_range-returns-clause-performs : goal.run_range-returns-clause-performs
@@ -767,6 +772,8 @@ renders::run_render_each-loop-at-preserved g t c =
       leads = item_on (run source.count) ds c.loop-at.at c.in_ok-left.left start here there lt (sym c.ends_items.ensures ∙ c.if-ends_items.false)
           (subst (λ x. Meets (λ (i : Option Interrupt). i) (Ok c.in_ok-left.left) (render_apart (setting_of g.H.NamedFilters.named c.args.context.now) (deeper_meaning (setting_of g.H.NamedFilters.named c.args.context.now) c.args.context.now.depth) x (bindings_view c.args.bindings.now) (over (get_or ds c.loop-at.at nil))) here there) c.as_str.ensures.value ((subst (λ d. Meets (λ (i : Option Interrupt). i) (Ok c.in_ok-left.left) (render_apart (setting_of g.H.NamedFilters.named c.args.context.now) (deeper_meaning (setting_of g.H.NamedFilters.named c.args.context.now) c.args.context.now.depth) c.as_str.result.now (bindings_view c.args.bindings.now) (over d)) here there) is c.in_ok-left.ensures.performs))) c.loop-at.invariant.leads;
       same_writer = c.run_item.ensures.same_writer ∙ c.loop-at.invariant.same_writer;
+      bounded = less_then c.run_item.ensures.bounded c.loop-at.invariant.bounded;
+      limited = c.run_item.ensures.limited ∙ c.loop-at.invariant.limited;
     }
 
 pub renders::run_render_each-returns-clause-performs : goal.renders::run_render_each-returns-clause-performs
@@ -1101,6 +1108,8 @@ loops::run_turns-turns-preserved g t c =
       scopes = ap (λ l. l.scopes) (advanced before0 u0 starts0) ∙ ap (λ l. enclosing_scopes l.scopes) c.takes_break.ensures.cleared ∙ ap enclosing_scopes all.scopes ∙ c.turns.invariant.scopes;
       kept = λ f stood N names inside. subst (λ l. LayersKept N (with_scope_popped (layers_of c.args.state.now)) l) (sym (advanced before0 u0 starts0)) (kept_turn N (layers_of c.args.state.now) (layers_of c.turns.state) (layers_of c.run_range.new.state) (layers_of c.takes_break.new.state) (c.turns.invariant.kept f stood N names inside) (c.run_range.ensures.kept f stood N names inside) c.takes_break.ensures.cleared);
       same_writer = c.run_range.ensures.same_writer ∙ c.turns.invariant.same_writer;
+      bounded = less_then c.run_range.ensures.bounded c.turns.invariant.bounded;
+      limited = c.run_range.ensures.limited ∙ c.turns.invariant.limited;
     }
 
 pub loops::run_turns-turns-init : goal.loops::run_turns-turns-init
@@ -1114,6 +1123,8 @@ loops::run_turns-turns-init g t c =
       scopes = refl;
       kept = λ f stood N names inside. kept_same N _ _ refl;
       same_writer = refl;
+      bounded = no_less;
+      limited = refl;
     }
 
 pub loops::run_cells-run_range-requires : goal.loops::run_cells-run_range-requires
@@ -1243,6 +1254,8 @@ loops::run_cells-cells-preserved g t c =
       scopes = ap (λ l. l.scopes) (advanced before0 u0 starts0) ∙ ap enclosing_scopes all.scopes ∙ c.cells.invariant.scopes;
       kept = λ f stood N names inside. subst (λ l. LayersKept N (with_scope_popped (layers_of c.args.state.now)) l) (sym (advanced before0 u0 starts0)) (kept_cell N (layers_of c.args.state.now) (layers_of c.cells.state) (layers_of c.run_range.new.state) (c.cells.invariant.kept f stood N names inside) (c.run_range.ensures.kept f stood N names inside));
       same_writer = c.close.ensures.same_writer ∙ c.run_range.ensures.same_writer ∙ c.open.ensures.same_writer ∙ c.cells.invariant.same_writer;
+      bounded = less_then c.close.ensures.bounded (less_then c.run_range.ensures.bounded (less_then c.open.ensures.bounded c.cells.invariant.bounded));
+      limited = c.close.ensures.limited ∙ c.run_range.ensures.limited ∙ c.open.ensures.limited ∙ c.cells.invariant.limited;
     }
 
 pub loops::run_cells-cells-init : goal.loops::run_cells-cells-init
@@ -1256,6 +1269,8 @@ loops::run_cells-cells-init g t c =
       scopes = refl;
       kept = λ f stood N names inside. kept_same N _ _ refl;
       same_writer = refl;
+      bounded = no_less;
+      limited = refl;
     }
 
 pub loops::run_for-overflow_add-at : goal.loops::run_for-overflow_add-at
@@ -1576,3 +1591,227 @@ run_range-returns-then-is_some-2-clause-silent g t c f stood are = inl refl
 
 pub run_range-returns-clause-silent : goal.run_range-returns-clause-silent
 run_range-returns-clause-silent g t c f stood are = inl refl
+
+-- ---- what limits leave
+
+pub run_range-returns-then-from-to-clause-bounded : goal.run_range-returns-then-from-to-clause-bounded
+run_range-returns-then-from-to-clause-bounded g t c = c.run_no_nodes.ensures.bounded
+
+pub run_range-returns-in_err-run_text-clause-bounded : goal.run_range-returns-in_err-run_text-clause-bounded
+run_range-returns-in_err-run_text-clause-bounded g t c = less_then c.run_text.ensures.bounded c.loop-at.invariant.bounded
+
+pub run_range-returns-then-is_some-clause-bounded : goal.run_range-returns-then-is_some-clause-bounded
+run_range-returns-then-is_some-clause-bounded g t c = less_then c.run_text.ensures.bounded c.loop-at.invariant.bounded
+
+pub run_range-returns-in_err-turns-clause-bounded : goal.run_range-returns-in_err-turns-clause-bounded
+run_range-returns-in_err-turns-clause-bounded g t c = less_then c.grant_node.ensures.bounded c.loop-at.invariant.bounded
+
+pub run_range-returns-in-Err-clause-bounded : goal.run_range-returns-in-Err-clause-bounded
+run_range-returns-in-Err-clause-bounded g t c = less_then c.run_node.ensures.bounded (less_then c.grant_node.ensures.bounded c.loop-at.invariant.bounded)
+
+pub run_range-returns-then-is_some-2-clause-bounded : goal.run_range-returns-then-is_some-2-clause-bounded
+run_range-returns-then-is_some-2-clause-bounded g t c = less_then c.run_node.ensures.bounded (less_then c.grant_node.ensures.bounded c.loop-at.invariant.bounded)
+
+pub run_range-returns-clause-bounded : goal.run_range-returns-clause-bounded
+run_range-returns-clause-bounded g t c = c.loop-at.invariant.bounded
+
+pub run_node-returns-in-Text-clause-bounded : goal.run_node-returns-in-Text-clause-bounded
+run_node-returns-in-Text-clause-bounded g t c = c.run_text.ensures.bounded
+
+pub run_node-returns-in-Output-clause-bounded : goal.run_node-returns-in-Output-clause-bounded
+run_node-returns-in-Output-clause-bounded g t c = c.run_output.ensures.bounded
+
+pub run_node-returns-in-Assign-clause-bounded : goal.run_node-returns-in-Assign-clause-bounded
+run_node-returns-in-Assign-clause-bounded g t c = c.run_assign.ensures.bounded
+
+pub run_node-returns-in-Raw-clause-bounded : goal.run_node-returns-in-Raw-clause-bounded
+run_node-returns-in-Raw-clause-bounded g t c = c.run_raw.ensures.bounded
+
+pub run_node-returns-in-Capture-clause-bounded : goal.run_node-returns-in-Capture-clause-bounded
+run_node-returns-in-Capture-clause-bounded g t c = c.run_capture.ensures.bounded
+
+pub run_node-returns-in-Include-clause-bounded : goal.run_node-returns-in-Include-clause-bounded
+run_node-returns-in-Include-clause-bounded g t c = c.run_include.ensures.bounded
+
+pub run_node-returns-in-JekyllInclude-clause-bounded : goal.run_node-returns-in-JekyllInclude-clause-bounded
+run_node-returns-in-JekyllInclude-clause-bounded g t c = c.run_jekyll_include.ensures.bounded
+
+pub run_node-returns-in-Render-clause-bounded : goal.run_node-returns-in-Render-clause-bounded
+run_node-returns-in-Render-clause-bounded g t c = c.run_render.ensures.bounded
+
+pub run_node-returns-in-RenderEach-clause-bounded : goal.run_node-returns-in-RenderEach-clause-bounded
+run_node-returns-in-RenderEach-clause-bounded g t c = c.run_render_each.ensures.bounded
+
+pub run_node-returns-in-Increment-clause-bounded : goal.run_node-returns-in-Increment-clause-bounded
+run_node-returns-in-Increment-clause-bounded g t c = c.run_increment.ensures.bounded
+
+pub run_node-returns-in-Decrement-clause-bounded : goal.run_node-returns-in-Decrement-clause-bounded
+run_node-returns-in-Decrement-clause-bounded g t c = c.run_decrement.ensures.bounded
+
+pub run_node-returns-in-Cycle-clause-bounded : goal.run_node-returns-in-Cycle-clause-bounded
+run_node-returns-in-Cycle-clause-bounded g t c = c.run_cycle.ensures.bounded
+
+pub run_node-returns-in-IfChanged-clause-bounded : goal.run_node-returns-in-IfChanged-clause-bounded
+run_node-returns-in-IfChanged-clause-bounded g t c = c.run_ifchanged.ensures.bounded
+
+pub run_node-returns-in-Filtered-clause-bounded : goal.run_node-returns-in-Filtered-clause-bounded
+run_node-returns-in-Filtered-clause-bounded g t c = c.run_filtered.ensures.bounded
+
+pub run_node-returns-in-For-clause-bounded : goal.run_node-returns-in-For-clause-bounded
+run_node-returns-in-For-clause-bounded g t c = c.run_for.ensures.bounded
+
+pub run_node-returns-in-TableRow-clause-bounded : goal.run_node-returns-in-TableRow-clause-bounded
+run_node-returns-in-TableRow-clause-bounded g t c = c.run_tablerow.ensures.bounded
+
+pub run_node-returns-in-If-clause-bounded : goal.run_node-returns-in-If-clause-bounded
+run_node-returns-in-If-clause-bounded g t c = c.run_chosen.ensures.bounded
+
+pub run_node-returns-in-Unless-clause-bounded : goal.run_node-returns-in-Unless-clause-bounded
+run_node-returns-in-Unless-clause-bounded g t c = c.run_chosen-in-Unless.ensures.bounded
+
+pub run_node-returns-in-Case-clause-bounded : goal.run_node-returns-in-Case-clause-bounded
+run_node-returns-in-Case-clause-bounded g t c = c.run_chosen-in-Case.ensures.bounded
+
+pub run_node-returns-in-Comment-clause-bounded : goal.run_node-returns-in-Comment-clause-bounded
+run_node-returns-in-Comment-clause-bounded g t c = no_less
+
+pub run_node-returns-in-Break-clause-bounded : goal.run_node-returns-in-Break-clause-bounded
+run_node-returns-in-Break-clause-bounded g t c = no_less
+
+pub run_node-returns-in-Continue-clause-bounded : goal.run_node-returns-in-Continue-clause-bounded
+run_node-returns-in-Continue-clause-bounded g t c = no_less
+
+pub run_chosen-returns-in-Err-clause-bounded : goal.run_chosen-returns-in-Err-clause-bounded
+run_chosen-returns-in-Err-clause-bounded g t c = no_less
+
+pub run_chosen-returns-in-Ok-clause-bounded : goal.run_chosen-returns-in-Ok-clause-bounded
+run_chosen-returns-in-Ok-clause-bounded g t c = c.run_range.ensures.bounded
+
+pub run_include-returns-in_err-called-clause-bounded : goal.run_include-returns-in_err-called-clause-bounded
+run_include-returns-in_err-called-clause-bounded g t c = no_less
+
+pub run_include-returns-clause-bounded : goal.run_include-returns-clause-bounded
+run_include-returns-clause-bounded g t c = c.run_range-answer.ensures.bounded
+
+pub run_jekyll_include-returns-in_err-inner-clause-bounded : goal.run_jekyll_include-returns-in_err-inner-clause-bounded
+run_jekyll_include-returns-in_err-inner-clause-bounded g t c = no_less
+
+pub run_jekyll_include-returns-clause-bounded : goal.run_jekyll_include-returns-clause-bounded
+run_jekyll_include-returns-clause-bounded g t c = c.run_range-answer.ensures.bounded
+
+pub renders::run_render-returns-in_err-called-clause-bounded : goal.renders::run_render-returns-in_err-called-clause-bounded
+renders::run_render-returns-in_err-called-clause-bounded g t c = no_less
+
+pub renders::run_render-returns-clause-bounded : goal.renders::run_render-returns-clause-bounded
+renders::run_render-returns-clause-bounded g t c = c.run_range-answer.ensures.bounded
+
+pub renders::run_item-returns-in_err-turns-clause-bounded : goal.renders::run_item-returns-in_err-turns-clause-bounded
+renders::run_item-returns-in_err-turns-clause-bounded g t c = c.turns.ensures.bounded
+
+pub renders::run_item-returns-in_err-apart-clause-bounded : goal.renders::run_item-returns-in_err-apart-clause-bounded
+renders::run_item-returns-in_err-apart-clause-bounded g t c = c.turns.ensures.bounded
+
+pub renders::run_item-returns-clause-bounded : goal.renders::run_item-returns-clause-bounded
+renders::run_item-returns-clause-bounded g t c = less_then c.run_range-answer.ensures.bounded c.turns.ensures.bounded
+
+pub renders::run_render_each-returns-in_err-called-clause-bounded : goal.renders::run_render_each-returns-in_err-called-clause-bounded
+renders::run_render_each-returns-in_err-called-clause-bounded g t c = no_less
+
+pub renders::run_render_each-returns-in_err-source-clause-bounded : goal.renders::run_render_each-returns-in_err-source-clause-bounded
+renders::run_render_each-returns-in_err-source-clause-bounded g t c = no_less
+
+pub renders::run_render_each-returns-in_err-left-clause-bounded : goal.renders::run_render_each-returns-in_err-left-clause-bounded
+renders::run_render_each-returns-in_err-left-clause-bounded g t c = less_then c.run_item.ensures.bounded c.loop-at.invariant.bounded
+
+pub renders::run_render_each-returns-then-ends_items-clause-bounded : goal.renders::run_render_each-returns-then-ends_items-clause-bounded
+renders::run_render_each-returns-then-ends_items-clause-bounded g t c = less_then c.run_item.ensures.bounded c.loop-at.invariant.bounded
+
+pub renders::run_render_each-returns-clause-bounded : goal.renders::run_render_each-returns-clause-bounded
+renders::run_render_each-returns-clause-bounded g t c = c.loop-at.invariant.bounded
+
+pub loops::run_turns-returns-in_err-run_range-clause-bounded : goal.loops::run_turns-returns-in_err-run_range-clause-bounded
+loops::run_turns-returns-in_err-run_range-clause-bounded g t c = less_then c.run_range.ensures.bounded c.turns.invariant.bounded
+
+pub loops::run_turns-returns-then-takes_break-clause-bounded : goal.loops::run_turns-returns-then-takes_break-clause-bounded
+loops::run_turns-returns-then-takes_break-clause-bounded g t c = less_then c.run_range.ensures.bounded c.turns.invariant.bounded
+
+pub loops::run_turns-returns-then-place-count-clause-bounded : goal.loops::run_turns-returns-then-place-count-clause-bounded
+loops::run_turns-returns-then-place-count-clause-bounded g t c = less_then c.run_range.ensures.bounded c.turns.invariant.bounded
+
+pub loops::run_cells-returns-in_err-open-clause-bounded : goal.loops::run_cells-returns-in_err-open-clause-bounded
+loops::run_cells-returns-in_err-open-clause-bounded g t c = less_then c.open.ensures.bounded c.cells.invariant.bounded
+
+pub loops::run_cells-returns-in_err-run_range-clause-bounded : goal.loops::run_cells-returns-in_err-run_range-clause-bounded
+loops::run_cells-returns-in_err-run_range-clause-bounded g t c = less_then c.run_range.ensures.bounded (less_then c.open.ensures.bounded c.cells.invariant.bounded)
+
+pub loops::run_cells-returns-in_err-close-clause-bounded : goal.loops::run_cells-returns-in_err-close-clause-bounded
+loops::run_cells-returns-in_err-close-clause-bounded g t c = less_then c.close.ensures.bounded (less_then c.run_range.ensures.bounded (less_then c.open.ensures.bounded c.cells.invariant.bounded))
+
+pub loops::run_cells-returns-then-place-row-clause-bounded : goal.loops::run_cells-returns-then-place-row-clause-bounded
+loops::run_cells-returns-then-place-row-clause-bounded g t c = less_then c.close.ensures.bounded (less_then c.run_range.ensures.bounded (less_then c.open.ensures.bounded c.cells.invariant.bounded))
+
+pub loops::run_for-returns-in_err-frame-clause-bounded : goal.loops::run_for-returns-in_err-frame-clause-bounded
+loops::run_for-returns-in_err-frame-clause-bounded g t c = no_less
+
+pub loops::run_for-returns-in_default-clause-bounded : goal.loops::run_for-returns-in_default-clause-bounded
+loops::run_for-returns-in_default-clause-bounded g t c = c.run_range.ensures.bounded
+
+pub loops::run_for-returns-in_err-push_frame-clause-bounded : goal.loops::run_for-returns-in_err-push_frame-clause-bounded
+loops::run_for-returns-in_err-push_frame-clause-bounded g t c = no_less
+
+pub loops::run_for-returns-clause-bounded : goal.loops::run_for-returns-clause-bounded
+loops::run_for-returns-clause-bounded g t c = c.run_turns-answer.ensures.bounded
+
+pub loops::run_tablerow-returns-in_err-frame-clause-bounded : goal.loops::run_tablerow-returns-in_err-frame-clause-bounded
+loops::run_tablerow-returns-in_err-frame-clause-bounded g t c = no_less
+
+pub loops::run_tablerow-returns-in_default-clause-bounded : goal.loops::run_tablerow-returns-in_default-clause-bounded
+loops::run_tablerow-returns-in_default-clause-bounded g t c = no_less
+
+pub loops::run_tablerow-returns-in_err-push_frame-clause-bounded : goal.loops::run_tablerow-returns-in_err-push_frame-clause-bounded
+loops::run_tablerow-returns-in_err-push_frame-clause-bounded g t c = no_less
+
+pub loops::run_tablerow-returns-clause-bounded : goal.loops::run_tablerow-returns-clause-bounded
+loops::run_tablerow-returns-clause-bounded g t c = c.run_cells-answer.ensures.bounded
+
+pub buffers::run_capture-returns-in_err-answer-clause-bounded : goal.buffers::run_capture-returns-in_err-answer-clause-bounded
+buffers::run_capture-returns-in_err-answer-clause-bounded g t c = around_bounded g.W.CountedWrite.left c.args.out.now c.open-outer.new.self c.run_range-answer.new.out c.close-text.new.self c.open-outer.result c.close-text.result c.open-outer.ensures.outer c.open-outer.ensures.empty c.open-outer.ensures.writer c.close-text.ensures.text c.close-text.ensures.outer c.close-text.ensures.writer c.run_range-answer.ensures.limited c.run_range-answer.ensures.bounded
+
+pub buffers::run_capture-returns-in_err-from_str-clause-bounded : goal.buffers::run_capture-returns-in_err-from_str-clause-bounded
+buffers::run_capture-returns-in_err-from_str-clause-bounded g t c = around_bounded g.W.CountedWrite.left c.args.out.now c.open-outer.new.self c.run_range-answer.new.out c.close-text.new.self c.open-outer.result c.close-text.result c.open-outer.ensures.outer c.open-outer.ensures.empty c.open-outer.ensures.writer c.close-text.ensures.text c.close-text.ensures.outer c.close-text.ensures.writer c.run_range-answer.ensures.limited c.run_range-answer.ensures.bounded
+
+pub buffers::run_capture-returns-clause-bounded : goal.buffers::run_capture-returns-clause-bounded
+buffers::run_capture-returns-clause-bounded g t c = around_bounded g.W.CountedWrite.left c.args.out.now c.open-outer.new.self c.run_range-answer.new.out c.close-text.new.self c.open-outer.result c.close-text.result c.open-outer.ensures.outer c.open-outer.ensures.empty c.open-outer.ensures.writer c.close-text.ensures.text c.close-text.ensures.outer c.close-text.ensures.writer c.run_range-answer.ensures.limited c.run_range-answer.ensures.bounded
+
+pub buffers::run_ifchanged-returns-in_err-ended-clause-bounded : goal.buffers::run_ifchanged-returns-in_err-ended-clause-bounded
+buffers::run_ifchanged-returns-in_err-ended-clause-bounded g t c = around_bounded g.W.CountedWrite.left c.args.out.now c.open-outer.new.self c.run_range-ended.new.out c.close-text.new.self c.open-outer.result c.close-text.result c.open-outer.ensures.outer c.open-outer.ensures.empty c.open-outer.ensures.writer c.close-text.ensures.text c.close-text.ensures.outer c.close-text.ensures.writer c.run_range-ended.ensures.limited c.run_range-ended.ensures.bounded
+
+pub buffers::run_ifchanged-returns-clause-bounded : goal.buffers::run_ifchanged-returns-clause-bounded
+buffers::run_ifchanged-returns-clause-bounded g t c = less_then c.show_if_changed.ensures.bounded (around_bounded g.W.CountedWrite.left c.args.out.now c.open-outer.new.self c.run_range-ended.new.out c.close-text.new.self c.open-outer.result c.close-text.result c.open-outer.ensures.outer c.open-outer.ensures.empty c.open-outer.ensures.writer c.close-text.ensures.text c.close-text.ensures.outer c.close-text.ensures.writer c.run_range-ended.ensures.limited c.run_range-ended.ensures.bounded)
+
+pub buffers::run_filtered-returns-in_err-ran-clause-bounded : goal.buffers::run_filtered-returns-in_err-ran-clause-bounded
+buffers::run_filtered-returns-in_err-ran-clause-bounded g t c = around_bounded g.W.CountedWrite.left c.args.out.now c.open-outer.new.self c.run_range-ran.new.out c.close-text.new.self c.open-outer.result c.close-text.result c.open-outer.ensures.outer c.open-outer.ensures.empty c.open-outer.ensures.writer c.close-text.ensures.text c.close-text.ensures.outer c.close-text.ensures.writer c.run_range-ran.ensures.limited c.run_range-ran.ensures.bounded
+
+pub buffers::run_filtered-returns-clause-bounded : goal.buffers::run_filtered-returns-clause-bounded
+buffers::run_filtered-returns-clause-bounded g t c = less_then c.write_filtered.ensures.bounded (around_bounded g.W.CountedWrite.left c.args.out.now c.open-outer.new.self c.run_range-ran.new.out c.close-text.new.self c.open-outer.result c.close-text.result c.open-outer.ensures.outer c.open-outer.ensures.empty c.open-outer.ensures.writer c.close-text.ensures.text c.close-text.ensures.outer c.close-text.ensures.writer c.run_range-ran.ensures.limited c.run_range-ran.ensures.bounded)
+
+pub buffers::run_capture-returns-in_err-answer-clause-limited : goal.buffers::run_capture-returns-in_err-answer-clause-limited
+buffers::run_capture-returns-in_err-answer-clause-limited g t c = around_limited g.W.CountedWrite.left c.args.out.now c.open-outer.new.self c.run_range-answer.new.out c.close-text.new.self c.open-outer.result c.close-text.result c.open-outer.ensures.writer c.close-text.ensures.writer c.run_range-answer.ensures.limited
+
+pub buffers::run_capture-returns-in_err-from_str-clause-limited : goal.buffers::run_capture-returns-in_err-from_str-clause-limited
+buffers::run_capture-returns-in_err-from_str-clause-limited g t c = around_limited g.W.CountedWrite.left c.args.out.now c.open-outer.new.self c.run_range-answer.new.out c.close-text.new.self c.open-outer.result c.close-text.result c.open-outer.ensures.writer c.close-text.ensures.writer c.run_range-answer.ensures.limited
+
+pub buffers::run_capture-returns-clause-limited : goal.buffers::run_capture-returns-clause-limited
+buffers::run_capture-returns-clause-limited g t c = around_limited g.W.CountedWrite.left c.args.out.now c.open-outer.new.self c.run_range-answer.new.out c.close-text.new.self c.open-outer.result c.close-text.result c.open-outer.ensures.writer c.close-text.ensures.writer c.run_range-answer.ensures.limited
+
+pub buffers::run_ifchanged-returns-in_err-ended-clause-limited : goal.buffers::run_ifchanged-returns-in_err-ended-clause-limited
+buffers::run_ifchanged-returns-in_err-ended-clause-limited g t c = around_limited g.W.CountedWrite.left c.args.out.now c.open-outer.new.self c.run_range-ended.new.out c.close-text.new.self c.open-outer.result c.close-text.result c.open-outer.ensures.writer c.close-text.ensures.writer c.run_range-ended.ensures.limited
+
+pub buffers::run_ifchanged-returns-clause-limited : goal.buffers::run_ifchanged-returns-clause-limited
+buffers::run_ifchanged-returns-clause-limited g t c = c.show_if_changed.ensures.limited ∙ around_limited g.W.CountedWrite.left c.args.out.now c.open-outer.new.self c.run_range-ended.new.out c.close-text.new.self c.open-outer.result c.close-text.result c.open-outer.ensures.writer c.close-text.ensures.writer c.run_range-ended.ensures.limited
+
+pub buffers::run_filtered-returns-in_err-ran-clause-limited : goal.buffers::run_filtered-returns-in_err-ran-clause-limited
+buffers::run_filtered-returns-in_err-ran-clause-limited g t c = around_limited g.W.CountedWrite.left c.args.out.now c.open-outer.new.self c.run_range-ran.new.out c.close-text.new.self c.open-outer.result c.close-text.result c.open-outer.ensures.writer c.close-text.ensures.writer c.run_range-ran.ensures.limited
+
+pub buffers::run_filtered-returns-clause-limited : goal.buffers::run_filtered-returns-clause-limited
+buffers::run_filtered-returns-clause-limited g t c = c.write_filtered.ensures.limited ∙ around_limited g.W.CountedWrite.left c.args.out.now c.open-outer.new.self c.run_range-ran.new.out c.close-text.new.self c.open-outer.result c.close-text.result c.open-outer.ensures.writer c.close-text.ensures.writer c.run_range-ran.ensures.limited

@@ -6,6 +6,7 @@ use Rattle.liquid_engine.specs.inside.Engine.{setting_of, nodes_in}
 use Rattle.liquid_engine.specs.StateKept.{Keeps, AreRenderNodes}
 use Rattle.liquid_engine.specs.Performs.{configuration_of}
 use Rattle.liquid_core.specs.States.{layers_of, loops_of, enclosing_scopes}
+use Rattle.liquid_engine.specs.inside.Reserves.{limited_in, reserve_in}
 use Rattle.liquid_engine.proofs.Going.{Going}
 use Rattle.liquid_engine.proofs.Silent.{SilentOn}
 use Rattle.liquid_engine.proofs.PartialRuns.{reserve}
@@ -67,6 +68,8 @@ invariant-run_range-loop-at g l =
       quiet : (place l.out l.state).sink.failures ≡ (place l.initial.out l.initial.state).sink.failures;
       loops : loops_of l.state ≡ loops_of l.initial.state;
       same_writer : l.out.writer.ghost_name ≡ l.initial.out.writer.ghost_name;
+      bounded : reserve_in g.W.CountedWrite.left l.out ≤ reserve_in g.W.CountedWrite.left l.initial.out;
+      limited : limited_in g.W.CountedWrite.left l.out ≡ limited_in g.W.CountedWrite.left l.initial.out;
     }
 
 abbrev pub decreases-run_range-loop-at : goal.decreases-run_range-loop-at
@@ -81,6 +84,8 @@ invariant-renders::run_render_each-loop-at g l =
       ordered : l.at ≤ l.source.count;
       leads : Leads (items_left one (all_items l.source.items) 0) (items_left one (all_items l.source.items) l.at) (place l.initial.out l.state) (place l.out l.state);
       same_writer : l.out.writer.ghost_name ≡ l.initial.out.writer.ghost_name;
+      bounded : reserve_in g.W.CountedWrite.left l.out ≤ reserve_in g.W.CountedWrite.left l.initial.out;
+      limited : limited_in g.W.CountedWrite.left l.out ≡ limited_in g.W.CountedWrite.left l.initial.out;
     }
 
 abbrev pub decreases-renders::run_render_each-loop-at : goal.decreases-renders::run_render_each-loop-at
@@ -111,6 +116,8 @@ invariant-loops::run_turns-turns g l =
       scopes : enclosing_scopes (layers_of l.state).scopes ≡ enclosing_scopes (layers_of l.initial.state).scopes;
       kept : (f : Forest Maker) → IsForestAt l.nodes l.from f l.to → KeepsEnclosing (nodes_names (nodes_of f)) (setting_of g.H.NamedFilters.named l.context) l.initial.state l.state;
       same_writer : l.out.writer.ghost_name ≡ l.initial.out.writer.ghost_name;
+      bounded : reserve_in g.W.CountedWrite.left l.out ≤ reserve_in g.W.CountedWrite.left l.initial.out;
+      limited : limited_in g.W.CountedWrite.left l.out ≡ limited_in g.W.CountedWrite.left l.initial.out;
     }
 
 abbrev pub decreases-loops::run_turns-turns : goal.decreases-loops::run_turns-turns
@@ -127,6 +134,8 @@ invariant-loops::run_cells-cells g l =
       scopes : enclosing_scopes (layers_of l.state).scopes ≡ enclosing_scopes (layers_of l.initial.state).scopes;
       kept : (f : Forest Maker) → IsForestAt l.nodes l.from f l.to → KeepsEnclosing (nodes_names (nodes_of f)) (setting_of g.H.NamedFilters.named l.context) l.initial.state l.state;
       same_writer : l.out.writer.ghost_name ≡ l.initial.out.writer.ghost_name;
+      bounded : reserve_in g.W.CountedWrite.left l.out ≤ reserve_in g.W.CountedWrite.left l.initial.out;
+      limited : limited_in g.W.CountedWrite.left l.out ≡ limited_in g.W.CountedWrite.left l.initial.out;
     }
 
 abbrev pub decreases-loops::run_cells-cells : goal.decreases-loops::run_cells-cells

@@ -11,6 +11,7 @@ use Rattle.liquid_meaning.specs.Runs.{evaluate, write}
 use Rattle.liquid_engine.specs.Performs.{Meets, unit, configuration_of}
 use Rattle.liquid_engine.proofs.Joined.{bind_faulted, bind_met, write_met}
 use Rattle.liquid_engine.proofs.Pieces.{writes_as}
+use Rattle.liquid_engine.proofs.Reserves.{less_then}
 use Rattle.liquid_engine.proofs.filtered.write_filtered.Goals as goal
 
 pub returns-in_err-answer-clause-performs : goal.returns-in_err-answer-clause-performs
@@ -32,3 +33,9 @@ returns-clause-performs g c =
     bind_met {V = ValueCow} cow_view unit v c.push_value.result (evaluate (end t)) (λ x. write (text_of x)) (place c.args.out.now c.args.state.now) (place c.filters_within.new.out c.args.state.now) (place c.push_value.new.out c.args.state.now)
     (subst (λ d. Meets {V = ValueCow} cow_view (Ok v) (evaluate (end d)) (place c.args.out.now c.args.state.now) (place c.filters_within.new.out c.args.state.now)) (view-Text c.args.text) c.in_ok-answer.ensures.value)
     (write_met c.push_value.result (text_of (cow_view v)) _ _ (environment_of c.args.state.now) (writes_as c.push_value.result _ (text_of (cow_view v)) _ _ (ap text_of c.as_value.ensures) c.push_value.ensures.writes))
+
+pub returns-in_err-answer-clause-bounded : goal.returns-in_err-answer-clause-bounded
+returns-in_err-answer-clause-bounded g c = c.filters_within.ensures.bounded
+
+pub returns-clause-bounded : goal.returns-clause-bounded
+returns-clause-bounded g c = less_then c.push_value.ensures.bounded c.filters_within.ensures.bounded

@@ -33,3 +33,9 @@ returns-clause-performs g c =
 
 pub returns-clause-kept : goal.returns-clause-kept
 returns-clause-kept g c N = kept_changed N (Some (string_bytes c.args.text)) (layers_of c.args.state.now) _ (changed_set c.args.state.now (Some c.args.text))
+
+pub returns-in_err-write_unless_last-clause-bounded : goal.returns-in_err-write_unless_last-clause-bounded
+returns-in_err-write_unless_last-clause-bounded g c = c.write_unless_last.ensures.bounded
+
+pub returns-clause-bounded : goal.returns-clause-bounded
+returns-clause-bounded g c = c.write_unless_last.ensures.bounded

@@ -16,6 +16,7 @@ use Rattle.liquid_engine.proofs.Joined.{bind_faulted, bind_met, by_rule, change_
 use Rattle.liquid_engine.proofs.StateKept.{kept_assigned}
 use Rattle.liquid_engine.proofs.Turns.{may_not_meet, performs_from}
 use Rattle.liquid_meaning.proofs.Rules.{assign_rule}
+use Rattle.liquid_engine.proofs.Reserves.{less_then}
 use Rattle.liquid_engine.proofs.output_and_assign.run_assign.Goals as goal
 
 pub returns-in_err-found-clause-performs : goal.returns-in_err-found-clause-performs
@@ -73,3 +74,15 @@ returns-clause-kept g c N within inside =
     let d = view c.in_ok-value.value in
     let stored : IsValueOrMemory (λ _. layers_of c.assign.new.self) c.assign.result (with_assigned c.args.name.now d (layers_of c.args.state.now)) = c.assign.ensures.set in
     kept_assigned N c.args.name.now d (layers_of c.args.state.now) (layers_of c.assign.new.self) c.assign.result within.0 stored c.assign.ensures.unchanged
+
+pub returns-in_err-found-clause-bounded : goal.returns-in_err-found-clause-bounded
+returns-in_err-found-clause-bounded g c = c.chain_within.ensures.bounded
+
+pub returns-in_err-take_value-clause-bounded : goal.returns-in_err-take_value-clause-bounded
+returns-in_err-take_value-clause-bounded g c = less_then c.take_value.ensures.bounded c.chain_within.ensures.bounded
+
+pub returns-in_err-value-clause-bounded : goal.returns-in_err-value-clause-bounded
+returns-in_err-value-clause-bounded g c = less_then c.take_value.ensures.bounded c.chain_within.ensures.bounded
+
+pub returns-clause-bounded : goal.returns-clause-bounded
+returns-clause-bounded g c = less_then c.take_value.ensures.bounded c.chain_within.ensures.bounded

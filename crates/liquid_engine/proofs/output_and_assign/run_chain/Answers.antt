@@ -11,6 +11,7 @@ use Rattle.liquid_engine.specs.Performs.{unit, configuration_of}
 use Rattle.liquid_engine.proofs.Joined.{bind_faulted, bind_met, by_rule, write_met}
 use Rattle.liquid_engine.proofs.Pieces.{writes_as}
 use Rattle.liquid_meaning.proofs.Rules.{output_rule}
+use Rattle.liquid_engine.proofs.Reserves.{less_then}
 use Rattle.liquid_engine.proofs.output_and_assign.run_chain.Goals as goal
 
 pub returns-in_err-value-clause-performs : goal.returns-in_err-value-clause-performs
@@ -27,3 +28,9 @@ returns-clause-performs g c =
     let v = c.in_ok-value.value in
     by_rule (output_rule _ _ _) (bind_met {V = ValueCow} cow_view unit v c.push_value.result (evaluate chain) (λ x. write (text_of x)) (place c.args.out.now c.args.state.now) (place c.chain_within.new.out c.args.state.now) (place c.push_value.new.out c.args.state.now)
     c.in_ok-value.ensures.value (write_met c.push_value.result (text_of (cow_view v)) _ _ (environment_of c.args.state.now) (writes_as c.push_value.result _ (text_of (cow_view v)) _ _ (ap text_of c.as_value.ensures) c.push_value.ensures.writes)))
+
+pub returns-in_err-value-clause-bounded : goal.returns-in_err-value-clause-bounded
+returns-in_err-value-clause-bounded g c = c.chain_within.ensures.bounded
+
+pub returns-clause-bounded : goal.returns-clause-bounded
+returns-clause-bounded g c = less_then c.push_value.ensures.bounded c.chain_within.ensures.bounded

@@ -9,6 +9,7 @@ use Rattle.liquid_engine.proofs.NodeTurns.{ok_each}
 use Rattle.liquid_engine.proofs.Turns.{may_not_begin, performs_from}
 use Rattle.liquid_meaning.proofs.Rules.{plain_rule}
 use Rattle.liquid_evaluation.specs.Tree as tree
+use Rattle.liquid_engine.proofs.Reserves.{less_then}
 use Rattle.liquid_engine.proofs.output_and_assign.run_text.Goals as goal
 
 pub returns-in_err-turns-clause-performs : goal.returns-in_err-turns-clause-performs
@@ -26,3 +27,9 @@ pub returns-clause-takes : goal.returns-clause-takes
 returns-clause-takes g c =
     let old = g.W.CountedWrite.left c.args.out.now.writer.now in
     ok_each c.push_text.result c.push_text.ensures.takes (λ h. subst (λ o. Takes 1 old.turns o) (sym h.1) c.in_ok-turns.ensures.takes.0)
+
+pub returns-in_err-turns-clause-bounded : goal.returns-in_err-turns-clause-bounded
+returns-in_err-turns-clause-bounded g c = c.turns.ensures.bounded
+
+pub returns-clause-bounded : goal.returns-clause-bounded
+returns-clause-bounded g c = less_then c.push_text.ensures.bounded c.turns.ensures.bounded

@@ -8,6 +8,7 @@ use Rattle.liquid_model.specs.Data.{number, text_of, items_text, pairs_text}
 use Rattle.liquid_model.specs.View.{view, items_view, pairs_view}
 use Rattle.liquid_engine.specs.Performs.{WritesText}
 use Rattle.liquid_engine.specs.Sinks.{sink_of}
+use Rattle.liquid_engine.proofs.Reserves.{less_then, no_less}
 use Rattle.liquid_engine.proofs.Pieces.{GoesOn, writes_as, goes_on, goes_wrong, goes_to_end, next_pair, writes_nothing}
 use Rattle.liquid_engine.proofs.ValueTexts.{nil_text, truth_text, number_text, text_text, array_text, object_text}
 use Rattle.liquid_engine.proofs.push_value.+push_value.Goals as goal
@@ -62,6 +63,8 @@ push_items-loop-item-preserved g t c =
           (subst (λ xs. GoesOn (items_text (items_view xs)) (sink c.loop-item.out) (items_text (items_view items)) (sink c.args.out.now)) rest c.loop-item.invariant.writes)
           c.in_ok-push_value.ensures.writes;
       same_writer = search rules;
+      bounded = less_then c.push_value.ensures.bounded c.loop-item.invariant.bounded;
+      limited = search rules;
     }
 
 pub push_items-returns-clause-writes : goal.push_items-returns-clause-writes
@@ -97,6 +100,8 @@ push_pairs-loop-key-preserved g t c =
           (writes_as (Ok c.in_ok-push_text.field-0) _ _ _ _ key c.in_ok-push_text.ensures.writes))
           c.in_ok-push_value.ensures.writes;
       same_writer = search rules;
+      bounded = less_then c.push_value.ensures.bounded (less_then c.push_text.ensures.bounded c.loop-key.invariant.bounded);
+      limited = search rules;
     }
 
 pub push_pairs-returns-in_err-push_value-clause-writes : goal.push_pairs-returns-in_err-push_value-clause-writes
@@ -121,3 +126,36 @@ push_pairs-returns-clause-writes g t c =
     let all : c.into_iter-key-iterator.result ≡ c.args.pairs.now.entries = search rules in
     subst (λ es. WritesText _ (pairs_text (pairs_view es)) (sink c.args.out.now) (sink c.loop-key.out)) all
     (goes_to_end tt _ _ (sink c.args.out.now) (sink c.loop-key.out) (ap (λ es. pairs_text (pairs_view es)) none) c.loop-key.invariant.writes)
+
+pub push_value-returns-in-Nil-clause-bounded : goal.push_value-returns-in-Nil-clause-bounded
+push_value-returns-in-Nil-clause-bounded g t c = no_less
+
+pub push_value-returns-in-Bool-clause-bounded : goal.push_value-returns-in-Bool-clause-bounded
+push_value-returns-in-Bool-clause-bounded g t c = c.push_text.ensures.bounded
+
+pub push_value-returns-in-Integer-clause-bounded : goal.push_value-returns-in-Integer-clause-bounded
+push_value-returns-in-Integer-clause-bounded g t c = c.push_number.ensures.bounded
+
+pub push_value-returns-in-Text-clause-bounded : goal.push_value-returns-in-Text-clause-bounded
+push_value-returns-in-Text-clause-bounded g t c = c.push_text-in-Text.ensures.bounded
+
+pub push_value-returns-in-Array-clause-bounded : goal.push_value-returns-in-Array-clause-bounded
+push_value-returns-in-Array-clause-bounded g t c = c.push_items.ensures.bounded
+
+pub push_value-returns-in-Object-clause-bounded : goal.push_value-returns-in-Object-clause-bounded
+push_value-returns-in-Object-clause-bounded g t c = c.push_pairs.ensures.bounded
+
+pub push_items-returns-in_err-push_value-clause-bounded : goal.push_items-returns-in_err-push_value-clause-bounded
+push_items-returns-in_err-push_value-clause-bounded g t c = less_then c.push_value.ensures.bounded c.loop-item.invariant.bounded
+
+pub push_items-returns-clause-bounded : goal.push_items-returns-clause-bounded
+push_items-returns-clause-bounded g t c = c.loop-item.invariant.bounded
+
+pub push_pairs-returns-in_err-push_text-clause-bounded : goal.push_pairs-returns-in_err-push_text-clause-bounded
+push_pairs-returns-in_err-push_text-clause-bounded g t c = less_then c.push_text.ensures.bounded c.loop-key.invariant.bounded
+
+pub push_pairs-returns-in_err-push_value-clause-bounded : goal.push_pairs-returns-in_err-push_value-clause-bounded
+push_pairs-returns-in_err-push_value-clause-bounded g t c = less_then c.push_value.ensures.bounded (less_then c.push_text.ensures.bounded c.loop-key.invariant.bounded)
+
+pub push_pairs-returns-clause-bounded : goal.push_pairs-returns-clause-bounded
+push_pairs-returns-clause-bounded g t c = c.loop-key.invariant.bounded

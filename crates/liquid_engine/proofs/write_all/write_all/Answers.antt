@@ -1,7 +1,9 @@
-use Rattle.std.proofs.Common.{◌≡◌, ◌<◌, ◌++◌, length, take, ap, ◌∙◌, rules}
+use Rattle.std.proofs.Common.{◌≡◌, ◌<◌, ◌++◌, None, length, take, ap, ◌∙◌, rules}
 use Rattle.std.proofs.KnownBytes.{Appends-trans}
 use Rattle.liquid_engine.specs.Failures.{raised}
 use Rattle.liquid_engine.proofs.Added.{begun, begun_before, moves_front, none_taken_counts, taken_counts_none}
+use Rattle.liquid_engine.specs.inside.Reserves.{are_limited}
+use Rattle.liquid_engine.proofs.Reserves.{bytes_limited, less_then, same_left, takes_reserve}
 use Rattle.liquid_engine.proofs.Taken.{TakesBytes-front}
 use Rattle.liquid_engine.proofs.write_all.write_all.Goals as goal
 
@@ -33,3 +35,33 @@ returns-in-Err-clause-part g c =
 
 pub returns-in-Err-clause-failed : goal.returns-in-Err-clause-failed
 returns-in-Err-clause-failed g c = c.in-Err.ensures.counted ∙ ap raised c.loop-rest.invariant.none_failed
+
+pub returns-in-Ok-eq0-clause-bounded : goal.returns-in-Ok-eq0-clause-bounded
+returns-in-Ok-eq0-clause-bounded g c =
+    let (done, split, appended, takes) = c.loop-rest.invariant.taken in
+    less_then (takes_reserve None c.in-Ok-eq0.field-0 _ _ c.in-Ok-eq0.ensures.takes.0) (takes_reserve None (length done) _ _ takes.0)
+
+pub returns-in-Ok-eq0-clause-limited : goal.returns-in-Ok-eq0-clause-limited
+returns-in-Ok-eq0-clause-limited g c =
+    let (done, split, appended, takes) = c.loop-rest.invariant.taken in
+    bytes_limited c.in-Ok-eq0.field-0 _ _ c.in-Ok-eq0.ensures.takes ∙ bytes_limited (length done) _ _ takes
+
+pub returns-in-Err-clause-bounded : goal.returns-in-Err-clause-bounded
+returns-in-Err-clause-bounded g c =
+    let (done, split, appended, takes) = c.loop-rest.invariant.taken in
+    less_then (same_left None _ _ c.in-Err.ensures.takes) (takes_reserve None (length done) _ _ takes.0)
+
+pub returns-in-Err-clause-limited : goal.returns-in-Err-clause-limited
+returns-in-Err-clause-limited g c =
+    let (done, split, appended, takes) = c.loop-rest.invariant.taken in
+    ap are_limited c.in-Err.ensures.takes ∙ bytes_limited (length done) _ _ takes
+
+pub returns-clause-bounded : goal.returns-clause-bounded
+returns-clause-bounded g c =
+    let (done, split, appended, takes) = c.loop-rest.invariant.taken in
+    takes_reserve None (length done) _ _ takes.0
+
+pub returns-clause-limited : goal.returns-clause-limited
+returns-clause-limited g c =
+    let (done, split, appended, takes) = c.loop-rest.invariant.taken in
+    bytes_limited (length done) _ _ takes

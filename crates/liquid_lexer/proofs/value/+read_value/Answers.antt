@@ -20,7 +20,7 @@ read_steps-returns-in_err-step t c =
     let l = c.steps in
     rw (p.1, p.2) (refused (inner_of c.args.depth) c.in_err-step.field-0.0 l.invariant.0 (map expression_view l.steps.items) l.rest.now _ c.in_err-step.ensures l.invariant.2)
 
-stepped : (t : ℕ) (c : goal.read_steps-In_ok-push t) → step_at (inner_of c.args.depth) c.steps.rest.now ≡ Some (Some (expression_view c.in-Some.step, c.in-Some.after.now))
+stepped : (t : ℕ) (c : goal.read_steps-In_ok-push_first t) → step_at (inner_of c.args.depth) c.steps.rest.now ≡ Some (Some (expression_view c.in-Some.step, c.in-Some.after.now))
 stepped t c = c.in_ok-step.ensures ∙ ap (λ o. Some (option_map read_view o)) c.in-Some.is
 
 pub read_steps-steps-smaller : goal.read_steps-steps-smaller
@@ -31,7 +31,7 @@ read_steps-steps-preserved t c =
     let l = c.steps in
     let n = l.invariant.0 in
     let less = step_shorter c.args.depth l.rest.now _ (stepped t c) in
-    let pushed : c.push.new.self.items ≡ l.steps.items ++ (c.in-Some.step ∷ []) = c.in_ok-push.ensures.items in (
+    let pushed : c.push_first.new.items.items ≡ l.steps.items ++ (c.in-Some.step ∷ []) = c.in_ok-push_first.ensures.items in (
       n - 1,
       omega (arith, less, l.invariant.1),
       l.invariant.2 ∙ one_more (inner_of c.args.depth) n (map expression_view l.steps.items) l.rest.now _ (omega (arith, less, l.invariant.1)) (stepped t c)

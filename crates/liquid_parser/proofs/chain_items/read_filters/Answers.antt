@@ -34,4 +34,4 @@ filters-preserved c =
     let left = tokens_view c.read_filter.new.items.items in
     c.filters.invariant
     ∙ one_filter known (map chain_filter_view c.filters.filters.items) (tokens_view c.filters.items.items) _ some c.if-not-skip.ensures.0 (chain_filter_view c.in_ok-read_filter.field-0) left c.in_ok-read_filter.ensures.taken
-    ∙ ap (λ fs. filters_after known fs (filters_of known left)) (sym (ap (map chain_filter_view) c.in_ok-push.ensures.items ∙ map-append _ _ _))
+    ∙ ap (λ fs. filters_after known fs (filters_of known left)) (sym (ap (map chain_filter_view) c.in_ok-push_first.ensures.items ∙ map-append _ _ _))

@@ -16,14 +16,14 @@ flow_list-returns-in-None t c =
     let e : c.loop-left.left ≡ Some c.in-Some.text = (let h = c.in-Some.is in cc) in
     let none : c.in_ok-value.field-0 ≡ None = (let h = c.in-None.is in cc) in
     ap (option_map array) (items_refused c.loop-left.left c.in-Some.text c.first_flow_part.result e c.first_flow_part.ensures (λ s. flow_value c.args.depth false s) c.loop-left.values.items _
-    (none_by c.in_ok-value.field-0 _ none c.in_ok-value.ensures ∙ ap (λ s. flow_value c.args.depth false s) c.bare.ensures) c.loop-left.invariant)
+    (none_by c.in_ok-value.field-0 _ none c.in_ok-value.ensures ∙ ap (λ s. flow_value c.args.depth false s) c.trimmed_around.ensures) c.loop-left.invariant)
 
 pub flow_list-loop-left-preserved : goal.flow_list-loop-left-preserved
 flow_list-loop-left-preserved t c =
     let e : c.loop-left.left ≡ Some c.in-Some.text = (let h = c.in-Some.is in cc) in
     let some : c.in_ok-value.field-0 ≡ Some c.in-Some-2.value = (let h = c.in-Some-2.is in cc) in
     items_turn c.loop-left.left c.in-Some.text c.first_flow_part.result e c.first_flow_part.ensures (λ s. flow_value c.args.depth false s) c.loop-left.values.items c.push.new.self.items c.in-Some-2.value _
-    (some_by c.in_ok-value.field-0 c.in-Some-2.value _ some c.in_ok-value.ensures ∙ ap (λ s. flow_value c.args.depth false s) c.bare.ensures) c.in_ok-push-in-Some-2.ensures.items c.loop-left.invariant
+    (some_by c.in_ok-value.field-0 c.in-Some-2.value _ some c.in_ok-value.ensures ∙ ap (λ s. flow_value c.args.depth false s) c.trimmed_around.ensures) c.in_ok-push-in-Some-2.ensures.items c.loop-left.invariant
 
 pub flow_list-returns : goal.flow_list-returns
 flow_list-returns t c =
@@ -37,14 +37,14 @@ pub flow_map-returns-in_default-member_of : goal.flow_map-returns-in_default-mem
 flow_map-returns-in_default-member_of t c =
     let e : c.loop-left.left ≡ Some c.in-Some.text = (let h = c.in-Some.is in cc) in
     ap (option_map object) (members_refused c.loop-left.left c.in-Some.text c.first_flow_part.result e c.first_flow_part.ensures (λ s. flow_value c.args.depth false s) (pairs_view c.loop-left.members.entries) _
-    (no_member (λ s. flow_value c.args.depth false s) (pairs_view c.loop-left.members.entries) c.bare.result.now c.first_flow_part.result.0.now c.bare.ensures c.in_default-member_of.ensures) c.loop-left.invariant)
+    (no_member (λ s. flow_value c.args.depth false s) (pairs_view c.loop-left.members.entries) c.trimmed_around.result.now c.first_flow_part.result.0.now c.trimmed_around.ensures c.in_default-member_of.ensures) c.loop-left.invariant)
 
 pub flow_map-returns-in-None : goal.flow_map-returns-in-None
 flow_map-returns-in-None t c =
     let e : c.loop-left.left ≡ Some c.in-Some.text = (let h = c.in-Some.is in cc) in
     let none : c.in_ok-value.field-0 ≡ None = (let h = c.in-None.is in cc) in
     ap (option_map object) (members_refused c.loop-left.left c.in-Some.text c.first_flow_part.result e c.first_flow_part.ensures (λ s. flow_value c.args.depth false s) (pairs_view c.loop-left.members.entries) _
-    (none_stored (λ s. flow_value c.args.depth false s) (pairs_view c.loop-left.members.entries) c.bare.result.now c.first_flow_part.result.0.now (setting_view c.in-Some-member_of.member) c.bare.ensures c.in-Some-member_of.ensures
+    (none_stored (λ s. flow_value c.args.depth false s) (pairs_view c.loop-left.members.entries) c.trimmed_around.result.now c.first_flow_part.result.0.now (setting_view c.in-Some-member_of.member) c.trimmed_around.ensures c.in-Some-member_of.ensures
     (none_by c.in_ok-value.field-0 _ none c.in_ok-value.ensures)) c.loop-left.invariant)
 
 pub flow_map-loop-left-preserved : goal.flow_map-loop-left-preserved
@@ -52,8 +52,8 @@ flow_map-loop-left-preserved t c =
     let e : c.loop-left.left ≡ Some c.in-Some.text = (let h = c.in-Some.is in cc) in
     let some : c.in_ok-value.field-0 ≡ Some c.in-Some-2.value = (let h = c.in-Some-2.is in cc) in
     members_turn c.loop-left.left c.in-Some.text c.first_flow_part.result e c.first_flow_part.ensures (λ s. flow_value c.args.depth false s) (pairs_view c.loop-left.members.entries) (pairs_view c.store.new.object.entries) _
-    (members_stored (λ s. flow_value c.args.depth false s) (pairs_view c.loop-left.members.entries) (pairs_view c.store.new.object.entries) c.bare.result.now c.first_flow_part.result.0.now (string_bytes c.in_ok-from_str-in-Some-2.field-0) (setting_view c.in-Some-member_of.member) (view c.in-Some-2.value)
-    c.bare.ensures c.in-Some-member_of.ensures (some_by c.in_ok-value.field-0 c.in-Some-2.value _ some c.in_ok-value.ensures) c.in_ok-from_str-in-Some-2.ensures.ok c.in_ok-store-in-Some-2.ensures.stored) c.loop-left.invariant
+    (members_stored (λ s. flow_value c.args.depth false s) (pairs_view c.loop-left.members.entries) (pairs_view c.store.new.object.entries) c.trimmed_around.result.now c.first_flow_part.result.0.now (string_bytes c.in_ok-from_str-in-Some-2.field-0) (setting_view c.in-Some-member_of.member) (view c.in-Some-2.value)
+    c.trimmed_around.ensures c.in-Some-member_of.ensures (some_by c.in_ok-value.field-0 c.in-Some-2.value _ some c.in_ok-value.ensures) c.in_ok-from_str-in-Some-2.ensures.ok c.in_ok-store-in-Some-2.ensures.stored) c.loop-left.invariant
 
 pub flow_map-loop-left-smaller : goal.flow_map-loop-left-smaller
 flow_map-loop-left-smaller t c =

@@ -2,7 +2,7 @@ use Rattle.std.proofs.Common.{◌≡◌, ◌+◌, ◌*◌, false}
 use Rattle.liquid_model.specs.Data.{no_pairs}
 use Rattle.liquid_model.specs.View.{pairs_view}
 use Rattle.liquid_yaml.specs.Bytes.{left_view}
-use Rattle.liquid_yaml.specs.Flows.{flow_parts_left, flow_value, items_by, members_by, text_with_parts}
+use Rattle.liquid_yaml.specs.Flows.{flow_parts_left, flow_value, flow_items_of, members_by, text_with_parts}
 use Rattle.liquid_yaml.proofs.Items.{before}
 use Rattle.liquid_yaml.proofs.Parts.{size_left}
 use Rattle.liquid_yaml.proofs.flow.+flow_value.Given as goal
@@ -10,7 +10,7 @@ use Rattle.liquid_yaml.proofs.flow.+flow_value.Given as goal
 -- what is left makes, after what is done, the whole
 abbrev pub invariant-flow_list-loop-left : goal.invariant-flow_list-loop-left
 invariant-flow_list-loop-left l =
-    before l.values.items (items_by (flow_value l.depth false) (flow_parts_left (left_view l.left))) ≡ items_by (flow_value l.depth false) (flow_parts_left (text_with_parts l.fn.text))
+    before l.values.items (flow_items_of (flow_value l.depth false) (flow_parts_left (left_view l.left))) ≡ flow_items_of (flow_value l.depth false) (flow_parts_left (text_with_parts l.fn.text))
 
 abbrev pub invariant-flow_map-loop-left : goal.invariant-flow_map-loop-left
 invariant-flow_map-loop-left l =
