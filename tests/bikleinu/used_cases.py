@@ -79,7 +79,7 @@ def used_cases():
         case("of long data a member", "{{ town }}", out="Oslo"),
         case("of long data the first items", "{% for p in products limit:2 %}{{ p.title }},{% endfor %}", out="tea 0,tea 1,"),
         case("of long data a member of all items", "{% for p in products %}{{ p.price }} {% endfor %}", out="".join(f"{n} " for n in range(60))),
-        case("of long data a map whole", "{{ owner }} {{ owner.size }}", out="age40nameAda 2"),
+        case("of long data a map whole", "{{ owner }} {{ owner.size }}", out="age40nameAda 2", errors=("warning: t: WholeMap: line 1, column 1: ",), status=0),
         case("of long data the last item", "{{ products.last.maker.town }} {{ products[1].title }}", out="Oslo tea 1"),
         case("of long data in a partial", "{% render 'f', p: owner %}", "d -p f=f", f="{{ p.name }}", out="Ada"),
         case("of long data what is missing is nil", "{{ towns }}{{ owner.names }}{% if rest1 %}!{% endif %}", "d --missing nil", out="!", errors=("warning: t: AlwaysTrue: line 1, column 29: `rest1` is an empty list in the data",), status=0),

@@ -5,13 +5,15 @@ use liquid_core::{Missing, Object, Result};
 use liquid_lib::{Language, Partials, Template};
 use liquid_warnings::{CheckedFile, Given, Warnings, WrittenFor, warnings_of};
 use std::alloc::{AllocError, Global};
-use std::collections::BTreeSet;
+use std::collections::BTreeMap;
 
 /// The templates of a page, with their paths in the same order.
 #[derive(Drop)]
 pub struct PageTemplates<'p> {
     pub paths: Vec<&'p str>,
     files: Vec<CheckedFile<'p>>,
+    /// The names of the partials, each with the place of its file.
+    names: Vec<(String, usize)>,
     /// How many bytes their texts have, and how many nodes there are.
     pub bytes: usize,
     pub nodes: usize,
@@ -30,11 +32,12 @@ impl<'p> PageTemplates<'p> {
         let mut page = PageTemplates {
             paths: Vec::new(alloc),
             files: Vec::new(alloc),
+            names: Vec::new(alloc),
             bytes: 0,
             nodes: 0,
         };
         page.add(source.path.as_str(), source.text.as_str(), template, true)?;
-        let mut seen = BTreeSet::new(alloc);
+        let mut seen: BTreeMap<&str, usize> = BTreeMap::new(alloc);
         for (name, slot) in partials.slots() {
             let Some(template) = slot else {
                 continue;
@@ -42,8 +45,14 @@ impl<'p> PageTemplates<'p> {
             let Some(source) = sources.partial_named(name.as_str()) else {
                 continue;
             };
-            if seen.insert(source.path.as_str())? {
-                page.add(source.path.as_str(), source.text.as_str(), template, false)?;
+            let path = source.path.as_str();
+            if !seen.contains_key(path) {
+                drop(seen.insert(path, page.files.len())?);
+                page.add(path, source.text.as_str(), template, false)?;
+            }
+            if let Some(place) = seen.get(path) {
+                let name = String::from_str(alloc, name.as_str())?;
+                page.names.push((name, *place))?;
             }
         }
         Ok(page)
@@ -69,7 +78,7 @@ impl<'p> PageTemplates<'p> {
 
     /// What `check -d` warns of in these files of a language, which are written for an engine, over
     /// this data, and their page shows silently: a list for each file, without warnings about
-    /// partials and attributes. The fault is `Memory`.
+    /// attributes. The fault is `Memory`.
     pub fn warnings_over<'d>(
         &self,
         alloc: Global,
@@ -82,7 +91,7 @@ impl<'p> PageTemplates<'p> {
             data: Some(data),
             language,
             written_for,
-            partials: None,
+            partials: Some(&self.names),
             attributes: false,
         };
         let all = warnings_of(alloc, &self.files, given)?;

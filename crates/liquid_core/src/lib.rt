@@ -26,7 +26,8 @@ pub use host_filters::{HostFilters, NamedFilters};
 pub use interrupt::Interrupt;
 pub use liquid_model::{
     Error, ErrorKind, Filter, Found, ItemUse, Location, Object, Origin, Quoted, Result, Use, Uses,
-    Value, ValueCow, copy_items, excerpt, line_of, look_up, member_of, store, value_size, whole_of,
+    Value, ValueCow, copy_items, copy_object, excerpt, line_of, look_up, member_of, store,
+    value_size, whole_of,
 };
 pub use missing_value::Missing;
 pub use resolved::{DirectValue, Resolved, Scopes};

@@ -1,5 +1,6 @@
 -- The names of files.
 --     joined_path folder inner      the path of what stands in a folder
+--     suffix_parts name      the name and the suffix of its last part, where that has one
 --     without_suffix name      the name without the suffix of its last part, where that has one
 --     named_file word      the name and the file of a word NAME=FILE
 use Rattle.std.specs.Prelude.{ℕ, Bool, ◌&&◌, ◌-◌, ◌==◌, not, cond, length, slice_index, nat_lt}
@@ -23,13 +24,16 @@ abbrev pub are_names : Text → Text → Bool
 are_names stem suffix = not (length stem == 0) && (not (ends_with_slash stem)
     && list_all is_no_slash suffix)
 
-abbrev pub stem_of : Option (Text × Text) → Option Text
-stem_of None = None
-stem_of (Some p) = cond (are_names p.0 p.1) (Some p.0) None
+abbrev pub if_names : Option (Text × Text) → Option (Text × Text)
+if_names None = None
+if_names (Some p) = cond (are_names p.0 p.1) (Some p) None
 
--- what stands before the last dot, where that begins a suffix
+-- what stands before and after the last dot, where that begins a suffix
+abbrev pub suffix_parts : Text → Option (Text × Text)
+suffix_parts name = if_names (rsplit_once dot name)
+
 abbrev pub without_suffix : Text → Option Text
-without_suffix name = stem_of (rsplit_once dot name)
+without_suffix name = option_map (λ p. p.0) (suffix_parts name)
 
 -- the texts before and after the first `=`
 abbrev pub named_file : Text → Option (Text × Text)

@@ -29,7 +29,7 @@ IsFound file (Err (Protected why)) = ⊥
 
 -- what setting the file at a path leaves: that file there and all other files, or, if it is
 -- refused, all files as they were
-abbrev pub IsSet : Text → File → Files → Result (Unit {0}) DiskFault → Option Files → Type 0
+abbrev pub IsSet : {E : Type 0} → Text → File → Files → Result (Unit {0}) E → Option Files → Type 0
 IsSet path file old (Ok u) new = new ≡ Some (with_file old path file)
 IsSet path file old (Err e) new = new ≡ Some old
 

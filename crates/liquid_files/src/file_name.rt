@@ -1,10 +1,10 @@
 //! The names of files: below a folder, without a suffix, and given by NAME=FILE.
 ghost use Rattle.std.specs.Prelude.{◌≡◌, ◌<◌, IfOk, option_map, string_bytes};
 ghost use Rattle.std.specs.List.{list_all};
-ghost use Rattle.std.specs.Path.{dot, rsplit_once};
+ghost use Rattle.std.specs.Path.{dot, rsplit_once, slash};
 ghost use Rattle.liquid_files.specs.FileNames.{are_names, ends_with_slash, is_no_slash};
 ghost use Rattle.liquid_files.specs.FileNames.{joined_path, named_file, parts_view};
-ghost use Rattle.liquid_files.specs.FileNames.{without_suffix};
+ghost use Rattle.liquid_files.specs.FileNames.{suffix_parts, without_suffix};
 
 use std::alloc::{AllocError, Global};
 
@@ -27,10 +27,28 @@ pub fn joined_path(alloc: Global, folder: &str, inner: &str) -> Result<String, A
 pub fn without_suffix(name: &str) -> Option<&str>
     ensures { option_map (λ stem. stem.now) result ≡ without_suffix name.now }
 {
+    match suffix_parts(name) {
+        Some((stem, _)) => Some(stem),
+        None => None,
+    }
+}
+
+/// A name and the suffix of its last part, where that has one with something before it. It takes no
+/// memory.
+pub fn suffix_parts(name: &str) -> Option<(&str, &str)>
+    ensures { parts_view result ≡ suffix_parts name.now }
+{
     match cut_last(name, '.') {
-        Some((stem, suffix)) if are_names(stem, suffix) => Some(stem),
+        Some((stem, suffix)) if are_names(stem, suffix) => Some((stem, suffix)),
         _ => None,
     }
+}
+
+/// The folder and the name of a path, at its last slash. It takes no memory.
+pub fn folder_and_name(path: &str) -> Option<(&str, &str)>
+    ensures { parts_view result ≡ rsplit_once slash path.now }
+{
+    cut_last(path, '/')
 }
 
 /// The name and the file of a word NAME=FILE, at its first `=`. It takes no memory.

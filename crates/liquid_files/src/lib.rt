@@ -35,7 +35,7 @@ pub use entry::{
 };
 pub use excerpt::Excerpt;
 pub use fault_words::{reason_words, system_words, unwritten_words};
-pub use file_name::{joined_path, named_file, without_suffix};
+pub use file_name::{folder_and_name, joined_path, named_file, suffix_parts, without_suffix};
 pub use foreign::{Foreign, foreign_of, foreign_words};
 pub use full::refuses_every_file;
 pub use host::SystemFiles;

@@ -49,6 +49,6 @@ pub use scan::{in_word, is_white, number_len};
 pub use size::value_size;
 pub use text::write_text;
 pub use uses::{ItemUse, Use, Uses, includes_all, member_of};
-pub use value::{Object, Value, copy_items};
+pub use value::{Object, Value, copy_items, copy_object};
 pub use whole::whole_of;
 pub use word_laws::front_laws;

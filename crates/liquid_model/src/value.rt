@@ -115,3 +115,10 @@ pub fn copy_items(alloc: Global, list: &Vec<Value>) -> Result<Vec<Value>>
 {
     copied_items(alloc, list)
 }
+
+/// An equal map that owns its parts.
+pub fn copy_object(alloc: Global, object: &Object) -> Result<Object>
+    ensures { IsValueOrMemory (λ m. pairs_view m.entries) result (pairs_view object.now.entries) }
+{
+    copied_pairs(alloc, object)
+}

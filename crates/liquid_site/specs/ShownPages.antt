@@ -3,8 +3,9 @@
 --       right for it
 use Rattle.std.specs.Prelude.{◌≡◌, ⊤, List, [], ◌∷◌}
 use Rattle.liquid_model.specs.Texts.{Text}
-use Rattle.liquid_engine.specs.LimitedPages.{PageWithin}
+use Rattle.liquid_engine.specs.LimitedPages.{ShownWithin}
 use Rattle.liquid_engine.specs.Pages.{Shown, page_view}
+use Rattle.liquid_engine.specs.declared.limits.Limits.{Limits}
 use Rattle.liquid_engine.specs.declared.rendered_page.LimitedPage.{LimitedPage}
 use Rattle.liquid_engine.specs.declared.rendered_page.Page.{Page}
 use Rattle.liquid_site.specs.Contents.{Pages}
@@ -19,6 +20,6 @@ module _ {P : Type 0} where
   AreShown shows (w ∷ ws) (p ∷ ps) = (w.0 ≡ p.0) × shows w.1 p.1 × AreShown shows ws ps
   AreShown shows _ _ = ⊥
 
--- within limits: each page is its whole page, or a beginning of it that a limit ended
-abbrev pub AreWithin : Pages → List (Text × LimitedPage) → Type 0
-AreWithin wholes pages = AreShown PageWithin wholes pages
+-- within limits: each page is its whole page, or a beginning of it that one of them ended
+abbrev pub AreWithin : Limits → Pages → List (Text × LimitedPage) → Type 0
+AreWithin limits wholes pages = AreShown (ShownWithin limits) wholes pages

@@ -1,6 +1,6 @@
 -- Two proofs that pages are within limits are equal.
 use Rattle.std.specs.Prelude.{◌≡◌, ◌++◌, Bool, true, false, T, List, [], ◌∷◌}
-use Rattle.std.specs.Prelude.{Option, None, Some, IsSome, is_some, refl}
+use Rattle.std.specs.Prelude.{Option, None, Some, IfSome, IsSome, is_some, length, refl}
 use Rattle.std.specs.Coded.{Coded, Coded-set, code_by, coded_bool, coded_option, ×_prop, Unit-prop}
 use Rattle.std.proofs.lemmas.List.{append_cancel_left}
 use mathlib.Core.HLevel.{×₃_prop, Σ_prop_path}
@@ -8,8 +8,10 @@ use mathlib.Core.Logic.{inl, inr}
 use mathlib.Core.Path.{sym, ap, subst, ◌∙◌}
 use Rattle.liquid_model.specs.Texts.{Text}
 use Rattle.liquid_model.specs.declared.error.ErrorKind.TheVariants.{Write}
-use Rattle.liquid_engine.specs.LimitedPages.{IsPrefixOf, PageWithin}
+use Rattle.liquid_engine.specs.LimitedPages.{IsPrefixOf, PageWithin, ShownWithin}
 use Rattle.liquid_engine.specs.Pages.{Shown, page_view}
+use Rattle.liquid_engine.specs.Limits.{is_limited_by, is_within_limit}
+use Rattle.liquid_engine.specs.declared.limits.Limits.{Limits}
 use Rattle.liquid_engine.specs.declared.limits.LimitReached.{LimitReached}
 use Rattle.liquid_engine.specs.declared.limits.LimitReached.TheVariants.{Bytes, Turns}
 use Rattle.liquid_engine.specs.declared.rendered_page.LimitedPage.{LimitedPage}
@@ -51,9 +53,21 @@ PageWithin-prop whole p (inr a) (inr b) = ap inr (×₃_prop
 PageWithin-prop whole p (inl a) (inr b) = absurd (none_is p.limit a.0 b.0)
 PageWithin-prop whole p (inr a) (inl b) = absurd (none_is p.limit b.0 a.0)
 
-pub AreWithin-prop : (ws : Pages) (ps : List (Text × LimitedPage)) → IsProp (AreWithin ws ps)
-AreWithin-prop [] [] = Unit-prop
-AreWithin-prop (w ∷ ws) (p ∷ ps) = ×₃_prop (Coded-set text_code w.0 p.0)
-    (PageWithin-prop w.1 p.1) (AreWithin-prop ws ps)
-AreWithin-prop [] (p ∷ ps) = λ a b. absurd a
-AreWithin-prop (w ∷ ws) [] = λ a b. absurd a
+is_given-prop : (limits : Limits) (o : Option LimitReached)
+    → IsProp (IfSome o (λ reached. is_limited_by reached limits ≡ true))
+is_given-prop limits None = Unit-prop
+is_given-prop limits (Some reached) = Coded-set coded_bool (is_limited_by reached limits) true
+
+pub ShownWithin-prop : (limits : Limits) (whole : Shown) (p : LimitedPage)
+    → IsProp (ShownWithin limits whole p)
+ShownWithin-prop limits whole p = ×_prop (PageWithin-prop whole p) (×_prop
+    (Coded-set coded_bool (is_within_limit (length (page_view p.page).text) limits.bytes) true)
+    (is_given-prop limits p.limit))
+
+pub AreWithin-prop : (limits : Limits) (ws : Pages) (ps : List (Text × LimitedPage))
+    → IsProp (AreWithin limits ws ps)
+AreWithin-prop limits [] [] = Unit-prop
+AreWithin-prop limits (w ∷ ws) (p ∷ ps) = ×₃_prop (Coded-set text_code w.0 p.0)
+    (ShownWithin-prop limits w.1 p.1) (AreWithin-prop limits ws ps)
+AreWithin-prop limits [] (p ∷ ps) = λ a b. absurd a
+AreWithin-prop limits (w ∷ ws) [] = λ a b. absurd a

@@ -22,8 +22,8 @@ use std::collections::BTreeMap;
 pub struct LimitedSite {
     limits: Limits,
     parts: SiteParts<LimitedPage>,
-    ghost kept: { AreWithin (pages_from_scratch (site_parts_view parts).contents)
-        (by_name parts.pages) } by { AreWithin-prop
+    ghost kept: { AreWithin limits (pages_from_scratch (site_parts_view parts).contents)
+        (by_name parts.pages) } by { AreWithin-prop limits
             (pages_from_scratch (site_parts_view parts).contents) (by_name parts.pages) },
 }
 
@@ -94,10 +94,10 @@ impl LimitedSite {
     }
 
     /// The pages by name: each is what rendering it from nothing would show, or a beginning of that
-    /// which a limit ended.
+    /// which a limit of this site's ended, and none is longer than that limit.
     pub fn pages(&self) -> &BTreeMap<String, LimitedPage>
-        ensures { AreWithin (pages_from_scratch (limited_view self.now).contents)
-            (by_name result.now) }
+        ensures { AreWithin (limits_of self.now)
+            (pages_from_scratch (limited_view self.now).contents) (by_name result.now) }
     {
         &self.parts.pages
     }

@@ -94,8 +94,8 @@ impl<P: Drop> SiteParts<P> {
 
     /// Applies a change. A refused one changes nothing.
     pub(crate) fn apply<R: Rendering<P>>(&mut self, rendering: &R, change: Change) -> Result<()>
-        requires { KeepsPages R.shows self.old }
-        ensures keeps { KeepsPages R.shows self.new }
+        requires { KeepsPages (R.shows rendering.now) self.old }
+        ensures keeps { KeepsPages (R.shows rendering.now) self.new }
         ensures applied { AppliesTo change result (site_parts_view self.old)
             (site_parts_view self.new) }
         ensures language { (site_parts_view self.new).language ≡
@@ -144,8 +144,8 @@ impl<P: Drop> SiteParts<P> {
         name: String,
         template: Template,
     ) -> Result<()>
-        requires { KeepsPages R.shows self.old }
-        ensures keeps { KeepsPages R.shows self.new }
+        requires { KeepsPages (R.shows rendering.now) self.old }
+        ensures keeps { KeepsPages (R.shows rendering.now) self.new }
         ensures set { IsValueOrMemory (λ _. (site_parts_view self.new).contents) result
             (record (site_parts_view self.old).contents {
               pages = put_entry (string_bytes name) (tree_of template)
@@ -201,8 +201,8 @@ impl<P: Drop> SiteParts<P> {
         held: Option<Template>,
     ) -> Result<()>
         requires slot { IsSome (listed (slots_of self.old.partials) name.now) }
-        requires shown { KeepsPages R.shows self.old }
-        ensures keeps { KeepsPages R.shows self.new }
+        requires shown { KeepsPages (R.shows rendering.now) self.old }
+        ensures keeps { KeepsPages (R.shows rendering.now) self.new }
         ensures set { IsValueOrMemory (λ _. (site_parts_view self.new).contents) result
             (record (site_parts_view self.old).contents {
               partials = exchanged name.now
@@ -246,8 +246,8 @@ impl<P: Drop> SiteParts<P> {
         name: &str,
         value: Option<Value>,
     ) -> Result<()>
-        requires { KeepsPages R.shows self.old }
-        ensures keeps { KeepsPages R.shows self.new }
+        requires { KeepsPages (R.shows rendering.now) self.old }
+        ensures keeps { KeepsPages (R.shows rendering.now) self.new }
         ensures set { IsValueOrMemory (λ _. (site_parts_view self.new).contents) result
             (record (site_parts_view self.old).contents {
               «data» = with_value (site_parts_view self.old).contents.«data»
@@ -271,8 +271,8 @@ impl<P: Drop> SiteParts<P> {
     /// Puts other data in the place of its own, and renders again the pages that can see a
     /// difference.
     fn change_data<R: Rendering<P>>(&mut self, rendering: &R, data: Object) -> Result<()>
-        requires { KeepsPages R.shows self.old }
-        ensures keeps { KeepsPages R.shows self.new }
+        requires { KeepsPages (R.shows rendering.now) self.old }
+        ensures keeps { KeepsPages (R.shows rendering.now) self.new }
         ensures set { IsValueOrMemory (λ _. (site_parts_view self.new).contents) result
             (record (site_parts_view self.old).contents { «data» = held «data» }) }
         ensures counted { OnOk result ((site_parts_view self.new).rendered ≡ saturated_sum
@@ -306,8 +306,8 @@ impl<P: Drop> SiteParts<P> {
             page_by (site_parts_view self.old).contents.setting
             (site_parts_view self.old).contents.partials
             (held «data») nodes ≡ page_of (site_parts_view self.old).contents nodes }
-        requires shown { KeepsPages R.shows self.old }
-        ensures keeps { KeepsPages R.shows self.new }
+        requires shown { KeepsPages (R.shows rendering.now) self.old }
+        ensures keeps { KeepsPages (R.shows rendering.now) self.new }
         ensures set { IsValueOrMemory (λ _. (site_parts_view self.new).contents) result
             (record (site_parts_view self.old).contents { «data» = held «data» }) }
         ensures counted { OnOk result ((site_parts_view self.new).rendered ≡ saturated_sum

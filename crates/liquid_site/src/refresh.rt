@@ -37,7 +37,7 @@ pub(crate) fn rendered_pages<P: Drop, R: Rendering<P>>(
     context: &RenderContext<'_, R>,
     selection: Selection<'_>,
 ) -> Result<Vec<(String, P)>>
-    ensures pages { IfOk result (λ v. AreShown R.shows
+    ensures pages { IfOk result (λ v. AreShown (R.shows context.now.rendering.now)
         (all_pages (page_by context.now.setting (partials_of context.now.partials.now)
         (held context.now.«data».now))
         (selected (selects selection.entry) (trees_in templates.now)))
@@ -63,7 +63,7 @@ fn rendered_page<P: Drop, R: Rendering<P>>(
     context: &RenderContext<'_, R>,
 ) -> Result<(String, P)>
     ensures name { IfOk result (λ p. string_bytes p.0 ≡ name.now) }
-    ensures page { IfOk result (λ p. R.shows (page_by context.now.setting
+    ensures page { IfOk result (λ p. R.shows context.now.rendering.now (page_by context.now.setting
         (partials_of context.now.partials.now) (held context.now.«data».now)
         (tree_of template.now)) p.1) }
     ensures memory { IfErr result (λ e. e.kind ≡ ErrorKind.Memory) }

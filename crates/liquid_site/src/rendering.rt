@@ -2,7 +2,7 @@
 ghost use Rattle.std.specs.Prelude.{◌≡◌, IfOk, IfErr};
 ghost use Rattle.liquid_core.specs.Held.{held};
 ghost use Rattle.liquid_syntax.specs.Templates.{tree_of, partials_of};
-ghost use Rattle.liquid_engine.specs.LimitedPages.{PageWithin};
+ghost use Rattle.liquid_engine.specs.LimitedPages.{ShownWithin};
 ghost use Rattle.liquid_engine.specs.Pages.{Shown, page_by};
 ghost use Rattle.liquid_site.specs.ShownPages.{IsWhole};
 
@@ -15,8 +15,8 @@ use std::alloc::Global;
 
 /// Renders the pages of a site.
 pub(crate) trait Rendering<P> {
-    // That a page is right for a template whose whole page this is.
-    ghost shows: { Shown → P → Type 0 };
+    // That a page, rendered so, is right for a template whose whole page this is.
+    ghost shows: { Self → Shown → P → Type 0 };
 
     /// The page of a template in a new run over this data. The answer is `Memory` where a growth
     /// was refused, and no other kind.
@@ -28,8 +28,8 @@ pub(crate) trait Rendering<P> {
         setting: RunSetting,
         data: &Object,
     ) -> Result<P>
-        ensures page { IfOk result (λ page. shows (page_by setting (partials_of partials.now)
-            (held «data».now) (tree_of template.now)) page) }
+        ensures page { IfOk result (λ page. shows self.now (page_by setting
+            (partials_of partials.now) (held «data».now) (tree_of template.now)) page) }
         ensures memory { IfErr result (λ e. e.kind ≡ ErrorKind.Memory) };
 }
 
@@ -37,7 +37,7 @@ pub(crate) trait Rendering<P> {
 pub(crate) struct WholePages;
 
 impl Rendering<Page> for WholePages {
-    ghost shows = { λ whole page. IsWhole whole page };
+    ghost shows = { λ rendering whole page. IsWhole whole page };
 
     fn page(
         &self,
@@ -52,7 +52,7 @@ impl Rendering<Page> for WholePages {
 }
 
 impl Rendering<LimitedPage> for Limits {
-    ghost shows = { λ whole page. PageWithin whole page };
+    ghost shows = { λ limits whole page. ShownWithin limits whole page };
 
     fn page(
         &self,

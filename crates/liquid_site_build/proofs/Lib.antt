@@ -1,3 +1,10 @@
+pub mod ChainTurns
 pub mod Chained
+pub mod Left
+pub mod Lists
 pub mod OneReading
+pub mod Owners
+pub mod Puts
+pub mod Taken
 pub mod Untouched
+pub mod Whole

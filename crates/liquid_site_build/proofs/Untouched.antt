@@ -45,7 +45,7 @@ put_alike U ps qs name d alike = put_in_both U ps qs name d d alike (alike_same 
 layout_alike : (U : Uses) (ps qs : Pairs) (content : Text) (l : SiteText) → AlikePairs U ps qs → AlikePairs U (layout_scope ps content l) (layout_scope qs content l)
 layout_alike U ps qs content l alike = put_alike U _ _ (codes "layout") (object l.front) (put_alike U ps qs (codes "content") (text content) alike)
 
-laid_out_fault : (rules : SiteRules) (s : SiteSources) (m : Pairs) (ls : List SiteText) (why : PageFault) → laid_out rules s m ls (Err why) ≡ Err why
+pub laid_out_fault : (rules : SiteRules) (s : SiteSources) (m : Pairs) (ls : List SiteText) (why : PageFault) → laid_out rules s m ls (Err why) ≡ Err why
 laid_out_fault rules s m [] why = refl
 laid_out_fault rules s m (l ∷ ls) why = refl
 

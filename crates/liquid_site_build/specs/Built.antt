@@ -88,10 +88,13 @@ abbrev pub put_collections : (SiteDocument → Pairs) → List (Text × SiteText
 put_collections view [] ps = ps
 put_collections view (c ∷ cs) ps = put_collections view cs (put c.0 (listed_by view c.1) ps)
 
+abbrev pub with_pages : SiteSources → Pairs → Pairs
+with_pages s ps = put (codes "data") (object s.«data») (put (codes "pages")
+    (listed_by about s.pages) ps)
+
 -- `site`: the configuration's members; over them the collections, `pages` and `data`
 abbrev pub site_pairs : (SiteDocument → Pairs) → SiteSources → Pairs
-site_pairs view s = put (codes "data") (object s.«data») (put (codes "pages")
-    (listed_by about s.pages) (put_collections view s.collections s.config))
+site_pairs view s = with_pages s (put_collections view s.collections s.config)
 
 -- what a text sees: `page`, its own members, and `site`
 abbrev pub scope_of : Pairs → Pairs → Pairs
@@ -155,12 +158,12 @@ pub record DocumentOutcome : Type 0 where
 abbrev pub outcome_by : (SiteDocument → PageOutcome) → SiteDocument → DocumentOutcome
 outcome_by f d = record { source = d.0; file = document_file d.0 d.1.front; outcome = f d }
 
-abbrev pub collection_outcomes : (SiteDocument → PageOutcome) → List (Text × SiteTexts) →
-    List DocumentOutcome
-collection_outcomes f [] = []
-collection_outcomes f (c ∷ cs) = map (outcome_by f) c.1 ++ collection_outcomes f cs
+-- the documents of all collections, one collection after another
+abbrev pub documents_of : List (Text × SiteTexts) → SiteTexts
+documents_of [] = []
+documents_of (c ∷ cs) = c.1 ++ documents_of cs
 
 -- pages, and then the documents of each collection
 abbrev pub outcomes : SiteRules → SiteSources → List DocumentOutcome
 outcomes rules s = map (outcome_by (site_page_outcome rules s)) s.pages
-    ++ collection_outcomes (document_outcome rules s) s.collections
+    ++ map (outcome_by (document_outcome rules s)) (documents_of s.collections)

@@ -1,7 +1,11 @@
 pub mod Addresses
 pub mod Built
 pub mod Chains
+pub mod Conversions
 pub mod Kept
+pub mod OutcomeViews
 pub mod SiteFiles
+pub mod SourceViews
 pub mod Sources
 pub mod Written
+pub mod inside

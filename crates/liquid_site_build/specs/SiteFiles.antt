@@ -1,14 +1,16 @@
 -- What a site is read as from its files, by their paths below the site's folder.
 --     SiteForm      the names of the folders, and what a data file gives
 --     part_at form path      which part of a site a file is
---     AreRead form l files s refused      these files are read as s, and those are refused
+--     AreRead setting form l files s refused      these files are read as s, and those are refused
 --     OneReading      there is one such reading at most
-use Rattle.std.specs.Prelude.{◌≡◌, ◌==◌, ◌||◌, Bool, cond, List, [], ◌∷◌, ◌++◌}
-use Rattle.std.specs.Prelude.{length, drop, bytes_eq, slice_index}
+use Rattle.std.specs.Prelude.{◌≡◌, ◌-◌, ◌==◌, ◌||◌, ◌&&◌, not, nat_le, nat_lt, Bool, true, false}
+use Rattle.std.specs.Prelude.{cond, List, [], ◌∷◌, ◌++◌, length, take, drop, bytes_eq, codes}
+use Rattle.std.specs.Prelude.{slice_index}
 use Rattle.std.specs.Prelude.{Option, Some, None, Result, Ok, Err}
-use Rattle.std.specs.List.{list_any, slice_split, starts_with}
+use Rattle.std.specs.List.{list_any, slice_split}
 use Rattle.std.specs.Path.{slash}
-use Rattle.liquid_model.specs.Data.{Datum, Pairs, no_pairs, put}
+use Rattle.liquid_model.specs.Data.{Datum, truth, Pairs, no_pairs, put}
+use Rattle.liquid_model.specs.Find.{value_at}
 use Rattle.liquid_model.specs.Texts.{Text}
 use Rattle.liquid_model.specs.declared.error.ErrorKind.{ErrorKind}
 use Rattle.liquid_engine.specs.declared.run_setting.RunSetting.{RunSetting}
@@ -22,15 +24,17 @@ use Rattle.liquid_site_build.specs.Sources.{put_page, put_document, put_layout, 
 use Rattle.liquid_site_build.specs.Sources.{put_static}
 
 -- The folders of layouts, partials and data, each with a slash at its end; the folders of the
--- collections, with the names of these; the configuration's path; and the data of a file by its
--- path: JSON, TOML or CSV.
+-- collections, with the names of these; the configuration's path; which files and folders are left
+-- out, and which names count although they are hidden; and the data of a file by its
+-- name below the folder of data.
 pub record SiteForm : Type 0 where
-  pub setting : RunSetting
   pub layouts : Text
   pub partials : Text
   pub «data» : Text
   pub collections : List (Text × Text)
   pub config : Text
+  pub excluded : List Text
+  pub included : List Text
   pub data_read : Text → Text → Result Datum ErrorKind
   pub config_read : Text → Result Pairs ErrorKind
   -- a name without its suffix
@@ -46,7 +50,8 @@ pub data SitePart : Type 0 where
   left_out : SitePart
 
 abbrev pub is_below : Text → Text → Bool
-is_below folder path = starts_with (λ a b. a == b) path folder
+is_below folder path = nat_le (length folder) (length path)
+    && bytes_eq (take (length folder) path) folder
 
 abbrev pub below : Text → Text → Text
 below folder path = drop (length folder) path
@@ -55,21 +60,37 @@ below folder path = drop (length folder) path
 abbrev pub is_hidden_part : Text → Bool
 is_hidden_part name = (slice_index name 0 == 95) || (slice_index name 0 == 46)
 
-abbrev pub page_unless_hidden : Text → SitePart
-page_unless_hidden path =
-    cond (list_any is_hidden_part (slice_split (λ b. b == slash) path)) left_out page_file
+-- unless it is named so
+abbrev pub is_hidden_by : List Text → Text → Bool
+is_hidden_by included name = is_hidden_part name && not (list_any (bytes_eq name) included)
 
-abbrev pub document_part : List (Text × Text) → Text → SitePart
-document_part [] path = page_unless_hidden path
-document_part (c ∷ cs) path = cond (is_below c.0 path) (document_file_of c.1)
-    (document_part cs path)
+abbrev pub page_unless_hidden : List Text → Text → SitePart
+page_unless_hidden included path =
+    cond (list_any (is_hidden_by included) (slice_split (λ b. b == slash) path)) left_out page_file
+
+abbrev pub document_part : List Text → List (Text × Text) → Text → SitePart
+document_part included [] path = page_unless_hidden included path
+document_part included (c ∷ cs) path = cond (is_below c.0 path) (document_file_of c.1)
+    (document_part included cs path)
+
+abbrev pub ends_in_slash : Text → Bool
+ends_in_slash s = nat_lt 0 (length s) && slice_index s (length s - 1) == slash
+
+abbrev pub is_at_end : Text → Bool
+is_at_end [] = true
+is_at_end (b ∷ bs) = b == slash
+
+-- the file or folder e, with or without a slash at its end, is the path or stands around it
+abbrev pub is_within : Text → Text → Bool
+is_within path e = is_below e path && (ends_in_slash e || is_at_end (below e path))
 
 abbrev pub part_at : SiteForm → Text → SitePart
 part_at form path = cond (bytes_eq path form.config) config_file
-    (cond (is_below form.«data» path) (data_file (form.stem (below form.«data» path)))
+    (cond (list_any (is_within path) form.excluded) left_out
+    (cond (is_below form.«data» path) (data_file (below form.«data» path))
     (cond (is_below form.layouts path) (layout_file (form.stem (below form.layouts path)))
     (cond (is_below form.partials path) (partial_file (below form.partials path))
-    (document_part form.collections path))))
+    (document_part form.included form.collections path)))))
 
 -- ---- what a file adds
 
@@ -77,14 +98,15 @@ pub data SourceRefusal : Type 0 where
   no_front : ErrorKind → SourceRefusal
   no_template : SourceRefusal
   no_data : ErrorKind → SourceRefusal
+  no_text : SourceRefusal
 
 -- the collections that the folders are named for, without documents
-abbrev pub named_collections : List (Text × Text) → List (Text × SiteTexts)
-named_collections [] = []
-named_collections (c ∷ cs) = put_entry c.1 [] (named_collections cs)
+abbrev pub named_after : List (Text × SiteTexts) → List (Text × Text) → List (Text × SiteTexts)
+named_after before [] = before
+named_after before (c ∷ cs) = named_after (put_entry c.1 [] before) cs
 
-abbrev pub empty_site : SiteForm → SiteSources
-empty_site form = no_sources form.setting (named_collections form.collections)
+abbrev pub empty_site : RunSetting → SiteForm → SiteSources
+empty_site setting form = no_sources setting (named_after [] form.collections)
 
 -- a text of the site, with the members before it and its template
 abbrev pub text_with : Pairs → Nodes → SiteText
@@ -98,12 +120,25 @@ AddsTemplate l source add old new None =
 AddsTemplate l source add old new (Some why) =
     HasNoTree l source × (new ≡ old) × (why ≡ no_template)
 
+-- a text is left out where its member `published` is false
+abbrev pub published_by : Option Datum → Bool
+published_by (Some (truth b)) = b
+published_by _ = true
+
+abbrev pub is_published : Pairs → Bool
+is_published front = published_by (value_at (codes "published") front)
+
+abbrev pub AddsPublished : Bool → Type 0 → SiteSources → SiteSources → Option SourceRefusal →
+    Type 0
+AddsPublished true Adds old new why = Adds
+AddsPublished false Adds old new why = (new ≡ old) × (why ≡ None)
+
 -- a text with front matter, what it adds; without any, what it adds as it stands
 abbrev pub AddsFront : Language → Result (Option Front) ErrorKind →
     (Pairs → Nodes → SiteSources) → SiteSources → SiteSources → SiteSources →
     Option SourceRefusal → Type 0
-AddsFront l (Ok (Some f)) add plain old new why =
-    AddsTemplate l f.body (add f.members) old new why
+AddsFront l (Ok (Some f)) add plain old new why = AddsPublished (is_published f.members)
+    (AddsTemplate l f.body (add f.members) old new why) old new why
 AddsFront l (Ok None) add plain old new why = (new ≡ plain) × (why ≡ None)
 AddsFront l (Err kind) add plain old new why = (new ≡ old) × (why ≡ Some (no_front kind))
 
@@ -125,8 +160,8 @@ abbrev pub AddsSitePart : SiteForm → Language → Text → Text → SitePart �
     Option SourceRefusal → Type 0
 AddsSitePart form l path source config_file old new why =
     AddsData (form.config_read source) (λ ps. record old { config = ps }) old new why
-AddsSitePart form l path source (data_file name) old new why = AddsData (form.data_read path source)
-    (λ d. record old { «data» = put name d old.«data» }) old new why
+AddsSitePart form l path source (data_file name) old new why = AddsData (form.data_read name source)
+    (λ d. record old { «data» = put (form.stem name) d old.«data» }) old new why
 AddsSitePart form l path source (layout_file name) old new why =
     AddsLayout l name source (front_matter_of source) old new why
 AddsSitePart form l path source (partial_file name) old new why =
@@ -139,6 +174,20 @@ AddsSitePart form l path source page_file old new why =
     (put_static path old) old new why
 AddsSitePart form l path source left_out old new why = (new ≡ old) × (why ≡ None)
 
+-- a file that is no text is written as it is where a page could stand
+abbrev pub AddsBytes : Text → SitePart → SiteSources → SiteSources → Option SourceRefusal → Type 0
+AddsBytes path (document_file_of name) old new why = (new ≡ put_static path old) × (why ≡ None)
+AddsBytes path page_file old new why = (new ≡ put_static path old) × (why ≡ None)
+AddsBytes path left_out old new why = (new ≡ old) × (why ≡ None)
+AddsBytes path _ old new why = (new ≡ old) × (why ≡ Some no_text)
+
+-- what a file adds, a text or none
+abbrev pub AddsFile : SiteForm → Language → Text → Option Text → SiteSources → SiteSources →
+    Option SourceRefusal → Type 0
+AddsFile form l path (Some source) old new why =
+    AddsSitePart form l path source (part_at form path) old new why
+AddsFile form l path None old new why = AddsBytes path (part_at form path) old new why
+
 -- ---- all files, in the order of their paths
 
 -- a refused file, and why
@@ -146,20 +195,21 @@ abbrev pub refused_by : Text → Option SourceRefusal → List (Text × SourceRe
 refused_by path None = []
 refused_by path (Some why) = (path, why) ∷ []
 
-abbrev pub AddsFiles : SiteForm → Language → List (Text × Text) → SiteSources → SiteSources →
+abbrev pub AddsFiles : SiteForm → Language → List (Text × Option Text) → SiteSources → SiteSources →
     List (Text × SourceRefusal) → Type 0
 AddsFiles form l [] old new refused = (new ≡ old) × (refused ≡ [])
 AddsFiles form l (f ∷ fs) old new refused = (next : SiteSources) × (why : Option SourceRefusal) ×
     (later : List (Text × SourceRefusal)) ×
-    AddsSitePart form l f.0 f.1 (part_at form f.0) old next why ×
+    AddsFile form l f.0 f.1 old next why ×
     AddsFiles form l fs next new later × (refused ≡ refused_by f.0 why ++ later)
 
-abbrev pub AreRead : SiteForm → Language → List (Text × Text) → SiteSources →
+abbrev pub AreRead : RunSetting → SiteForm → Language → List (Text × Option Text) → SiteSources →
     List (Text × SourceRefusal) → Type 0
-AreRead form l files s refused = AddsFiles form l files (empty_site form) s refused
+AreRead setting form l files s refused =
+    AddsFiles form l files (empty_site setting form) s refused
 
 -- the files alone say what a site is read as, and which of them are refused
 abbrev pub OneReading : Type 0
-OneReading = (form : SiteForm) (l : Language) (files : List (Text × Text)) (s t : SiteSources)
-    (p q : List (Text × SourceRefusal)) → AreRead form l files s p → AreRead form l files t q →
-    (s ≡ t) × (p ≡ q)
+OneReading = (setting : RunSetting) (form : SiteForm) (l : Language)
+    (files : List (Text × Option Text)) (s t : SiteSources) (p q : List (Text × SourceRefusal)) →
+    AreRead setting form l files s p → AreRead setting form l files t q → (s ≡ t) × (p ≡ q)

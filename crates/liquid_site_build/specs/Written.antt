@@ -1,8 +1,8 @@
 -- What is written of a site that is built.
 --     build rules s      the files, by their paths below the folder that is written to
 --     faults rules s      the sources that have none, and why
-use Rattle.std.specs.Prelude.{◌&&◌, Bool, cond, List, [], ◌∷◌, ◌++◌, map, bytes_eq, nat_le}
-use Rattle.std.specs.Prelude.{Option, Some, None, Result, Ok, Err}
+use Rattle.std.specs.Prelude.{◌&&◌, Bool, true, false, cond, List, [], ◌∷◌, ◌++◌, map, bytes_eq}
+use Rattle.std.specs.Prelude.{nat_le, Option, Some, None, Result, Ok, Err}
 use Rattle.std.specs.List.{list_all}
 use Rattle.std.specs.Cmp.Lexicographic.{slice_cmp}
 use Rattle.std.specs.Ordering.{match_ordering, nat_cmp}
@@ -34,8 +34,8 @@ abbrev pub document_output : DocumentOutcome → SiteOutput
 document_output o = record { source = o.source; file = o.file; made = file_with o.outcome }
 
 -- static files as they are, and what each document comes to
-abbrev pub outputs : SiteRules → SiteSources → List SiteOutput
-outputs rules s = map static_output s.statics ++ map document_output (outcomes rules s)
+abbrev pub outputs_of : SiteSources → List DocumentOutcome → List SiteOutput
+outputs_of s os = map static_output s.statics ++ map document_output os
 
 -- ---- which source has a file
 
@@ -43,30 +43,44 @@ outputs rules s = map static_output s.statics ++ map document_output (outcomes r
 abbrev pub is_written_name : Text → Bool
 is_written_name file = is_file_name file && list_all (λ b. nat_le 32 b) file
 
-abbrev pub first_path : Text → Option Text → Text
-first_path path None = path
-first_path path (Some other) = match_ordering (slice_cmp nat_cmp path other) path path other
+-- a path is before the other, where there is one
+abbrev pub is_first : Text → Option Text → Bool
+is_first path None = true
+is_first path (Some other) = match_ordering (slice_cmp nat_cmp path other) true false false
 
--- the first path, in their order, of the sources that are written to the file
+abbrev pub with_owner : SiteOutput → Text → Option Text → Option Text
+with_owner o file first =
+    cond (bytes_eq o.file file && is_first o.source first) (Some o.source) first
+
+abbrev pub first_written : Option Text → List SiteOutput → Text → Option Text
+first_written first [] file = first
+first_written first (o ∷ os) file = first_written (with_owner o file first) os file
+
+-- the first path of the sources that are written to the file
 abbrev pub owner : List SiteOutput → Text → Option Text
-owner [] file = None
-owner (o ∷ os) file =
-    cond (bytes_eq o.file file) (Some (first_path o.source (owner os file))) (owner os file)
+owner os file = first_written None os file
 
 abbrev pub unless_taken : Text → Option Text → Result SiteFile PageFault →
     Result SiteFile PageFault
 unless_taken source None r = r
 unless_taken source (Some path) r = cond (bytes_eq path source) r (Err (file_taken path))
 
--- where the file has its name, and no source before this one is written to it
-abbrev pub placed_output : List SiteOutput → SiteOutput → SiteOutput
-placed_output os o = record o {
-  made = cond (is_written_name o.file) (unless_taken o.source (owner os o.file) o.made)
-      (Err (leads_out o.file));
-}
+-- where no source before this one is written to its file
+abbrev pub unless_owned : (Text → Option Text) → SiteOutput → SiteOutput
+unless_owned owners o = record o { made = unless_taken o.source (owners o.file) o.made }
+
+-- and where the file has its name
+abbrev pub placed_by : (Text → Option Text) → SiteOutput → SiteOutput
+placed_by owners o =
+    cond (is_written_name o.file) (unless_owned owners o)
+    (record o { made = Err (leads_out o.file) })
 
 abbrev pub placed_outputs : List SiteOutput → List SiteOutput
-placed_outputs os = map (placed_output os) os
+placed_outputs os = map (placed_by (owner os)) os
+
+-- what each source of a site gives, in its place
+abbrev pub outputs : SiteRules → SiteSources → List SiteOutput
+outputs rules s = placed_outputs (outputs_of s (outcomes rules s))
 
 -- ---- files and faults
 
@@ -79,7 +93,7 @@ files_of [] = []
 files_of (o ∷ os) = file_from o.file o.made ++ files_of os
 
 abbrev pub build : SiteRules → SiteSources → List (Text × SiteFile)
-build rules s = files_of (placed_outputs (outputs rules s))
+build rules s = files_of (outputs rules s)
 
 abbrev pub fault_from : Text → Result SiteFile PageFault → List (Text × PageFault)
 fault_from source (Ok made) = []
@@ -90,4 +104,4 @@ faults_of [] = []
 faults_of (o ∷ os) = fault_from o.source o.made ++ faults_of os
 
 abbrev pub faults : SiteRules → SiteSources → List (Text × PageFault)
-faults rules s = faults_of (placed_outputs (outputs rules s))
+faults rules s = faults_of (outputs rules s)

@@ -100,7 +100,7 @@ without_below : {Y : Type 0} (a : Text) (es : List (Text × Y)) → AllAbove a e
 without_below a [] h = refl
 without_below a (e ∷ es) h = ap (λ b. cond b es (e ∷ without a es)) (above_other a e.0 h.0) ∙ ap (λ l. e ∷ l) (without_below a es h.1)
 
-absent_below : {Y : Type 0} (a : Text) (es : List (Text × Y)) → AllAbove a es → listed es a ≡ None
+pub absent_below : {Y : Type 0} (a : Text) (es : List (Text × Y)) → AllAbove a es → listed es a ≡ None
 unfolding listed
 absent_below a [] h = refl
 absent_below a (e ∷ es) h = ap (λ b. cond b (Some e.1) (listed es a)) (above_other a e.0 h.0) ∙ absent_below a es h.1

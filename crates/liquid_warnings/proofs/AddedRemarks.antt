@@ -31,6 +31,10 @@ adds_more p a b c more f grown are = record {
   is = All-append p f.added more f.is are;
 }
 
+-- more of the same sort
+pub adds_all_more : (p : Said → Type 0) (a b c : List Remark) → AddsRemarks (All p) a b → AddsRemarks (All p) b c → AddsRemarks (All p) a c
+adds_all_more p a b c f g = adds_more p a b c g.added f g.grown g.is
+
 -- one more
 pub adds_one : (p : Said → Type 0) (a b c : List Remark) (r : Remark) → AddsRemarks (All p) a b → c ≡ b ++ r ∷ [] → p (remark_view r) → AddsRemarks (All p) a c
 adds_one p a b c r f pushed is =

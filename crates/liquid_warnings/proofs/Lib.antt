@@ -4,4 +4,5 @@ pub mod FileWarnings
 pub mod HtmlPlaces
 pub mod RubyDifferences
 pub mod SeenLiterals
+pub mod SeenSteps
 pub mod SilentNodes

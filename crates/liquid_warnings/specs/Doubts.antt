@@ -7,6 +7,7 @@ use Rattle.std.specs.Prelude.{bytes_eq, codes}
 use Rattle.std.specs.List.{list_any}
 use Rattle.liquid_model.specs.Bytes.{is_digit}
 use Rattle.liquid_model.specs.Data.{Datum, nil, truth, number, text, array, object, Pairs}
+use Rattle.liquid_model.specs.Data.{Items as Listed, item}
 use Rattle.liquid_model.specs.Digest.{items_len, pairs_len}
 use Rattle.liquid_model.specs.Texts.{Text}
 use Rattle.liquid_filters.specs.DateSpelling.{read}
@@ -18,10 +19,15 @@ use Rattle.liquid_warnings.specs.declared.doubt.Want.TheVariants.{Present, Perha
 use Rattle.liquid_warnings.specs.declared.doubt.Want.TheVariants.{Searched, Contained, Number}
 use Rattle.liquid_warnings.specs.declared.doubt.Want.TheVariants.{Tested, Truth}
 use Rattle.liquid_warnings.specs.declared.doubt.Want.TheVariants.{NumberWord, TruthWord}
+use Rattle.liquid_warnings.specs.declared.doubt.Want.TheVariants.{Defaulted, Keyed, Shown}
+use Rattle.liquid_warnings.specs.declared.doubt.Want.TheVariants.{Sized, Word}
 
 -- a map lacks a key; a loop goes over what is no list and no map; it asks for items past the end
 -- of a list with this number of them; a text is no date; a text is compared with a number, or with
--- a truth value; one of these with a text; a condition tests what looks false and isn't
+-- a truth value; what is no text with one; a condition tests what looks false and isn't; what is no
+-- number, or no truth value, is compared with one; an output shows a map; a list is asked for a
+-- key; a condition tests the number of items or characters; `default` gets `false`; a number is
+-- no date
 pub data Doubt : Type 0 where
   lacks : Lacking → Doubt
   no_list : Datum → Doubt
@@ -31,6 +37,13 @@ pub data Doubt : Type 0 where
   truth_text : Text → Doubt
   no_text : Datum → Doubt
   always_true : Datum → Doubt
+  no_number : Datum → Doubt
+  no_truth : Datum → Doubt
+  whole_map : Doubt
+  no_key : Doubt
+  tested_size : Doubt
+  false_default : Doubt
+  number_date : Doubt
 
 -- an amount that is asked for of n items: at most all; a negative one is huge
 abbrev pub amount_within : ℤ → ℕ → ℕ
@@ -71,6 +84,7 @@ is_empty_or_date s = (length s == 0) || is_some (read s)
 -- of what is printed as a date
 abbrev pub date_doubt : Datum → Option Doubt
 date_doubt (text s) = cond (is_empty_or_date s) None (Some (no_date s))
+date_doubt (number z) = Some number_date
 date_doubt d = None
 
 abbrev pub has_digit : Text → Bool
@@ -79,22 +93,32 @@ has_digit s = list_any (λ b. is_digit b []) s
 -- of what is compared with a number
 abbrev pub number_doubt : Datum → Option Doubt
 number_doubt (text s) = cond (has_digit s) (Some (number_text s)) None
+number_doubt (truth b) = Some (no_number (truth b))
+number_doubt (array ds) = Some (no_number (array ds))
+number_doubt (object ps) = Some (no_number (object ps))
 number_doubt d = None
 
 -- of what is compared with a truth value
 abbrev pub truth_doubt : Datum → Option Doubt
 truth_doubt (text s) = Some (truth_text s)
+truth_doubt (number z) = Some (no_truth (number z))
 truth_doubt d = None
+
+-- of what is compared with any text
+abbrev pub word_doubt : Datum → Option Doubt
+word_doubt (array ds) = Some (no_text (array ds))
+word_doubt (object ps) = Some (no_text (object ps))
+word_doubt d = None
 
 -- of what is compared with a text that spells a number
 abbrev pub number_word_doubt : Datum → Option Doubt
 number_word_doubt (number z) = Some (no_text (number z))
-number_word_doubt d = None
+number_word_doubt d = word_doubt d
 
 -- of what is compared with a text that spells a truth value
 abbrev pub truth_word_doubt : Datum → Option Doubt
 truth_word_doubt (truth b) = Some (no_text (truth b))
-truth_word_doubt d = None
+truth_word_doubt d = word_doubt d
 
 -- nothing, 0, or a word that says no
 abbrev pub says_no : Text → Bool
@@ -121,6 +145,32 @@ looks_false d = is_zero_of (count_of d)
 abbrev pub tested_doubt : Datum → Option Doubt
 tested_doubt d = cond (looks_false d) (Some (always_true d)) None
 
+abbrev pub begins_with_map : Listed → Bool
+begins_with_map (item (object ps) ds) = true
+begins_with_map ds = false
+
+-- of what an output shows as it is
+abbrev pub shown_doubt : Datum → Option Doubt
+shown_doubt (object ps) = Some whole_map
+shown_doubt (array ds) = cond (begins_with_map ds) (Some whole_map) None
+shown_doubt d = None
+
+-- of what is asked for a key other than `size`, `first` and `last`
+abbrev pub keyed_doubt : Datum → Option Doubt
+keyed_doubt (array ds) = Some no_key
+keyed_doubt d = None
+
+-- of what `default` gets
+abbrev pub defaulted_doubt : Datum → Option Doubt
+defaulted_doubt (truth false) = Some false_default
+defaulted_doubt d = None
+
+-- of what a condition tests the `size` of
+abbrev pub sized_doubt : Datum → Option Doubt
+sized_doubt (array ds) = Some tested_size
+sized_doubt (text s) = Some tested_size
+sized_doubt d = None
+
 abbrev pub value_doubt : Want → Datum → Option Doubt
 value_doubt Present d = None
 value_doubt Perhaps d = None
@@ -132,6 +182,11 @@ value_doubt Truth d = truth_doubt d
 value_doubt NumberWord d = number_word_doubt d
 value_doubt TruthWord d = truth_word_doubt d
 value_doubt Tested d = tested_doubt d
+value_doubt Shown d = shown_doubt d
+value_doubt Word d = word_doubt d
+value_doubt Defaulted d = defaulted_doubt d
+value_doubt Keyed d = keyed_doubt d
+value_doubt Sized d = sized_doubt d
 value_doubt (Items s) d = items_doubt s d
 
 abbrev pub or_next : Option Doubt → Option Doubt → Option Doubt
@@ -158,6 +213,11 @@ asks_values Truth = true
 asks_values NumberWord = true
 asks_values TruthWord = true
 asks_values Tested = true
+asks_values Shown = true
+asks_values Word = true
+asks_values Defaulted = true
+asks_values Keyed = true
+asks_values Sized = true
 asks_values (Items s) = true
 
 abbrev pub doubt_of : Want → DataPath → Pairs → Option Doubt

@@ -4,9 +4,13 @@ pub mod DataPaths
 pub mod Differences
 pub mod DoubtViews
 pub mod Doubts
+pub mod FilterPairs
+pub mod Fixed
 pub mod HtmlPlaces
+pub mod Joins
 pub mod Laws
 pub mod Literals
+pub mod LoopParts
 pub mod Messages
 pub mod Modes
 pub mod Nodes
@@ -17,7 +21,9 @@ pub mod Paths
 pub mod Ported
 pub mod Remarks
 pub mod Silent
+pub mod Slips
 pub mod Sorts
+pub mod TagOutputs
 pub mod Views
 pub mod Warnings
 pub mod inside

@@ -17,6 +17,8 @@ use Rattle.liquid_warnings.specs.declared.doubt.Want.TheVariants.{Present, Perha
 use Rattle.liquid_warnings.specs.declared.doubt.Want.TheVariants.{Searched, Contained, Number}
 use Rattle.liquid_warnings.specs.declared.doubt.Want.TheVariants.{Tested, Truth}
 use Rattle.liquid_warnings.specs.declared.doubt.Want.TheVariants.{NumberWord, TruthWord}
+use Rattle.liquid_warnings.specs.declared.doubt.Want.TheVariants.{Defaulted, Keyed, Shown}
+use Rattle.liquid_warnings.specs.declared.doubt.Want.TheVariants.{Sized, Word}
 use Rattle.liquid_warnings.specs.Messages.{item_words}
 
 abbrev pub step_text : Step → Text
@@ -80,4 +82,9 @@ is_needed Truth = true
 is_needed NumberWord = true
 is_needed TruthWord = true
 is_needed Tested = false
+is_needed Shown = true
+is_needed Word = true
+is_needed Defaulted = false
+is_needed Keyed = false
+is_needed Sized = false
 is_needed (Items span) = true

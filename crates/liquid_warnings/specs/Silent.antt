@@ -21,6 +21,31 @@ is_misread kind = bytes_eq kind (codes "ElseIf") || (bytes_eq kind (codes "NoClo
     || (bytes_eq kind (codes "TextTruth") || (bytes_eq kind (codes "NoText")
     || bytes_eq kind (codes "AlwaysTrue"))))))))
 
+-- what does nothing, or something else than it looks, in any data
+abbrev pub is_odd : Text → Bool
+is_odd kind = bytes_eq kind (codes "UnknownPart") || (bytes_eq kind (codes "NoEscape")
+    || (bytes_eq kind (codes "EscapedAgain") || (bytes_eq kind (codes "LateDefault")
+    || (bytes_eq kind (codes "DownRange") || (bytes_eq kind (codes "FixedTest")
+    || (bytes_eq kind (codes "TagAsOutput") || (bytes_eq kind (codes "AndOr")
+    || (bytes_eq kind (codes "StrayBreak") || (bytes_eq kind (codes "FrontMatter")
+    || (bytes_eq kind (codes "ForeignOutput")
+    || bytes_eq kind (codes "QuotedName")))))))))))
+
+-- a name that is set and not read, or read where it isn't set
+abbrev pub is_unread_name : Text → Bool
+is_unread_name kind = bytes_eq kind (codes "UnusedVariable") || (bytes_eq kind (codes "UnusedPair")
+    || bytes_eq kind (codes "NotGiven"))
+
+-- a value of another shape than it is taken for
+abbrev pub is_misshapen : Text → Bool
+is_misshapen kind = bytes_eq kind (codes "NoNumber") || (bytes_eq kind (codes "NoTruth")
+    || (bytes_eq kind (codes "WholeMap") || (bytes_eq kind (codes "NoKey")
+    || (bytes_eq kind (codes "FalseDefault") || bytes_eq kind (codes "NumberDate")))))
+
+-- a mistake whatever becomes of a missing value
+abbrev pub is_of_template : Text → Bool
+is_of_template kind = is_misread kind || (is_odd kind || (is_unread_name kind || is_misshapen kind))
+
 -- what the data lacks
 abbrev pub is_lack : Text → Bool
 is_lack kind = bytes_eq kind (codes "UnknownName") || bytes_eq kind (codes "UnknownPath")
@@ -61,6 +86,6 @@ is_fault IsNil = false
 -- the warning is about what a page shows silently; what the data lacks is that only where it is a
 -- fault without a filter
 abbrev pub is_shown_silently : Missing → Said → List Node → List Position → Bool
-is_shown_silently missing said ns ps = is_misread said.kind || (is_lack said.kind
+is_shown_silently missing said ns ps = is_of_template said.kind || (is_lack said.kind
     && (is_fault missing && (has_similar said.message
     || is_filtered_at said.line said.column ns ps)))

@@ -4,7 +4,7 @@ ghost use Rattle.std.specs.BTreeMap.{get_by_text};
 ghost use Rattle.liquid_warnings.specs.Calls.{called_by, partial_file};
 
 use crate::literals::literal_text;
-use liquid_syntax::{Node, Position, Template};
+use liquid_syntax::{Binding, Node, Position, Template};
 use std::alloc::{AllocError, Global};
 use std::collections::BTreeMap;
 
@@ -19,6 +19,12 @@ pub(crate) struct Call<'t> {
     pub name: Option<&'t str>,
     /// The place of its file, where there is one.
     pub file: Option<usize>,
+    /// Whether the partial sees only what it is given.
+    pub is_render: bool,
+    /// The pairs that it is given.
+    pub pairs: &'t [Binding],
+    /// The name of the item, of a `render` that runs once for each.
+    pub item: Option<&'t str>,
 }
 
 /// The tags of a template that run partials.
@@ -34,6 +40,9 @@ pub(crate) fn calls_of<'t>(
                 position: *position,
                 name,
                 file: file_of(alloc, partials, name, is_render)?,
+                is_render,
+                pairs: pairs_of(node),
+                item: item_of(node),
             })?;
         }
     }
@@ -48,6 +57,21 @@ fn called_by(node: &Node) -> Option<(Option<&str>, bool)>
         Node::Include(name, _) => Some((literal_text(name), false)),
         Node::JekyllInclude(name, _) => Some((Some(name.as_str()), false)),
         Node::Render(name, _) | Node::RenderEach(name, _, _) => Some((literal_text(name), true)),
+        _ => None,
+    }
+}
+
+/// The pairs of a node that runs a partial, as far as they are names of it.
+fn pairs_of(node: &Node) -> &[Binding] {
+    match node {
+        Node::Include(_, pairs) | Node::Render(_, pairs) | Node::RenderEach(_, _, pairs) => pairs,
+        _ => &[],
+    }
+}
+
+fn item_of(node: &Node) -> Option<&str> {
+    match node {
+        Node::RenderEach(_, each, _) => Some(each.variable.as_str()),
         _ => None,
     }
 }
@@ -119,4 +143,16 @@ fn mark_used(calls: &[Call<'_>], used: &mut [bool]) -> bool {
         }
     }
     true
+}
+
+/// The files of the partials by their names. Of two with one name the later counts.
+pub(crate) fn files_by_name(
+    alloc: Global,
+    partials: &[(String, usize)],
+) -> Result<PartialFiles, AllocError> {
+    let mut names = BTreeMap::new(alloc);
+    for (name, place) in partials {
+        drop(names.insert(String::from_str(alloc, name.as_str())?, *place)?);
+    }
+    Ok(names)
 }

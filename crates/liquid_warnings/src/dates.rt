@@ -69,7 +69,7 @@ fn pattern_of(filters: &[ChainFilter]) -> Option<&str>
     }
 }
 
-fn first_text(arguments: &[Expression]) -> Option<&str>
+pub(crate) fn first_text(arguments: &[Expression]) -> Option<&str>
     ensures { option_map (λ p. p.now) result ≡ first_text arguments.now }
 {
     match arguments {

@@ -52,7 +52,8 @@ pub fn difference_of(
         }
         Want::Present | Want::Perhaps | Want::Tested => Ok(None),
         Want::Date | Want::Number | Want::Truth => Ok(None),
-        Want::NumberWord | Want::TruthWord => Ok(None),
+        Want::NumberWord | Want::TruthWord | Want::Word => Ok(None),
+        Want::Shown | Want::Defaulted | Want::Keyed | Want::Sized => Ok(None),
     }
 }
 

@@ -1,7 +1,7 @@
 //! How data differs from what the template needs.
 ghost use Rattle.std.specs.Prelude.{◌≡◌, is_some, map, option_map};
 ghost use Rattle.liquid_model.specs.Answer.{IsValueOrMemory};
-ghost use Rattle.liquid_model.specs.View.{view, pairs_view};
+ghost use Rattle.liquid_model.specs.View.{view, items_view, pairs_view};
 ghost use Rattle.liquid_filters.specs.DateSpelling.{read};
 ghost use Rattle.liquid_warnings.specs.DoubtViews.{doubt_view};
 ghost use Rattle.liquid_warnings.specs.Doubts.{asks_values, amount_within, count_of, date_doubt};
@@ -9,7 +9,10 @@ ghost use Rattle.liquid_warnings.specs.Doubts.{doubt_of, first_doubt, is_empty_o
 ghost use Rattle.liquid_warnings.specs.Doubts.{has_digit, is_zero_of, items_doubt, looks_false};
 ghost use Rattle.liquid_warnings.specs.Doubts.{number_doubt, number_word_doubt, truth_word_doubt};
 ghost use Rattle.liquid_warnings.specs.Doubts.{passes_end, says_no, span_doubt, tested_doubt};
-ghost use Rattle.liquid_warnings.specs.Doubts.{truth_doubt, unlisted_doubt, value_doubt};
+ghost use Rattle.liquid_warnings.specs.Doubts.{begins_with_map, defaulted_doubt, keyed_doubt};
+ghost use Rattle.liquid_warnings.specs.Doubts.{shown_doubt, word_doubt};
+ghost use Rattle.liquid_warnings.specs.Doubts.{sized_doubt, truth_doubt, unlisted_doubt};
+ghost use Rattle.liquid_warnings.specs.Doubts.{value_doubt};
 
 use crate::data_path::{DataPath, Lack, lacking, values_at};
 use liquid_filters::read_date;
@@ -39,6 +42,16 @@ pub enum Want {
     NumberWord,
     /// No truth values: they are compared with a text that spells one.
     TruthWord,
+    /// No lists and no maps: they are compared with a text.
+    Word,
+    /// No maps: an output shows them as they are.
+    Shown,
+    /// Nothing that has to be there, and no `false`: `default` gets them.
+    Defaulted,
+    /// Nothing that has to be there, and no lists: they are asked for a key that none has.
+    Keyed,
+    /// Nothing that has to be there, and nothing with a `size`, which a condition tests.
+    Sized,
     /// Lists or maps, which a loop goes over.
     Items(Span),
 }
@@ -68,11 +81,25 @@ pub enum Doubt<'d> {
     NumberText(&'d str),
     /// What is compared with a truth value is a text, which is never equal.
     TruthText(&'d str),
-    /// What is compared with a text that spells a number or a truth value is one, which is never
-    /// equal.
+    /// What is compared with a text is a list, a map, or the number or the truth value that the
+    /// text spells: they are never equal.
     NoText(&'d Value),
     /// What a condition tests looks false, and isn't.
     AlwaysTrue(&'d Value),
+    /// What is compared with a number is a truth value, a list or a map.
+    NoNumber(&'d Value),
+    /// What is compared with a truth value is a number.
+    NoTruth(&'d Value),
+    /// What an output shows is a map, or a list that begins with one.
+    WholeMap,
+    /// What is asked for a key is a list.
+    NoKey,
+    /// What a condition tests is the number of a list's items or of a text's characters.
+    TestedSize,
+    /// What `default` gets is `false`, which it replaces.
+    FalseDefault,
+    /// What is printed as a date is a number.
+    NumberDate,
 }
 
 /// The first doubt about the values at a path in data: a map on the way lacks a key, or one of the
@@ -131,6 +158,11 @@ fn value_doubt<'d>(want: Want, value: &'d Value) -> Option<Doubt<'d>>
         Want::NumberWord => number_word_doubt(value),
         Want::TruthWord => truth_word_doubt(value),
         Want::Tested => tested_doubt(value),
+        Want::Word => word_doubt(value),
+        Want::Shown => shown_doubt(value),
+        Want::Defaulted => defaulted_doubt(value),
+        Want::Keyed => keyed_doubt(value),
+        Want::Sized => sized_doubt(value),
         Want::Items(span) => items_doubt(span, value),
     }
 }
@@ -198,6 +230,7 @@ fn date_doubt<'d>(value: &'d Value) -> Option<Doubt<'d>>
 {
     match value {
         Value::Text(text) if !is_empty_or_date(text.as_str()) => Some(Doubt::NoDate(text.as_str())),
+        Value::Integer(_) => Some(Doubt::NumberDate),
         _ => None,
     }
 }
@@ -207,7 +240,8 @@ fn number_doubt<'d>(value: &'d Value) -> Option<Doubt<'d>>
 {
     match value {
         Value::Text(text) if has_digit(text.as_str()) => Some(Doubt::NumberText(text.as_str())),
-        _ => None,
+        Value::Bool(_) | Value::Array(_) | Value::Object(_) => Some(Doubt::NoNumber(value)),
+        Value::Nil | Value::Integer(_) | Value::Text(_) => None,
     }
 }
 
@@ -222,6 +256,16 @@ fn truth_doubt<'d>(value: &'d Value) -> Option<Doubt<'d>>
 {
     match value {
         Value::Text(text) => Some(Doubt::TruthText(text.as_str())),
+        Value::Integer(_) => Some(Doubt::NoTruth(value)),
+        _ => None,
+    }
+}
+
+fn word_doubt<'d>(value: &'d Value) -> Option<Doubt<'d>>
+    ensures { option_map doubt_view result ≡ word_doubt (view value.now) }
+{
+    match value {
+        Value::Array(_) | Value::Object(_) => Some(Doubt::NoText(value)),
         _ => None,
     }
 }
@@ -231,7 +275,7 @@ fn number_word_doubt<'d>(value: &'d Value) -> Option<Doubt<'d>>
 {
     match value {
         Value::Integer(_) => Some(Doubt::NoText(value)),
-        _ => None,
+        _ => word_doubt(value),
     }
 }
 
@@ -240,7 +284,7 @@ fn truth_word_doubt<'d>(value: &'d Value) -> Option<Doubt<'d>>
 {
     match value {
         Value::Bool(_) => Some(Doubt::NoText(value)),
-        _ => None,
+        _ => word_doubt(value),
     }
 }
 
@@ -283,6 +327,58 @@ fn says_no(text: &str) -> bool
         text,
         "" | "0" | "n" | "N" | "no" | "No" | "NO" | "false" | "False" | "FALSE" | "off"
     )
+}
+
+fn shown_doubt<'d>(value: &'d Value) -> Option<Doubt<'d>>
+    ensures { option_map doubt_view result ≡ shown_doubt (view value.now) }
+{
+    match value {
+        Value::Object(_) => Some(Doubt::WholeMap),
+        Value::Array(items) => {
+            if begins_with_map(items) {
+                Some(Doubt::WholeMap)
+            } else {
+                None
+            }
+        }
+        _ => None,
+    }
+}
+
+fn begins_with_map(items: &[Value]) -> bool
+    ensures { result ≡ begins_with_map (items_view items.now) }
+{
+    match items {
+        [first, ..] => matches!(first, Value::Object(_)),
+        [] => false,
+    }
+}
+
+fn keyed_doubt<'d>(value: &'d Value) -> Option<Doubt<'d>>
+    ensures { option_map doubt_view result ≡ keyed_doubt (view value.now) }
+{
+    match value {
+        Value::Array(_) => Some(Doubt::NoKey),
+        _ => None,
+    }
+}
+
+fn defaulted_doubt<'d>(value: &'d Value) -> Option<Doubt<'d>>
+    ensures { option_map doubt_view result ≡ defaulted_doubt (view value.now) }
+{
+    match value {
+        Value::Bool(false) => Some(Doubt::FalseDefault),
+        _ => None,
+    }
+}
+
+fn sized_doubt<'d>(value: &'d Value) -> Option<Doubt<'d>>
+    ensures { option_map doubt_view result ≡ sized_doubt (view value.now) }
+{
+    match value {
+        Value::Array(_) | Value::Text(_) => Some(Doubt::TestedSize),
+        _ => None,
+    }
 }
 
 fn is_empty_or_date(text: &str) -> bool

@@ -17,6 +17,10 @@ use crate::path_texts::{
     first_steps, key_before, lack_words, lacking_text, list_before, meant_text, path_text,
 };
 use crate::remark::{Remark, push_found};
+use crate::shapes::{
+    false_default_in, no_key_in, no_number_in, no_truth_in, number_date_in, tested_size_in,
+    whole_map_in,
+};
 use crate::used_path::UsedPath;
 use crate::warnings::is_full;
 use crate::{DataPath, Doubt, Lack, Want, doubt_of};
@@ -93,6 +97,13 @@ fn remark_of(alloc: Global, asked: &UsedPath, doubt: Option<Doubt<'_>>) -> Found
         Doubt::NumberText(text) => number_text_in(alloc, at, path, text),
         Doubt::TruthText(text) => truth_text_in(alloc, at, path, text),
         Doubt::NoText(value) => no_text_in(alloc, at, path, value),
+        Doubt::NoNumber(value) => no_number_in(alloc, at, path, value),
+        Doubt::NoTruth(value) => no_truth_in(alloc, at, path, value),
+        Doubt::WholeMap => whole_map_in(alloc, at, path),
+        Doubt::NoKey => no_key_in(alloc, at, path),
+        Doubt::TestedSize => tested_size_in(alloc, at, path),
+        Doubt::FalseDefault => false_default_in(alloc, at, path),
+        Doubt::NumberDate => number_date_in(alloc, at, path),
         Doubt::AlwaysTrue(value) => always_true_in(alloc, at, path, value),
     }
 }
@@ -258,7 +269,10 @@ fn unknown_path(alloc: Global, asked: &UsedPath, lack: Lack<'_>) -> Found
 fn is_needed(want: Want) -> bool
     ensures { result ≡ is_needed want }
 {
-    !matches!(want, Want::Perhaps | Want::Tested | Want::Date)
+    !matches!(
+        want,
+        Want::Perhaps | Want::Tested | Want::Date | Want::Defaulted | Want::Keyed | Want::Sized
+    )
 }
 
 /// The message for a path whose step number `count` leads to nothing, with a key similar to that

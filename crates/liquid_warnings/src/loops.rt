@@ -30,7 +30,7 @@ pub(crate) fn no_list(
 }
 
 /// What a loop goes over.
-fn looped(node: &Node) -> Option<&RangeExpression>
+pub(crate) fn looped(node: &Node) -> Option<&RangeExpression>
     ensures { option_map (λ s. s.now) result ≡ looped node.now }
 {
     match node {
@@ -79,7 +79,9 @@ pub(crate) fn kind_word(value: &Value) -> &'static str
     match value {
         Value::Text(_) => "a text",
         Value::Integer(_) => "a number",
-        _ => "a truth value",
+        Value::Array(_) => "a list",
+        Value::Object(_) => "a map",
+        Value::Nil | Value::Bool(_) => "a truth value",
     }
 }
 

@@ -246,3 +246,15 @@ pub(crate) fn add_name(
     }
     Ok(())
 }
+
+/// Adds names to a set.
+pub(crate) fn add_names(
+    alloc: Global,
+    names: &BTreeSet<String>,
+    set: &mut BTreeSet<String>,
+) -> Result<(), AllocError> {
+    for name in names {
+        add_name(alloc, set, name.as_str())?;
+    }
+    Ok(())
+}

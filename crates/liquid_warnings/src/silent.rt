@@ -4,6 +4,8 @@ ghost use Rattle.liquid_syntax.specs.Templates.{positions_of, template_nodes};
 ghost use Rattle.liquid_warnings.specs.Remarks.{remark_view};
 ghost use Rattle.liquid_warnings.specs.Silent.{has_similar, is_fault, is_filtered, is_filtered_at};
 ghost use Rattle.liquid_warnings.specs.Silent.{is_filtered_node, is_lack, is_misread};
+ghost use Rattle.liquid_warnings.specs.Silent.{is_misshapen, is_odd, is_of_template};
+ghost use Rattle.liquid_warnings.specs.Silent.{is_unread_name};
 ghost use Rattle.liquid_warnings.specs.Silent.{is_shown_silently, is_through, stands_at};
 
 use crate::dates::printed_chain;
@@ -12,20 +14,28 @@ use liquid_core::Missing;
 use liquid_evaluation::ChainFilter;
 use liquid_syntax::{Node, Position, Template};
 
-/// Whether a warning of a template is about what a page that came out shows silently: an `else`
-/// with more after it, a text that isn't read as a date, or is compared with a number or a truth
-/// value, and what looks false in a condition; and where a missing value is a fault, a missing one
-/// that is like one that is there, or of which a filter makes something. The latter counts where an
-/// output or an `assign` asks for it first. It takes no memory.
+/// Whether a warning of a template is about what a page that came out shows silently: what is read
+/// otherwise than it looks or does nothing, as an `else` with more after it; a name that is set and
+/// not read, or not given to a partial; a value of another kind than it is taken for, as a text
+/// that is compared with a number; and where a missing value is a fault, a missing one that is like
+/// one that is there, or of which a filter makes something. The latter counts where an output or an
+/// `assign` asks for it first. It takes no memory.
 pub fn is_silent(remark: &Remark, template: &Template, missing: Missing) -> bool
     ensures { result ≡ is_shown_silently missing (remark_view remark.now)
         (template_nodes template.now) (positions_of template.now) }
 {
-    is_misread(remark.kind)
+    is_of_template(remark.kind)
         || (is_lack(remark.kind)
             && is_fault(missing)
             && (has_similar(remark.message.as_str())
                 || is_filtered_at(remark, template.nodes(), template.positions())))
+}
+
+/// Whether the kind is of a mistake whatever becomes of a missing value.
+fn is_of_template(kind: &str) -> bool
+    ensures { result ≡ is_of_template kind.now }
+{
+    is_misread(kind) || (is_odd(kind) || (is_unread_name(kind) || is_misshapen(kind)))
 }
 
 /// Whether the kind is of what is read otherwise than it looks.
@@ -43,6 +53,44 @@ fn is_misread(kind: &str) -> bool
             | "TextTruth"
             | "NoText"
             | "AlwaysTrue"
+    )
+}
+
+/// Whether the kind is of what does nothing, or something else than it looks, in any data.
+fn is_odd(kind: &str) -> bool
+    ensures { result ≡ is_odd kind.now }
+{
+    matches!(
+        kind,
+        "UnknownPart"
+            | "NoEscape"
+            | "EscapedAgain"
+            | "LateDefault"
+            | "DownRange"
+            | "FixedTest"
+            | "TagAsOutput"
+            | "AndOr"
+            | "StrayBreak"
+            | "FrontMatter"
+            | "ForeignOutput"
+            | "QuotedName"
+    )
+}
+
+/// Whether the kind is of a name that is set and not read, or read where it isn't set.
+fn is_unread_name(kind: &str) -> bool
+    ensures { result ≡ is_unread_name kind.now }
+{
+    matches!(kind, "UnusedVariable" | "UnusedPair" | "NotGiven")
+}
+
+/// Whether the kind is of a value of another shape than it is taken for.
+fn is_misshapen(kind: &str) -> bool
+    ensures { result ≡ is_misshapen kind.now }
+{
+    matches!(
+        kind,
+        "NoNumber" | "NoTruth" | "WholeMap" | "NoKey" | "FalseDefault" | "NumberDate"
     )
 }
 

@@ -17,14 +17,16 @@ pub(crate) type Suggestions = BTreeMap<String, String>;
 #[derive(Clone, Copy)]
 pub(crate) struct KnownNames<'n> {
     pub data: &'n Object,
-    /// Those that a tag of any template sets.
+    /// Those that a tag of any template sets, but of partials that `render` alone runs.
     pub set: &'n BTreeSet<String>,
+    /// Those that a tag of the template at hand sets.
+    pub own: &'n BTreeSet<String>,
 }
 
 impl<'n> KnownNames<'n> {
     /// Whether the data or a tag has a name.
     pub(crate) fn has(&self, name: &str) -> bool {
-        self.data.get(name).is_some() || self.set.contains(name)
+        self.data.get(name).is_some() || self.set.contains(name) || self.own.contains(name)
     }
 
     /// The name that is most similar to one that nobody has.
@@ -75,6 +77,15 @@ fn add_suggestion(
 pub(crate) fn suggestion_for<'s>(suggestions: &'s Suggestions, name: &str) -> Option<&'s str> {
     match suggestions.get(name) {
         Some(similar) => Some(similar.as_str()),
-        None => None,
+        None => loop_object(name),
+    }
+}
+
+/// The object of a loop that other languages call by a name.
+fn loop_object(name: &str) -> Option<&'static str> {
+    match name {
+        "loop" => Some("forloop"),
+        "tablerowloop" => Some("tablerow"),
+        _ => None,
     }
 }

@@ -1,10 +1,11 @@
 //! What the pieces of a template ask of its data.
 ghost use Rattle.std.specs.Prelude.{◌≡◌, IfErr};
 
-use crate::data_path::copy_of;
+mod variables;
+
 use crate::wants::{
     WHOLE, item_key, keep_items, keeps_items, literal_steps, number_of, want_after, want_before,
-    want_of_entry, want_of_target,
+    want_of_entry, want_of_holder, want_of_output, want_of_target,
 };
 use crate::{DataPath, Span, Step, Want};
 use liquid_core::{ErrorKind, Expression, Result, Value, Variable};
@@ -91,20 +92,6 @@ struct Asking<'t> {
 type Done = std::result::Result<(), AllocError>;
 
 impl<'t> Asking<'t> {
-    /// Forgets the loops whose bodies end before a place.
-    fn leave_loops(&mut self, place: usize) {
-        for _ in 0..self.loops.len() {
-            let is_over = match self.loops.last() {
-                Some(around) => around.end <= place,
-                None => false,
-            };
-            if !is_over {
-                return;
-            }
-            drop(self.loops.pop());
-        }
-    }
-
     fn ask_template(&mut self, template: &'t Template) -> Done {
         let nodes = template.nodes().iter().zip(template.positions());
         for (place, (node, position)) in nodes.enumerate() {
@@ -117,7 +104,7 @@ impl<'t> Asking<'t> {
 
     fn ask_node(&mut self, node: &'t Node) -> Done {
         match node {
-            Node::Output(chain) => self.ask_chain(chain),
+            Node::Output(chain) => self.ask_chain(chain, want_of_output(&chain.filters)),
             Node::Assign(name, chain) => self.ask_assign(name.as_str(), chain),
             Node::If(condition, _) | Node::Unless(condition, _) => self.ask_condition(condition),
             Node::Case(target, arms, _) => self.ask_case(target, arms),
@@ -185,8 +172,8 @@ impl<'t> Asking<'t> {
         self.ask_optional(&window.offset)
     }
 
-    fn ask_chain(&mut self, chain: &'t FilterChain) -> Done {
-        self.ask(&chain.entry, want_of_entry(&chain.filters))?;
+    fn ask_chain(&mut self, chain: &'t FilterChain, want: Want) -> Done {
+        self.ask(&chain.entry, want)?;
         self.ask_keys(chain)?;
         self.ask_arguments(&chain.filters)
     }
@@ -238,7 +225,7 @@ impl<'t> Asking<'t> {
 
     /// The name has the value of a path from there on, or its items in another order.
     fn ask_assign(&mut self, name: &'t str, chain: &'t FilterChain) -> Done {
-        self.ask_chain(chain)?;
+        self.ask_chain(chain, want_of_entry(&chain.filters))?;
         let path = match &chain.entry {
             Expression::Variable(variable) if keep_items(&chain.filters) => {
                 self.whole_path(variable)?
@@ -342,6 +329,26 @@ impl<'t> Asking<'t> {
             position: self.position,
             want: if is_whole { want } else { Want::Present },
         })?;
+        if is_whole {
+            self.ask_holder(variable, want)?;
+        }
+        Ok(())
+    }
+
+    /// What has the last key of a path, or should have it.
+    fn ask_holder(&mut self, variable: &'t Variable, want: Want) -> Done {
+        let Some(want) = want_of_holder(variable, want) else {
+            return Ok(());
+        };
+        let Some(mut path) = self.path_of(variable)? else {
+            return Ok(());
+        };
+        drop(path.steps.pop());
+        self.found.push(UsedPath {
+            path,
+            position: self.position,
+            want,
+        })?;
         Ok(())
     }
 
@@ -359,50 +366,5 @@ impl<'t> Asking<'t> {
             }
         }
         Ok(())
-    }
-
-    /// The path of a variable, where all of its steps are literal texts and it is known.
-    fn whole_path(&self, variable: &Variable) -> std::result::Result<Option<DataPath>, AllocError> {
-        if literal_steps(variable) < variable.indexes.len() {
-            return Ok(None);
-        }
-        self.path_of(variable)
-    }
-
-    /// The path of a variable up to its first step that isn't a literal text, where it is known.
-    fn path_of(&self, variable: &Variable) -> std::result::Result<Option<DataPath>, AllocError> {
-        let Some(mut path) = self.path_of_name(variable.name.as_str())? else {
-            return Ok(None);
-        };
-        for index in variable.indexes.iter().take(literal_steps(variable)) {
-            if let Expression::Literal(Value::Text(key)) = index {
-                path.steps
-                    .push(Step::Key(String::from_str(self.alloc, key.as_str())?))?;
-            }
-        }
-        Ok(Some(path))
-    }
-
-    /// The path of a name: that of the items of the innermost loop which binds it, or the name
-    /// itself, where no tag sets it.
-    fn path_of_name(&self, name: &str) -> std::result::Result<Option<DataPath>, AllocError> {
-        for around in self.loops.iter().rev() {
-            if around.variable == name {
-                return match &around.items {
-                    Some(path) => Ok(Some(copy_of(self.alloc, path)?)),
-                    None => Ok(None),
-                };
-            }
-        }
-        if let Some(alias) = self.aliases.iter().find(|alias| alias.name == name) {
-            return match &alias.path {
-                Some(path) => Ok(Some(copy_of(self.alloc, path)?)),
-                None => Ok(None),
-            };
-        }
-        if self.names.contains(name) {
-            return Ok(None);
-        }
-        Ok(Some(DataPath::of_name(self.alloc, name)?))
     }
 }

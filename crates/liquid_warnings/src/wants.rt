@@ -51,9 +51,9 @@ pub(crate) fn want_beside(other: &Expression) -> Want {
 
 fn want_beside_text(text: &str) -> Want {
     match text {
-        "true" | "false" => Want::TruthWord,
+        "true" | "false" | "yes" | "no" | "on" | "off" => Want::TruthWord,
         _ if whole_of(text).is_some() => Want::NumberWord,
-        _ => Want::Present,
+        _ => Want::Word,
     }
 }
 
@@ -63,7 +63,29 @@ pub(crate) fn want_of_entry(filters: &[ChainFilter]) -> Want {
     match filters.first() {
         None => Want::Present,
         Some(filter) if is_date_filter(filter.filter.name()) => Want::Date,
+        Some(filter) if filter.filter.name() == "default" => Want::Defaulted,
         Some(_) => Want::Perhaps,
+    }
+}
+
+/// What is wanted of the entry of an output with these filters.
+pub(crate) fn want_of_output(filters: &[ChainFilter]) -> Want {
+    if filters.is_empty() {
+        Want::Shown
+    } else {
+        want_of_entry(filters)
+    }
+}
+
+/// What is wanted of the value of which the last key of a path is asked, where anything is.
+pub(crate) fn want_of_holder(variable: &Variable, want: Want) -> Option<Want> {
+    let Some(Expression::Literal(Value::Text(key))) = variable.indexes.last() else {
+        return None;
+    };
+    match key.as_str() {
+        "size" if matches!(want, Want::Tested) => Some(Want::Sized),
+        "size" | "first" | "last" => None,
+        _ => Some(Want::Keyed),
     }
 }
 

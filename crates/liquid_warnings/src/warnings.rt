@@ -3,14 +3,20 @@ ghost use Rattle.std.specs.Prelude.{◌≡◌, [], ◌∷◌, ◌++◌, IfErr, I
 ghost use Rattle.std.specs.Prelude.{option_map, take};
 ghost use Rattle.liquid_warnings.specs.Remarks.{all_said, remark_view};
 ghost use Rattle.liquid_warnings.specs.Warnings.{AreWarned, AreOfSource, IsWarned, lists_of};
-ghost use Rattle.liquid_warnings.specs.Warnings.{node_said, nodes_said, said_at, template_said};
+ghost use Rattle.liquid_warnings.specs.Warnings.{engine_said, node_said, nodes_said, odd_said};
+ghost use Rattle.liquid_warnings.specs.Warnings.{said_at, template_said};
 
 use crate::attributes::add_unescaped;
 use crate::dates::{no_clock, no_pattern};
 use crate::else_if::add_else_if;
+use crate::filter_pairs::pair_warning;
+use crate::fixed::fixed_warning;
+use crate::joins::join_warning;
 use crate::loops::no_list;
 use crate::of_jekyll::jekyll_warning;
 use crate::remark::{Remark, push_found};
+use crate::slips::slip_warning;
+use crate::tag_output::tag_as_output;
 use crate::truths::always_true;
 use crate::whole::Whole;
 use crate::written_for::WrittenFor;
@@ -188,7 +194,7 @@ fn add_of_node(
     push_found(remarks, node_warning(alloc, node, *position)?)?;
     push_found(
         remarks,
-        jekyll_warning(alloc, written_for, node, *position)?,
+        engine_warning(alloc, written_for, node, *position)?,
     )
 }
 
@@ -210,7 +216,47 @@ fn node_warning(
     if let Some(remark) = no_pattern(alloc, node, position)? {
         return Ok(Some(remark));
     }
-    always_true(alloc, node, position)
+    if let Some(remark) = always_true(alloc, node, position)? {
+        return Ok(Some(remark));
+    }
+    odd_warning(alloc, node, position)
+}
+
+/// The warning of a tag or an output where an expression in it, a pair of its filters, or all of it
+/// is read otherwise than it looks.
+fn odd_warning(
+    alloc: Global,
+    node: &Node,
+    position: Position,
+) -> std::result::Result<Option<Remark>, AllocError>
+    ensures { IfOk result (λ r. option_map remark_view r ≡ odd_said position node.now) }
+{
+    if let Some(remark) = slip_warning(alloc, node, position)? {
+        return Ok(Some(remark));
+    }
+    if let Some(remark) = pair_warning(alloc, node, position)? {
+        return Ok(Some(remark));
+    }
+    if let Some(remark) = fixed_warning(alloc, node, position)? {
+        return Ok(Some(remark));
+    }
+    tag_as_output(alloc, node, position)
+}
+
+/// The warning of a node that the engine which it is written for reads otherwise.
+fn engine_warning(
+    alloc: Global,
+    written_for: WrittenFor,
+    node: &Node,
+    position: Position,
+) -> std::result::Result<Option<Remark>, AllocError>
+    ensures { IfOk result (λ r. option_map remark_view r
+        ≡ engine_said written_for position node.now) }
+{
+    match jekyll_warning(alloc, written_for, node, position)? {
+        Some(remark) => Ok(Some(remark)),
+        None => join_warning(alloc, written_for, node, position),
+    }
 }
 
 /// Whether no more warnings of this sort are looked for in a file.

@@ -1,21 +1,23 @@
 //! What is known of all templates together.
-ghost use Rattle.std.specs.Prelude.{◌≡◌, All, IfErr, IfOk, IfSome, OnOk, is_some};
+ghost use Rattle.std.specs.Prelude.{◌≡◌, All, IfErr, IfOk, OnOk, is_some};
 ghost use Rattle.liquid_warnings.specs.Differences.{AreOfData};
 ghost use Rattle.liquid_warnings.specs.Remarks.{all_said, remark_view};
-ghost use Rattle.liquid_warnings.specs.Sorts.{IsMissingPartial, IsRecursive};
-ghost use Rattle.liquid_warnings.specs.Sorts.{IsUnknownName, IsUnusedName, IsUnusedPartial};
-ghost use Rattle.liquid_warnings.specs.Sorts.{OnlyWhere};
+ghost use Rattle.liquid_warnings.specs.Sorts.{IsUnknownName, IsUnusedName, OnlyWhere};
 ghost use Rattle.liquid_warnings.specs.Warnings.{AreOfNames, AreOfPartials, AreOfWhole};
 ghost use Rattle.liquid_warnings.specs.inside.Added.{AddsRemarks};
 
-use crate::calls::{Call, PartialFiles, calls_of, used_files};
+mod of_partials;
+
+use crate::calls::{Call, PartialFiles, calls_of, files_by_name, used_files};
 use crate::differences::add_of_data;
 use crate::escaped_twice::add_escaped_twice;
-use crate::names::{NamesOf, Places, add_name, names_of, unknown_name, unused_name};
-use crate::partials::{missing_partial, recursive_call, unused_partial};
+use crate::foreign::MentionedNames;
+use crate::names::{NamesOf, Places, add_name, add_names, names_of, unknown_name, unused_name};
+use crate::passing::{Giving, givings};
 use crate::recursion::calls_back;
 use crate::remark::{Remark, push_found};
 use crate::suggestions::{KnownNames, Suggestions, suggestions_for};
+use crate::text_warnings::add_text_warnings;
 use crate::used_path::asked_paths;
 use crate::warnings::{CheckedFile, Given, is_full};
 use liquid_core::{ErrorKind, Object};
@@ -33,9 +35,12 @@ pub(crate) struct Whole<'t> {
     back: Vec<Vec<usize>>,
     /// Whether a tag runs the file, of each; none where a tag may run any of them.
     used: Option<Vec<bool>>,
+    /// How tags run each file.
+    givings: Vec<Giving>,
     /// The names of each file that has a template.
     names: Vec<Option<NamesOf>>,
-    /// The names that any of them reads, and those that any of them sets.
+    /// The names that any of them reads, and those that any of them sets, but of partials that
+    /// `render` alone runs.
     read: BTreeSet<String>,
     set: BTreeSet<String>,
     /// What is suggested for those that nobody has.
@@ -49,6 +54,7 @@ impl Drop for Whole<'_> {
             calls: _,
             back: _,
             used: _,
+            givings: _,
             names: _,
             read: _,
             set: _,
@@ -70,6 +76,7 @@ impl<'t> Whole<'t> {
             calls: Vec::new(alloc),
             back: Vec::new(alloc),
             used: None,
+            givings: Vec::new(alloc),
             names: Vec::new(alloc),
             read: BTreeSet::new(alloc),
             set: BTreeSet::new(alloc),
@@ -83,7 +90,39 @@ impl<'t> Whole<'t> {
         }
         whole.back = calls_back(alloc, &whole.calls)?;
         whole.used = used_files(alloc, &whole.calls)?;
+        whole.givings = givings(alloc, &whole.calls)?;
+        whole.gather_names(alloc, files)?;
         Ok(whole)
+    }
+
+    /// Gathers the names of all files.
+    fn gather_names(&mut self, alloc: Global, files: &[CheckedFile<'_>]) -> Result<(), AllocError> {
+        let mut read = BTreeSet::new(alloc);
+        let mut set = BTreeSet::new(alloc);
+        for (place, (file, names)) in files.iter().zip(&self.names).enumerate() {
+            let Some(names) = names else {
+                continue;
+            };
+            for name in names.read.keys() {
+                add_name(alloc, &mut read, name.as_str())?;
+            }
+            if self.isolation(place, file).is_none() {
+                add_names(alloc, &names.set, &mut set)?;
+            }
+        }
+        self.read = read;
+        self.set = set;
+        Ok(())
+    }
+
+    /// What a file is given that `render` alone runs, where that is known.
+    fn isolation(&self, place: usize, file: &CheckedFile<'_>) -> Option<&Giving> {
+        let giving = self.givings.get(place)?;
+        if self.used.is_some() && giving.is_rendered && !giving.is_included && !file.is_page {
+            Some(giving)
+        } else {
+            None
+        }
     }
 
     /// The same, with what is suggested for the names that neither this data nor a tag has.
@@ -93,16 +132,17 @@ impl<'t> Whole<'t> {
         data: Option<&Object>,
     ) -> Result<Whole<'t>, AllocError> {
         if let Some(data) = data {
-            self.suggestions = suggestions_for(alloc, &self.read, self.known(data))?;
+            self.suggestions = suggestions_for(alloc, &self.read, self.known(data, &self.set))?;
         }
         Ok(self)
     }
 
-    /// The names that are there, with this data.
-    fn known<'n>(&'n self, data: &'n Object) -> KnownNames<'n> {
+    /// The names that are there, with this data and those that a template sets.
+    fn known<'n>(&'n self, data: &'n Object, own: &'n BTreeSet<String>) -> KnownNames<'n> {
         KnownNames {
             data,
             set: &self.set,
+            own,
         }
     }
 
@@ -117,17 +157,7 @@ impl<'t> Whole<'t> {
     fn add(&mut self, alloc: Global, template: &'t Template) -> Result<(), AllocError> {
         let calls = calls_of(alloc, &self.partials, template)?;
         self.calls.push(calls)?;
-        self.add_names(alloc, names_of(alloc, template)?)
-    }
-
-    fn add_names(&mut self, alloc: Global, names: NamesOf) -> Result<(), AllocError> {
-        for name in names.read.keys() {
-            add_name(alloc, &mut self.read, name.as_str())?;
-        }
-        for name in &names.set {
-            add_name(alloc, &mut self.set, name.as_str())?;
-        }
-        self.names.push(Some(names))?;
+        self.names.push(Some(names_of(alloc, template)?))?;
         Ok(())
     }
 
@@ -161,9 +191,19 @@ impl<'t> Whole<'t> {
     {
         let mut remarks = Vec::new(alloc);
         self.add_name_warnings(alloc, place, given.data, &mut remarks)?;
-        self.add_data_warnings(alloc, file.template, given, &mut remarks)?;
+        add_text_warnings(alloc, file, given, self.mentioned(given), &mut remarks)?;
+        self.add_data_warnings(alloc, place, file, given, &mut remarks)?;
         self.add_partial_warnings(alloc, place, file, given, &mut remarks)?;
         Ok(remarks)
+    }
+
+    /// The names that a tag, an output or the data has.
+    fn mentioned<'n>(&'n self, given: Given<'n>) -> MentionedNames<'n> {
+        MentionedNames {
+            data: given.data,
+            read: &self.read,
+            set: &self.set,
+        }
     }
 
     /// Adds the warnings about the names of a file.
@@ -180,7 +220,7 @@ impl<'t> Whole<'t> {
         let Some(Some(names)) = self.names.get(place) else {
             return Ok(());
         };
-        self.add_unknown(alloc, &names.read, data, remarks)?;
+        self.add_unknown(alloc, names, data, remarks)?;
         self.add_unused_names(alloc, place, &names.stored, remarks)?;
         add_escaped_twice(alloc, &names.escaped, remarks)?;
         Ok(())
@@ -190,7 +230,7 @@ impl<'t> Whole<'t> {
     fn add_unknown(
         &self,
         alloc: Global,
-        read: &Places,
+        names: &NamesOf,
         data: Option<&Object>,
         remarks: &mut Vec<Remark>,
     ) -> Result<(), AllocError>
@@ -199,7 +239,7 @@ impl<'t> Whole<'t> {
             remarks.old.items remarks.new.items) }
     {
         match data {
-            Some(data) => self.add_unknown_in(alloc, read, data, remarks),
+            Some(data) => self.add_unknown_in(alloc, names, data, remarks),
             None => Ok(()),
         }
     }
@@ -207,15 +247,15 @@ impl<'t> Whole<'t> {
     fn add_unknown_in(
         &self,
         alloc: Global,
-        read: &Places,
+        names: &NamesOf,
         data: &Object,
         remarks: &mut Vec<Remark>,
     ) -> Result<(), AllocError>
         ensures { OnOk result
             (AddsRemarks (All IsUnknownName) remarks.old.items remarks.new.items) }
     {
-        let known = self.known(data);
-        for (name, position) in read {
+        let known = self.known(data, &names.set);
+        for (name, position) in &names.read {
             if is_full(remarks) {
                 return Ok(());
             }
@@ -253,11 +293,13 @@ impl<'t> Whole<'t> {
         Ok(())
     }
 
-    /// Adds the warnings about what a template asks of the data, where there are both.
+    /// Adds the warnings about what a template asks of the data, where there are both and it sees
+    /// the data.
     fn add_data_warnings(
         &self,
         alloc: Global,
-        template: Option<&Template>,
+        place: usize,
+        file: &CheckedFile<'_>,
         given: Given<'_>,
         remarks: &mut Vec<Remark>,
     ) -> liquid_core::Result<()>
@@ -266,128 +308,13 @@ impl<'t> Whole<'t> {
             remarks.old.items remarks.new.items) }
         ensures memory { IfErr result (λ e. e.kind ≡ ErrorKind.Memory) }
     {
-        match (template, given.data) {
-            (Some(template), Some(data)) => {
+        let is_isolated = self.isolation(place, file).is_some();
+        match (file.template, given.data) {
+            (Some(template), Some(data)) if !is_isolated => {
                 let paths = asked_paths(alloc, template, &self.set)?;
                 add_of_data(alloc, &paths, data, given.written_for, remarks)
             }
             _ => Ok(()),
         }
     }
-
-    /// Adds the warnings about the partials that a file runs, and about the file as a partial,
-    /// where partials are asked for.
-    fn add_partial_warnings(
-        &self,
-        alloc: Global,
-        place: usize,
-        file: &CheckedFile<'_>,
-        given: Given<'_>,
-        remarks: &mut Vec<Remark>,
-    ) -> Result<(), AllocError>
-        ensures { OnOk result (AddsRemarks
-            (OnlyWhere (is_some given.entry.partials) AreOfPartials)
-            remarks.old.items remarks.new.items) }
-    {
-        if given.partials.is_some() {
-            self.add_all_partial_warnings(alloc, place, file, remarks)
-        } else {
-            Ok(())
-        }
-    }
-
-    fn add_all_partial_warnings(
-        &self,
-        alloc: Global,
-        place: usize,
-        file: &CheckedFile<'_>,
-        remarks: &mut Vec<Remark>,
-    ) -> Result<(), AllocError>
-        ensures { OnOk result (AddsRemarks AreOfPartials remarks.old.items remarks.new.items) }
-    {
-        self.add_missing(alloc, place, remarks)?;
-        push_found(remarks, self.unused_file(alloc, place, file)?)?;
-        self.add_recursive(alloc, place, remarks)?;
-        Ok(())
-    }
-
-    /// Adds a warning for each tag of a file that runs a partial which isn't there.
-    fn add_missing(
-        &self,
-        alloc: Global,
-        place: usize,
-        remarks: &mut Vec<Remark>,
-    ) -> Result<(), AllocError>
-        ensures { OnOk result
-            (AddsRemarks (All IsMissingPartial) remarks.old.items remarks.new.items) }
-    {
-        let Some(calls) = self.calls.get(place) else {
-            return Ok(());
-        };
-        for call in calls {
-            if is_full(remarks) {
-                return Ok(());
-            }
-            push_found(remarks, missing_partial(alloc, &self.partials, call)?)?;
-        }
-        Ok(())
-    }
-
-    /// The warning about a file that is a partial which no tag runs.
-    fn unused_file(
-        &self,
-        alloc: Global,
-        place: usize,
-        file: &CheckedFile<'_>,
-    ) -> Result<Option<Remark>, AllocError>
-        ensures { IfOk result (λ r. IfSome r (λ w. IsUnusedPartial (remark_view w))) }
-    {
-        if self.is_unused(place, file) {
-            Ok(Some(unused_partial(alloc)?))
-        } else {
-            Ok(None)
-        }
-    }
-
-    /// Whether a file is a partial that no tag runs; none is where a tag may run any of them.
-    fn is_unused(&self, place: usize, file: &CheckedFile<'_>) -> bool {
-        match &self.used {
-            Some(used) => file.text.is_some() && !file.is_page && used.get(place) == Some(&false),
-            None => false,
-        }
-    }
-
-    /// Adds a warning for each tag of a file that leads back to a partial which is being run.
-    fn add_recursive(
-        &self,
-        alloc: Global,
-        place: usize,
-        remarks: &mut Vec<Remark>,
-    ) -> Result<(), AllocError>
-        ensures { OnOk result
-            (AddsRemarks (All IsRecursive) remarks.old.items remarks.new.items) }
-    {
-        let Some(back) = self.back.get(place) else {
-            return Ok(());
-        };
-        for number in back {
-            if is_full(remarks) {
-                return Ok(());
-            }
-            push_found(
-                remarks,
-                recursive_call(alloc, self.call_at(place, *number))?,
-            )?;
-        }
-        Ok(())
-    }
-}
-
-/// The files of the partials by their names. Of two with one name the later counts.
-fn files_by_name(alloc: Global, partials: &[(String, usize)]) -> Result<PartialFiles, AllocError> {
-    let mut names = BTreeMap::new(alloc);
-    for (name, place) in partials {
-        drop(names.insert(String::from_str(alloc, name.as_str())?, *place)?);
-    }
-    Ok(names)
 }

@@ -31,7 +31,7 @@ loop-page-preserved-in-Continue-branch-2 g c =
     let named : string_bytes e.0 ≡ string_bytes fresh.0 = sym (c.in_ok-fresh.ensures.name ∙ c.as_str.ensures.value) in
     let items : listed_pages c.push.new.self.items ≡ listed_pages before ++ named_page fresh ∷ [] = ap listed_pages c.in_ok-push.ensures.items ∙ map-append named_page before (fresh ∷ []) in (
       done ++ w ∷ [],
-      subst (λ ps. AreShown g.R.Rendering.shows (done ++ w ∷ []) ps) (sym items) (shown_append g.R.Rendering.shows done (listed_pages before) (w ∷ []) (named_page fresh ∷ []) c.loop-page.invariant.1 (named, c.in_ok-fresh.ensures.page, tt)),
+      subst (λ ps. AreShown (g.R.Rendering.shows c.args.context.now.rendering.now) (done ++ w ∷ []) ps) (sym items) (shown_append (g.R.Rendering.shows c.args.context.now.rendering.now) done (listed_pages before) (w ∷ []) (named_page fresh ∷ []) c.loop-page.invariant.1 (named, c.in_ok-fresh.ensures.page, tt)),
       taken test show done all e left w hit refl (ap (λ es. done ++ all_pages show (selected test (seen tree_of es))) (sym c.in-Some.ensures.steps) ∙ c.loop-page.invariant.2),
     )
 
@@ -54,6 +54,6 @@ loop-page-init g c =
     let test = selects c.args.selection in
     let all : c.into_iter-page-iterator.result ≡ c.args.templates.now.entries = search rules in (
       [],
-      subst (λ items. AreShown g.R.Rendering.shows [] (listed_pages items)) (sym c.new-pages.ensures.items) tt,
+      subst (λ items. AreShown (g.R.Rendering.shows c.args.context.now.rendering.now) [] (listed_pages items)) (sym c.new-pages.ensures.items) tt,
       ap (λ es. all_pages show (selected test (seen tree_of es))) all,
     )

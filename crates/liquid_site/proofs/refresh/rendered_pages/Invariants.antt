@@ -14,4 +14,4 @@ abbrev pub invariant-loop-page : goal.invariant-loop-page
 invariant-loop-page g l =
     let show = page_by l.context.setting (partials_of l.context.partials.now) (held l.context.«data».now) in
     let test = selects l.selection in
-    (done : Pages) × AreShown g.R.Rendering.shows done (listed_pages l.pages.items) × (done ++ all_pages show (selected test (seen tree_of l.page-iterator)) ≡ all_pages show (selected test (trees_in l.templates)))
+    (done : Pages) × AreShown (g.R.Rendering.shows l.context.rendering.now) done (listed_pages l.pages.items) × (done ++ all_pages show (selected test (seen tree_of l.page-iterator)) ≡ all_pages show (selected test (trees_in l.templates)))

@@ -177,6 +177,6 @@ returns-in-RemovePage-clause-keeps g c =
     let new = c.remove_page.new.self in
     let n = c.as_str-in-RemovePage.result.now in
     let ws = pages_from_scratch (contents_of old) in
-    shown_as g.R.Rendering.shows (without n ws) (pages_from_scratch (contents_of new)) (without n (by_name old.pages)) (by_name new.pages)
+    shown_as (g.R.Rendering.shows c.args.rendering.now) (without n ws) (pages_from_scratch (contents_of new)) (without n (by_name old.pages)) (by_name new.pages)
     (without_shown (page_of (contents_of old)) n (contents_of old).pages ∙ ap pages_from_scratch (sym c.remove_page.ensures.removed)) (sym c.remove_page.ensures.pages)
-    (shown_without g.R.Rendering.shows n ws (by_name old.pages) c.requires)
+    (shown_without (g.R.Rendering.shows c.args.rendering.now) n ws (by_name old.pages) c.requires)

@@ -23,9 +23,9 @@ returns-clause-keeps g c =
     let before = pages_from_scratch (site_parts_view s).contents in
     let fresh = all_pages show (selected test ts) in
     let pages = listed_pages c.in_ok-fresh.fresh.items in
-    shown_as g.R.Rendering.shows (all_placed fresh before) (all_pages show ts) (all_placed pages (by_name s.pages)) (by_name c.replace_pages.new.pages)
+    shown_as (g.R.Rendering.shows c.args.rendering.now) (all_placed fresh before) (all_pages show ts) (all_placed pages (by_name s.pages)) (by_name c.replace_pages.new.pages)
     (placed_from_scratch test show (page_of (site_parts_view s).contents) ts (ascend_seen tree_of s.templates.entries c.in_ok-fresh.ensures.ascend) c.requires.untouched)
-    (sym c.replace_pages.ensures) (shown_all_placed g.R.Rendering.shows fresh pages before (by_name s.pages) c.in_ok-fresh.ensures.pages c.requires.shown)
+    (sym c.replace_pages.ensures) (shown_all_placed (g.R.Rendering.shows c.args.rendering.now) fresh pages before (by_name s.pages) c.in_ok-fresh.ensures.pages c.requires.shown)
 
 pub returns-clause-counted : goal.returns-clause-counted
 returns-clause-counted g c =
@@ -33,5 +33,5 @@ returns-clause-counted g c =
     let show = page_by s.setting (partials_of s.partials) (held c.args.«data») in
     let fresh = all_pages show (selected (selects c.args.selection) (trees_in s.templates)) in
     let items : vec_len c.in_ok-fresh.fresh ≡ length c.in_ok-fresh.fresh.items = search rules in
-    let as_many = sym (length-map c.in_ok-fresh.fresh.items _) ∙ same_length g.R.Rendering.shows fresh (listed_pages c.in_ok-fresh.fresh.items) c.in_ok-fresh.ensures.pages in
+    let as_many = sym (length-map c.in_ok-fresh.fresh.items _) ∙ same_length (g.R.Rendering.shows c.args.rendering.now) fresh (listed_pages c.in_ok-fresh.fresh.items) c.in_ok-fresh.ensures.pages in
     c.saturating_add-self.ensures ∙ ap (saturated_sum s.rendered) (c.len.ensures ∙ items ∙ as_many ∙ length-map _ _)

@@ -29,9 +29,9 @@ returns-in-Ok-clause-keeps g c =
     let before = pages_from_scratch (site_parts_view s).contents in
     let fresh = all_pages show (selected (selects All) (trees_in s.templates)) in
     let pages = listed_pages c.in-Ok.fresh.items in
-    shown_as g.R.Rendering.shows (all_placed fresh before) (all_pages show (trees_in s.templates)) (all_placed pages (by_name s.pages)) (by_name c.replace_pages.new.pages)
+    shown_as (g.R.Rendering.shows c.args.rendering.now) (all_placed fresh before) (all_pages show (trees_in s.templates)) (all_placed pages (by_name s.pages)) (by_name c.replace_pages.new.pages)
     (exchanged_pages (site_parts_view s).contents partials (ascend_seen tree_of s.templates.entries c.rendered_pages-rendered.ensures.ascend))
-    (sym c.replace_pages.ensures) (shown_all_placed g.R.Rendering.shows fresh pages before (by_name s.pages) c.in-Ok.ensures.pages c.requires.shown)
+    (sym c.replace_pages.ensures) (shown_all_placed (g.R.Rendering.shows c.args.rendering.now) fresh pages before (by_name s.pages) c.in-Ok.ensures.pages c.requires.shown)
 
 pub exchange-requires : goal.exchange-requires
 exchange-requires g c =
@@ -44,7 +44,7 @@ returns-in-Err-clause-keeps g c =
     let b = option_map tree_of c.exchange-before.result in
     let n = c.args.name.now in
     let back = c.exchange.ensures.slot ∙ ap (placed n b) c.exchange-before.ensures.slot ∙ placed_back n b x (slots_of s.partials) c.exchange-before.ensures.out in
-    subst (λ ws. AreShown g.R.Rendering.shows ws (by_name s.pages)) (ap (λ ps. all_pages (page_by s.setting (filled ps) (held s.«data»)) (trees_in s.templates)) (sym back)) c.requires.shown
+    subst (λ ws. AreShown (g.R.Rendering.shows c.args.rendering.now) ws (by_name s.pages)) (ap (λ ps. all_pages (page_by s.setting (filled ps) (held s.«data»)) (trees_in s.templates)) (sym back)) c.requires.shown
 
 pub returns-in-Ok-clause-counted : goal.returns-in-Ok-clause-counted
 returns-in-Ok-clause-counted g c =
@@ -53,7 +53,7 @@ returns-in-Ok-clause-counted g c =
     let ts = trees_in s.templates in
     let fresh = all_pages (page_by s.setting (partials_of c.exchange-before.new.self) (held s.«data»)) (selected (selects All) ts) in
     let items : vec_len c.in-Ok.fresh ≡ length c.in-Ok.fresh.items = search rules in
-    let as_many = sym (length-map c.in-Ok.fresh.items _) ∙ same_length g.R.Rendering.shows fresh (listed_pages c.in-Ok.fresh.items) c.in-Ok.ensures.pages in
+    let as_many = sym (length-map c.in-Ok.fresh.items _) ∙ same_length (g.R.Rendering.shows c.args.rendering.now) fresh (listed_pages c.in-Ok.fresh.items) c.in-Ok.ensures.pages in
     c.saturating_add-self.ensures ∙ ap (saturated_sum s.rendered) (c.len.ensures ∙ items ∙ as_many ∙ length-map _ _ ∙ ap length (all_selected ts))
 
 pub returns-in-Err-clause-unchanged : goal.returns-in-Err-clause-unchanged

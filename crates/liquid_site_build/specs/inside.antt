@@ -1,0 +1,3 @@
+pub mod ChainViews
+pub mod Parts
+pub mod Runs

@@ -1,0 +1,4 @@
+pub mod WrittenNames
+pub mod Settings
+pub mod SiteWriting
+pub mod inside

@@ -1,0 +1,3 @@
+pub mod SourceFolders
+pub mod SourceForms
+pub mod inside
