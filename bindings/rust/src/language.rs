@@ -2,7 +2,8 @@
 use crate::error::{no_values, LiquidError};
 use crate::ffi::{
     bikleinu_escape_html, bikleinu_jekyll_language, bikleinu_language, bikleinu_parse, bikleinu_paths, bikleinu_register,
-    bikleinu_register_block_given, bikleinu_register_jekyll, bikleinu_register_tag_given, bikleinu_set_language, Owner,
+    bikleinu_register_block_given, bikleinu_register_jekyll, bikleinu_register_tag_given, bikleinu_set_language, Handle,
+    Owner,
 };
 use crate::filters::{settled, FilterError, Filters};
 use crate::shared::Shared;
@@ -285,19 +286,7 @@ impl Language {
             let (values, given) = all.split_at(all.len() - count);
             function(values, given)
         })?;
-        // SAFETY: the handle is an owner's, and the bytes are texts'.
-        settled(unsafe {
-            bikleinu_register_tag_given(
-                self.owner.only().at(),
-                name.as_ptr(),
-                name.len(),
-                filter.as_ptr(),
-                filter.len(),
-                style.number(),
-                texts.as_ptr(),
-                texts.len(),
-            )
-        })
+        self.registered(bikleinu_register_tag_given, name, &filter, style, &texts)
     }
 
     /// Adds a block in the same way, which ends with `end` and its name. The function gets the text of the body, and then the values.
@@ -333,17 +322,29 @@ impl Language {
             let (values, given) = all.split_at(all.len() - count);
             function(body, values, given)
         })?;
+        self.registered(bikleinu_register_block_given, name, &filter, style, &texts)
+    }
+
+    /// Registers a tag or a block that calls this filter, with the texts of its given values.
+    fn registered(
+        &mut self,
+        register: Register,
+        name: &str,
+        filter: &str,
+        style: TagStyle,
+        given: &str,
+    ) -> Result<(), LiquidError> {
         // SAFETY: the handle is an owner's, and the bytes are texts'.
         settled(unsafe {
-            bikleinu_register_block_given(
+            register(
                 self.owner.only().at(),
                 name.as_ptr(),
                 name.len(),
                 filter.as_ptr(),
                 filter.len(),
                 style.number(),
-                texts.as_ptr(),
-                texts.len(),
+                given.as_ptr(),
+                given.len(),
             )
         })
     }
@@ -378,6 +379,9 @@ impl Language {
         made.settled(number).map(|owner| Template::of(owner, self.filters.clone()))
     }
 }
+
+/// What registers a tag or a block of the caller's with given values.
+type Register = unsafe extern "C" fn(*mut Handle, *const u8, usize, *const u8, usize, u32, *const u8, usize) -> u32;
 
 /// Given values as the library reads them, one for each text.
 fn joined(given: &[&str]) -> Result<String, LiquidError> {
